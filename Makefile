@@ -1,0 +1,34 @@
+# Kovrelna: build and test. Needs the Rattle toolchain (rt), cargo and a C compiler.
+ARCHIVE = target/staticlib/libkovrelna.a
+CARGO = cargo --quiet
+CARGO_FLAGS = --offline --locked --manifest-path bindings/rust/Cargo.toml
+C_FLAGS = -O2 -Wall -Wextra -Wpedantic -Werror -Ibindings/c
+
+.PHONY: lib example test test-rust test-c
+
+# Prove the library and write the archive that programs link.
+lib:
+	@rt staticlib kovrelna
+
+# Judge two lists of a shipped trace.
+example: lib
+	@$(CARGO) run $(CARGO_FLAGS) --example judge -- examples/slope.txt 2/3 0 2
+	@$(CARGO) run $(CARGO_FLAGS) --example judge -- examples/slope.txt 665/1000 0 2
+
+# Prove everything from nothing, try the edits that must fail, and run every test. The last line is rt ci's.
+test:
+	@rt fmt --check
+	@log=$$(mktemp); trap 'rm -f "$$log"' EXIT; \
+	if ! rt ci >"$$log" 2>&1; then cat "$$log"; exit 1; fi; \
+	grep '^rt:' "$$log"; \
+	rt staticlib kovrelna >/dev/null && $(MAKE) --no-print-directory test-rust test-c && tail -n 1 "$$log"
+
+test-rust:
+	@$(CARGO) test $(CARGO_FLAGS) --workspace --examples --lib --tests
+	@$(CARGO) test $(CARGO_FLAGS) --workspace --doc
+
+# The C test, also as C++ where there is a compiler for it.
+test-c:
+	@$(CC) -std=c99 $(C_FLAGS) bindings/c/test.c $(ARCHIVE) -o target/test-c && target/test-c
+	@if command -v $(CXX) >/dev/null; then \
+	$(CXX) -x c++ -std=c++11 $(C_FLAGS) bindings/c/test.c -x none $(ARCHIVE) -o target/test-c++ && target/test-c++; fi

@@ -1,0 +1,143 @@
+/* Kovrelna: reduced traces. For C and C++; link with libkovrelna.a (x86-64, System V ABI).
+ *
+ * Contents, in order: refusals; tolerances; lists.
+ *
+ * A trace is two lists of equal length: ticks and values (ADC counts). It has 1 to 4,096 samples,
+ * numbered from 0. Ticks rise strictly; the last minus the first is at most 1,048,575.
+ *
+ * A link goes from sample i to a later sample j. Its deviation at a sample k between them is the
+ * vertical distance from value k to the straight line through samples i and j, an exact fraction.
+ * The link's error is the greatest of these, 0 where nothing lies between. A link is valid if its
+ * error is at most the tolerance; equality is valid.
+ *
+ * A kept list begins with sample 0, rises strictly and ends with the last sample. Its links join
+ * neighbouring entries and are counted from 0.
+ *
+ * For every call:
+ * - A list is passed as a pointer to its first element, then the number of elements. The pointer is
+ *   aligned for its element and valid for that many elements. Of an empty list the pointer is not
+ *   read and may be null.
+ * - Any content is allowed: what does not fit is refused with a number, as listed below.
+ * - Nothing is allocated and nothing is kept after the call returns. There is no global state: calls
+ *   may run at the same time on any threads.
+ */
+#ifndef KOVRELNA_H
+#define KOVRELNA_H
+
+#include <stddef.h>
+#include <stdint.h>
+
+#ifdef __cplusplus
+extern "C" {
+#endif
+
+/* ---- Refusals ----
+ *
+ * Each answer has a number, 0 if the call succeeded, and a value. A call checks the rows that
+ * concern it in rising number and answers with the first that fits. A refused call leaves every
+ * list and buffer as it was.
+ */
+enum kovrelna_refusal {
+  /* No samples, too many, or ticks and values differ in length. Value: 0. */
+  KOVRELNA_REFUSED_LENGTH = 1,
+  /* A tick is not above the one before. Value: the first such sample. */
+  KOVRELNA_REFUSED_TICK = 2,
+  /* The span is too long. Value: the first sample more than 1,048,575 ticks after sample 0. */
+  KOVRELNA_REFUSED_SPAN = 3,
+  /* The tolerance is not allowed. Value: 0. */
+  KOVRELNA_REFUSED_TOLERANCE = 4,
+  /* The allowance is below 2 or above 4,096. Value: 0. */
+  KOVRELNA_REFUSED_ALLOWANCE = 5,
+  /* The proposed list is no kept list. Value: the position of the first bad entry (a first one that
+   * is not 0, one that is not above the entry before it, one beyond the trace); the list's length if
+   * it only stops short; 0 if it is empty. */
+  KOVRELNA_REFUSED_LIST = 6,
+  /* The list to be written has an invalid link. Value: the position of the first. */
+  KOVRELNA_REFUSED_LINK = 7,
+  /* The record is faulty. Value: the fault's byte. */
+  KOVRELNA_REFUSED_RECORD = 8,
+  /* The second record of a comparison is faulty. Value: the fault's byte. */
+  KOVRELNA_REFUSED_SECOND_RECORD = 9,
+  /* The output is too short. Value: the entries or bytes needed. */
+  KOVRELNA_REFUSED_ROOM = 10
+};
+
+/* ---- Tolerances ---- */
+
+enum kovrelna_form {
+  KOVRELNA_FORM_RATIO = 0,
+  KOVRELNA_FORM_COUNTS = 1,
+  KOVRELNA_FORM_NOISE = 2
+};
+
+/* A tolerance in one of three forms. Fields that its form does not name are not read.
+ *
+ * form 0, ratio:  p/q; q from 1 to 1,048,575, p from 0 to 65,535 times q.
+ * form 1, counts: x; from 0 to 65,535, and 64 times x is whole.
+ * form 2, noise:  x times y, exactly; the noise x is from 0 to 1,023 and 64 times x is whole, the
+ *                 multiple y is from 0 to 63 and 8 times y is whole.
+ *
+ * Minus zero is zero. All else is refused as 4: other numbers, not-a-number, infinities, any other
+ * form.
+ */
+typedef struct kovrelna_tolerance {
+  uint64_t form;
+  uint64_t p;
+  uint64_t q;
+  double x;
+  double y;
+} kovrelna_tolerance;
+
+/* The tolerance p/q. */
+static inline kovrelna_tolerance kovrelna_ratio(uint64_t p, uint64_t q) {
+  kovrelna_tolerance tolerance = {KOVRELNA_FORM_RATIO, p, q, 0.0, 0.0};
+  return tolerance;
+}
+
+/* The tolerance of so many counts. */
+static inline kovrelna_tolerance kovrelna_counts(double counts) {
+  kovrelna_tolerance tolerance = {KOVRELNA_FORM_COUNTS, 0, 0, counts, 0.0};
+  return tolerance;
+}
+
+/* The tolerance of a channel's noise times the multiple wanted. */
+static inline kovrelna_tolerance kovrelna_noise(double noise, double multiple) {
+  kovrelna_tolerance tolerance = {KOVRELNA_FORM_NOISE, 0, 0, noise, multiple};
+  return tolerance;
+}
+
+/* number 0: p/q is the tolerance in lowest terms (zero is 0/1) and value is 0.
+ * Otherwise: the refusal's number and value; p and q are 0. */
+typedef struct kovrelna_held {
+  uint32_t number;
+  uint64_t value;
+  uint64_t p;
+  uint64_t q;
+} kovrelna_held;
+
+/* The tolerance as the reduced ratio under which it is held. Refusal: 4. */
+kovrelna_held kovrelna_hold(kovrelna_tolerance tolerance);
+
+/* ---- Lists ---- */
+
+/* number 0: if every link is valid, passed is 1 and value is 0; if not, passed is 0 and value is the
+ * position of the first invalid link.
+ * Otherwise: the refusal's number and value; passed is 0. */
+typedef struct kovrelna_verdict {
+  uint32_t number;
+  uint32_t passed;
+  uint64_t value;
+} kovrelna_verdict;
+
+/* Whether every link of the proposed list is valid on this trace. Refusals: 1, 2, 3, 4, 6. The
+ * three lists are only read. */
+kovrelna_verdict kovrelna_judge(const uint32_t *ticks, size_t ticks_len,
+                                const int16_t *values, size_t values_len,
+                                const uint16_t *list, size_t list_len,
+                                kovrelna_tolerance tolerance);
+
+#ifdef __cplusplus
+}
+#endif
+
+#endif

@@ -1,0 +1,165 @@
+/* The C interface as a user calls it. Compiles as C and as C++. Prints "c: ok" and returns 0, or
+ * says what differs and returns 1. */
+#include "kovrelna.h"
+
+#include <math.h>
+#include <stdio.h>
+#include <string.h>
+
+#define COUNT(array) (sizeof(array) / sizeof((array)[0]))
+
+static int failures = 0;
+
+static void differ(int line, const char *field, uint64_t found, uint64_t expected) {
+  if (found == expected) return;
+  printf("c: line %d: %s is %llu, not %llu\n", line, field, (unsigned long long)found,
+         (unsigned long long)expected);
+  failures++;
+}
+
+/* hold answers with this number, p and q; the value is always 0. */
+static void hold(int line, kovrelna_tolerance tolerance, uint32_t number, uint64_t p, uint64_t q) {
+  kovrelna_held answer = kovrelna_hold(tolerance);
+  differ(line, "number", answer.number, number);
+  differ(line, "value", answer.value, 0);
+  differ(line, "p", answer.p, p);
+  differ(line, "q", answer.q, q);
+}
+
+#define HOLD(tolerance, number, p, q) hold(__LINE__, tolerance, number, p, q)
+
+/* A lent list may hold this many bytes here. */
+enum { ROOM = 64 };
+
+static void keep(unsigned char *copy, const void *list, size_t bytes) {
+  if (bytes != 0) memcpy(copy, list, bytes);
+}
+
+static void unchanged(int line, const char *name, const unsigned char *copy, const void *list,
+                      size_t bytes) {
+  if (bytes != 0) differ(line, name, memcmp(copy, list, bytes) != 0, 0);
+}
+
+/* judge answers with this number, passed and value, and changes no list. */
+static void judge(int line, const uint32_t *ticks, size_t ticks_len, const int16_t *values,
+                  size_t values_len, const uint16_t *list, size_t list_len,
+                  kovrelna_tolerance tolerance, uint32_t number, uint32_t passed, uint64_t value) {
+  unsigned char ticks_copy[ROOM], values_copy[ROOM], list_copy[ROOM];
+  size_t ticks_size = ticks_len * sizeof(uint32_t), values_size = values_len * sizeof(int16_t),
+         list_size = list_len * sizeof(uint16_t);
+  kovrelna_verdict answer;
+  keep(ticks_copy, ticks, ticks_size);
+  keep(values_copy, values, values_size);
+  keep(list_copy, list, list_size);
+  answer = kovrelna_judge(ticks, ticks_len, values, values_len, list, list_len, tolerance);
+  differ(line, "number", answer.number, number);
+  differ(line, "passed", answer.passed, passed);
+  differ(line, "value", answer.value, value);
+  unchanged(line, "change of ticks", ticks_copy, ticks, ticks_size);
+  unchanged(line, "change of values", values_copy, values, values_size);
+  unchanged(line, "change of the list", list_copy, list, list_size);
+}
+
+#define JUDGE(ticks, values, list, tolerance, number, passed, value)                              \
+  judge(__LINE__, ticks, COUNT(ticks), values, COUNT(values), list, COUNT(list), tolerance,       \
+        number, passed, value)
+
+static void tolerances(void) {
+  kovrelna_tolerance other = {3, 1, 1, 1.0, 1.0};
+  kovrelna_tolerance ratio = {KOVRELNA_FORM_RATIO, 4, 6, (double)NAN, -1.0};
+  kovrelna_tolerance counts = {KOVRELNA_FORM_COUNTS, UINT64_MAX, 0, 0.75, (double)NAN};
+  kovrelna_tolerance noise = {KOVRELNA_FORM_NOISE, UINT64_MAX, 0, 1.5, 2.125};
+
+  HOLD(kovrelna_ratio(4, 6), 0, 2, 3);
+  HOLD(kovrelna_ratio(0, 1048575), 0, 0, 1);
+  HOLD(kovrelna_ratio(65535u * UINT64_C(1048575), 1048575), 0, 65535, 1);
+  HOLD(kovrelna_ratio(65536, 1), KOVRELNA_REFUSED_TOLERANCE, 0, 0);
+  HOLD(kovrelna_ratio(0, 0), KOVRELNA_REFUSED_TOLERANCE, 0, 0);
+  HOLD(kovrelna_ratio(1, 1048576), KOVRELNA_REFUSED_TOLERANCE, 0, 0);
+  HOLD(kovrelna_ratio(UINT64_MAX, UINT64_MAX), KOVRELNA_REFUSED_TOLERANCE, 0, 0);
+
+  HOLD(kovrelna_counts(2.0), 0, 2, 1);
+  HOLD(kovrelna_counts(65534.984375), 0, 4194239, 64);
+  HOLD(kovrelna_counts(-0.0), 0, 0, 1);
+  HOLD(kovrelna_counts(0.0078125), KOVRELNA_REFUSED_TOLERANCE, 0, 0);
+  HOLD(kovrelna_counts(65535.015625), KOVRELNA_REFUSED_TOLERANCE, 0, 0);
+  HOLD(kovrelna_counts((double)NAN), KOVRELNA_REFUSED_TOLERANCE, 0, 0);
+  HOLD(kovrelna_counts((double)-INFINITY), KOVRELNA_REFUSED_TOLERANCE, 0, 0);
+
+  HOLD(kovrelna_noise(0.015625, 0.125), 0, 1, 512);
+  HOLD(kovrelna_noise(1023.0, 63.0), 0, 64449, 1);
+  HOLD(kovrelna_noise(-0.0, 63.0), 0, 0, 1);
+  HOLD(kovrelna_noise(1023.015625, 0.0), KOVRELNA_REFUSED_TOLERANCE, 0, 0);
+  HOLD(kovrelna_noise(0.0, 63.125), KOVRELNA_REFUSED_TOLERANCE, 0, 0);
+  HOLD(kovrelna_noise(1.0, 0.0625), KOVRELNA_REFUSED_TOLERANCE, 0, 0);
+
+  /* The form alone says which fields are read; there is no fourth form. */
+  HOLD(ratio, 0, 2, 3);
+  HOLD(counts, 0, 3, 4);
+  HOLD(noise, 0, 51, 16);
+  HOLD(other, KOVRELNA_REFUSED_TOLERANCE, 0, 0);
+  other.form = UINT64_C(1) << 32;
+  HOLD(other, KOVRELNA_REFUSED_TOLERANCE, 0, 0);
+  other.form = UINT64_MAX;
+  HOLD(other, KOVRELNA_REFUSED_TOLERANCE, 0, 0);
+}
+
+static void lists(void) {
+  const uint32_t even[] = {0, 1, 2, 3, 4}, uneven[] = {0, 1, 3};
+  const int16_t zigzag[] = {0, 3, 0, 3, 0}, wave[] = {0, 2, 0, -2, 0}, step[] = {0, 1, 1};
+  const uint16_t all[] = {0, 1, 2, 3, 4}, ends[] = {0, 4}, late[] = {0, 3, 4}, middle[] = {0, 2, 4},
+                 early[] = {0, 1, 4}, three[] = {0, 1, 2, 4}, pair[] = {0, 2};
+
+  JUDGE(even, zigzag, all, kovrelna_ratio(0, 1), 0, 1, 0);
+  JUDGE(even, zigzag, late, kovrelna_ratio(2, 1), 0, 1, 0);
+  JUDGE(even, zigzag, middle, kovrelna_ratio(2, 1), 0, 0, 0);
+  JUDGE(even, zigzag, early, kovrelna_ratio(1, 1), 0, 0, 1);
+  JUDGE(even, zigzag, ends, kovrelna_ratio(2, 1), 0, 0, 0);
+  JUDGE(even, zigzag, ends, kovrelna_counts(3.0), 0, 1, 0);
+  JUDGE(even, zigzag, ends, kovrelna_noise(1.5, 2.0), 0, 1, 0);
+  JUDGE(even, wave, middle, kovrelna_ratio(2, 1), 0, 1, 0);
+  JUDGE(even, wave, ends, kovrelna_ratio(2, 1), 0, 1, 0);
+  JUDGE(even, wave, three, kovrelna_ratio(1, 1), 0, 0, 2);
+  JUDGE(uneven, step, pair, kovrelna_ratio(4, 6), 0, 1, 0);
+  JUDGE(uneven, step, pair, kovrelna_ratio(665, 1000), 0, 0, 0);
+}
+
+static void refusals(void) {
+  const uint32_t even[] = {0, 1, 2, 3, 4}, whole[] = {0, 1048575}, beyond[] = {0, 1048576},
+                 equal[] = {5, 5}, high[] = {UINT32_MAX - 1048575, UINT32_MAX},
+                 around[] = {UINT32_MAX, 0}, stuck[] = {0, 1048576, 1048577, 1048578, 1048578};
+  const int16_t flat[] = {0, 0, 0, 0, 0}, two[] = {0, 0};
+  const uint16_t ends[] = {0, 4}, both[] = {0, 1}, late[] = {1, 4}, again[] = {0, 2, 2, 4},
+                 outside[] = {0, 3, 5}, brief[] = {0, 2, 3};
+  kovrelna_tolerance zero = kovrelna_ratio(0, 1), none = kovrelna_ratio(0, 0);
+
+  JUDGE(whole, two, both, zero, 0, 1, 0);
+  JUDGE(high, two, both, zero, 0, 1, 0);
+  JUDGE(even, two, ends, none, KOVRELNA_REFUSED_LENGTH, 0, 0);
+  JUDGE(equal, two, both, none, KOVRELNA_REFUSED_TICK, 0, 1);
+  JUDGE(around, two, both, zero, KOVRELNA_REFUSED_TICK, 0, 1);
+  JUDGE(stuck, flat, ends, none, KOVRELNA_REFUSED_TICK, 0, 4);
+  JUDGE(beyond, two, both, none, KOVRELNA_REFUSED_SPAN, 0, 1);
+  JUDGE(even, flat, late, none, KOVRELNA_REFUSED_TOLERANCE, 0, 0);
+  JUDGE(even, flat, late, zero, KOVRELNA_REFUSED_LIST, 0, 0);
+  JUDGE(even, flat, again, zero, KOVRELNA_REFUSED_LIST, 0, 2);
+  JUDGE(even, flat, outside, zero, KOVRELNA_REFUSED_LIST, 0, 2);
+  JUDGE(even, flat, brief, zero, KOVRELNA_REFUSED_LIST, 0, 3);
+
+  /* Empty lists without a pointer. */
+  judge(__LINE__, NULL, 0, NULL, 0, NULL, 0, zero, KOVRELNA_REFUSED_LENGTH, 0, 0);
+  judge(__LINE__, NULL, 0, flat, 5, ends, 2, zero, KOVRELNA_REFUSED_LENGTH, 0, 0);
+  judge(__LINE__, even, 5, NULL, 0, ends, 2, zero, KOVRELNA_REFUSED_LENGTH, 0, 0);
+  judge(__LINE__, even, 5, flat, 5, NULL, 0, zero, KOVRELNA_REFUSED_LIST, 0, 0);
+  /* One sample: its list is the sample itself. */
+  judge(__LINE__, even, 1, flat, 1, ends, 1, zero, 0, 1, 0);
+}
+
+int main(void) {
+  tolerances();
+  lists();
+  refusals();
+  if (failures != 0) return 1;
+  puts("c: ok");
+  return 0;
+}

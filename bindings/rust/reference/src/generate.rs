@@ -1,0 +1,215 @@
+//! Repeatable random traces and lists, chosen to find mistakes.
+//!
+//! - [`Random`]: numbers from a seed.
+//! - [`Trace`], [`Kind`], [`trace`]: traces within the limits, of several kinds.
+//! - [`kept_list`], [`damaged`]: kept lists, and lists with one or more faults.
+//! - [`just_below`]: the tolerance nearest below a link's error.
+
+use crate::{Fraction, DENOMINATOR, SPAN};
+
+/// A generator (splitmix64): the same seed gives the same numbers.
+pub struct Random(u64);
+
+impl Random {
+    pub fn new(seed: u64) -> Random {
+        Random(seed)
+    }
+
+    /// Any 64 bits.
+    pub fn bits(&mut self) -> u64 {
+        self.0 = self.0.wrapping_add(0x9e37_79b9_7f4a_7c15);
+        let mut z = self.0;
+        z = (z ^ z >> 30).wrapping_mul(0xbf58_476d_1ce4_e5b9);
+        z = (z ^ z >> 27).wrapping_mul(0x94d0_49bb_1331_11eb);
+        z ^ z >> 31
+    }
+
+    /// From 0 to `count` - 1.
+    pub fn below(&mut self, count: u64) -> u64 {
+        self.bits() % count
+    }
+
+    /// From `low` to `high`, both included.
+    pub fn within(&mut self, low: i64, high: i64) -> i64 {
+        low + self.below((high - low + 1) as u64) as i64
+    }
+
+    /// One of these.
+    pub fn choose<T: Copy>(&mut self, from: &[T]) -> T {
+        from[self.below(from.len() as u64) as usize]
+    }
+}
+
+/// A trace.
+#[derive(Clone, Debug)]
+pub struct Trace {
+    pub ticks: Vec<u32>,
+    pub values: Vec<i16>,
+}
+
+/// What a trace's values look like.
+#[derive(Clone, Copy, Debug, PartialEq)]
+pub enum Kind {
+    /// From -4 to 4.
+    Small,
+    /// Over the whole range.
+    Wide,
+    /// Runs of equal values.
+    Plateaus,
+    /// Runs of equal changes, ended by the range.
+    Ramps,
+    /// Up and down in turn.
+    Zigzag,
+    /// Single values far from the rest.
+    Spikes,
+    /// At or near the ends of the range.
+    Saturated,
+}
+
+/// Every kind.
+pub const KINDS: [Kind; 7] = [
+    Kind::Small,
+    Kind::Wide,
+    Kind::Plateaus,
+    Kind::Ramps,
+    Kind::Zigzag,
+    Kind::Spikes,
+    Kind::Saturated,
+];
+
+/// A trace of this kind with 1 to 4,096 samples. Its ticks rise by ones, by little, or spread over
+/// exactly the greatest span; they begin at 0, anywhere, or so that the last is the greatest u32.
+pub fn trace(kind: Kind, samples: usize, random: &mut Random) -> Trace {
+    Trace {
+        ticks: ticks(samples, random),
+        values: values(kind, samples, random),
+    }
+}
+
+fn ticks(samples: usize, random: &mut Random) -> Vec<u32> {
+    let longest = SPAN / (samples as u32 - 1).max(1);
+    let step = random.choose(&[1, 4, longest]);
+    let mut offsets = vec![0];
+    for k in 1..samples {
+        offsets.push(offsets[k - 1] + 1 + random.below(step.into()) as u32);
+    }
+    if samples > 1 && step == longest {
+        offsets[samples - 1] = SPAN;
+    }
+    let latest = u32::MAX - offsets[samples - 1];
+    let anywhere = random.below(u64::from(latest) + 1) as u32;
+    let first = random.choose(&[0, anywhere, latest]);
+    offsets.iter().map(|offset| first + offset).collect()
+}
+
+fn values(kind: Kind, samples: usize, random: &mut Random) -> Vec<i16> {
+    let (low, high) = (i64::from(i16::MIN), i64::from(i16::MAX));
+    let size = random.choose(&[1, 3, 50, 2_000, high]);
+    let base = random.within(low, high);
+    let run = random.within(2, 12) as usize;
+    let (mut value, mut change) = (base, 0);
+    (0..samples)
+        .map(|k| {
+            value = match kind {
+                Kind::Small => random.within(-4, 4),
+                Kind::Wide => random.within(low, high),
+                Kind::Plateaus if k % run == 0 => random.within(-size, size),
+                Kind::Plateaus => value,
+                Kind::Ramps => {
+                    if k % run == 0 {
+                        change = random.within(-size, size);
+                    }
+                    value + change
+                }
+                Kind::Zigzag if k % 2 == 0 => random.within(0, size),
+                Kind::Zigzag => random.within(-size, 0),
+                Kind::Spikes if random.below(6) == 0 => random.within(low, high),
+                Kind::Spikes => base + random.within(-1, 1),
+                Kind::Saturated => random.choose(&[low, low, low + 1, 0, high - 1, high, high]),
+            }
+            .clamp(low, high);
+            value as i16
+        })
+        .collect()
+}
+
+/// A kept list of a trace with so many samples: few, some or most of them.
+pub fn kept_list(samples: usize, random: &mut Random) -> Vec<u16> {
+    let one_in = random.choose(&[1, 2, 4, 16, 1_000]);
+    (0..samples as u16)
+        .filter(|&k| k == 0 || usize::from(k) == samples - 1 || random.below(one_in) == 0)
+        .collect()
+}
+
+/// The kept list with one fault or several at places drawn for each. It may still be a kept list
+/// where the trace is short.
+pub fn damaged(list: &[u16], samples: usize, random: &mut Random) -> Vec<u16> {
+    let mut list = list.to_vec();
+    for _ in 0..random.within(1, 3) {
+        let at = random.below(list.len() as u64 + 1) as usize;
+        match random.below(7) {
+            0 => list.clear(),
+            1 => list.truncate(at),
+            2 => list.insert(at, random.below(samples as u64) as u16),
+            3 => list.insert(at, random.choose(&[samples as u16, 4_096, u16::MAX])),
+            4 if at < list.len() => drop(list.remove(at)),
+            5 if at < list.len() => list.insert(at, list[at]),
+            6 if at < list.len() => list[at] = random.below(samples as u64) as u16,
+            _ => list.push(random.below(samples as u64) as u16),
+        }
+    }
+    list
+}
+
+/// For p/q above 0 in lowest terms, q at most 1,048,575: the r/s below it with p s - r q = 1 and s
+/// as great as a tolerance allows. No fraction with that s lies between.
+pub fn just_below(Fraction { p, q }: Fraction) -> Fraction {
+    let s = DENOMINATOR - (DENOMINATOR - inverse(p, q)).rem_euclid(q);
+    Fraction {
+        p: (p * s - 1) / q,
+        q: s,
+    }
+}
+
+/// The x from 0 to q - 1 with p x = 1 modulo q.
+fn inverse(p: i128, q: i128) -> i128 {
+    let (mut r, mut x) = ((q, p.rem_euclid(q)), (0, 1));
+    while r.1 != 0 {
+        let times = r.0 / r.1;
+        r = (r.1, r.0 - times * r.1);
+        x = (x.1, x.0 - times * x.1);
+    }
+    x.0.rem_euclid(q)
+}
+
+#[cfg(test)]
+mod tests {
+    use super::*;
+    use crate::{link_error, list_refusal, trace_refusal};
+
+    #[test]
+    fn traces_and_lists_are_within_the_limits() {
+        let random = &mut Random::new(1);
+        for samples in (1..=64).chain([4_095, 4_096]) {
+            for kind in KINDS {
+                let Trace { ticks, values } = trace(kind, samples, random);
+                assert_eq!(trace_refusal(&ticks, &values), None, "{kind:?} {samples}");
+                assert_eq!(list_refusal(samples, &kept_list(samples, random)), None);
+            }
+        }
+    }
+
+    #[test]
+    fn just_below_is_one_unit_away() {
+        let random = &mut Random::new(2);
+        for _ in 0..2_000 {
+            let Trace { ticks, values } = trace(random.choose(&KINDS), 8, random);
+            let error = link_error(&ticks, &values, 0, 7);
+            if error.p > 0 {
+                let below = just_below(error);
+                assert_eq!(error.p * below.q - below.p * error.q, 1, "{error:?}");
+                assert!(below.p >= 0 && (1..=DENOMINATOR).contains(&below.q));
+            }
+        }
+    }
+}

@@ -1,0 +1,252 @@
+//! The slow reference: document 01 once more, in exact whole numbers, clear before fast. It knows
+//! nothing of the library that is compared with it.
+//!
+//! - [`Fraction`]: exact fractions, compared by cross multiplication.
+//! - [`deviation`], [`link_error`], [`link_valid`]: links of a trace.
+//! - [`Form`], [`held`]: the three forms of a tolerance.
+//! - [`trace_refusal`], [`list_refusal`]: rows 1 to 3 and row 6 of the table of refusals.
+//! - [`judge`]: the call.
+//! - [`generate`]: repeatable random traces and lists.
+
+pub mod generate;
+
+/// The most samples a trace has.
+pub const SAMPLES: usize = 4_096;
+/// The greatest difference between the last tick and the first.
+pub const SPAN: u32 = 1_048_575;
+/// The greatest denominator of a tolerance.
+pub const DENOMINATOR: i128 = 1_048_575;
+/// The greatest tolerance.
+pub const TOLERANCE: i128 = 65_535;
+
+/// A row of the table of refusals: its number and what is returned with it.
+pub type Row = (u32, u64);
+
+/// p/q, with q above 0.
+#[derive(Clone, Copy, Debug, PartialEq, Eq)]
+pub struct Fraction {
+    pub p: i128,
+    pub q: i128,
+}
+
+impl Fraction {
+    /// Whether this fraction is at most the other.
+    pub fn at_most(self, other: Fraction) -> bool {
+        self.p * other.q <= other.p * self.q
+    }
+
+    /// The same fraction in lowest terms; zero is 0/1.
+    pub fn lowest(self) -> Fraction {
+        let (mut a, mut b) = (self.p, self.q);
+        while b != 0 {
+            (a, b) = (b, a % b);
+        }
+        Fraction {
+            p: self.p / a,
+            q: self.q / a,
+        }
+    }
+}
+
+/// The vertical distance from value k to the straight line through samples i and j.
+pub fn deviation(ticks: &[u32], values: &[i16], i: usize, j: usize, k: usize) -> Fraction {
+    let t = |sample: usize| i128::from(ticks[sample]);
+    let v = |sample: usize| i128::from(values[sample]);
+    Fraction {
+        p: ((v(k) - v(i)) * (t(j) - t(i)) - (v(j) - v(i)) * (t(k) - t(i))).abs(),
+        q: t(j) - t(i),
+    }
+}
+
+/// The greatest deviation between samples i and j, 0 where nothing lies between; in lowest terms.
+pub fn link_error(ticks: &[u32], values: &[i16], i: usize, j: usize) -> Fraction {
+    let mut error = Fraction { p: 0, q: 1 };
+    for k in i + 1..j {
+        let deviation = deviation(ticks, values, i, j, k);
+        if !deviation.at_most(error) {
+            error = deviation;
+        }
+    }
+    error.lowest()
+}
+
+/// Whether the link's error is at most the tolerance.
+pub fn link_valid(ticks: &[u32], values: &[i16], i: usize, j: usize, tolerance: Fraction) -> bool {
+    link_error(ticks, values, i, j).at_most(tolerance)
+}
+
+/// The three forms of a tolerance.
+#[derive(Clone, Copy, Debug)]
+pub enum Form {
+    /// p, q.
+    Ratio(u64, u64),
+    /// Counts.
+    Counts(f64),
+    /// Noise, multiple.
+    Noise(f64, f64),
+}
+
+/// The tolerance in lowest terms, if it is allowed.
+pub fn held(form: Form) -> Option<Fraction> {
+    let fraction = match form {
+        Form::Ratio(p, q) => {
+            let (p, q) = (i128::from(p), i128::from(q));
+            if !(1..=DENOMINATOR).contains(&q) || p > TOLERANCE * q {
+                return None;
+            }
+            Fraction { p, q }
+        }
+        Form::Counts(counts) => Fraction {
+            p: steps(counts, 6, TOLERANCE)?,
+            q: 64,
+        },
+        Form::Noise(noise, multiple) => Fraction {
+            p: steps(noise, 6, 1_023)? * steps(multiple, 3, 63)?,
+            q: 64 * 8,
+        },
+    };
+    Some(fraction.lowest())
+}
+
+/// 2^shift times x, if x is from 0 to `most` and that product is whole. Decided by the bits of x.
+fn steps(x: f64, shift: i32, most: i128) -> Option<i128> {
+    let bits = x.to_bits();
+    let negative = bits >> 63 == 1;
+    let exponent = (bits >> 52 & 0x7ff) as i32;
+    let fraction = i128::from(bits & 0xf_ffff_ffff_ffff);
+    // x is mantissa times 2^power, with the sign.
+    let (mut mantissa, mut power) = match exponent {
+        0x7ff => return None, // an infinity or not a number
+        0 => (fraction, -1_074),
+        _ => (fraction + (1 << 52), exponent - 1_075),
+    };
+    if mantissa == 0 {
+        return Some(0); // zero or minus zero
+    }
+    while mantissa % 2 == 0 {
+        mantissa /= 2;
+        power += 1;
+    }
+    // The mantissa is odd: below power 0 the product is not whole. At power 64 it is beyond `most`.
+    let power = power + shift;
+    if negative || !(0..64).contains(&power) {
+        return None;
+    }
+    let product = mantissa << power;
+    (product <= most << shift).then_some(product)
+}
+
+/// The first of rows 1, 2 and 3 that fits this trace.
+pub fn trace_refusal(ticks: &[u32], values: &[i16]) -> Option<Row> {
+    let samples = ticks.len();
+    if samples == 0 || samples > SAMPLES || values.len() != samples {
+        return Some((1, 0));
+    }
+    if let Some(sample) = (1..samples).find(|&k| ticks[k] <= ticks[k - 1]) {
+        return Some((2, sample as u64));
+    }
+    let beyond = (0..samples).find(|&k| ticks[k] - ticks[0] > SPAN)?;
+    Some((3, beyond as u64))
+}
+
+/// Row 6, if this is no kept list of a trace with so many samples.
+pub fn list_refusal(samples: usize, list: &[u16]) -> Option<Row> {
+    for (position, &entry) in list.iter().enumerate() {
+        let risen = match position {
+            0 => entry == 0,
+            _ => entry > list[position - 1],
+        };
+        if !risen || usize::from(entry) >= samples {
+            return Some((6, position as u64));
+        }
+    }
+    match list.last() {
+        Some(&entry) if usize::from(entry) == samples - 1 => None,
+        _ => Some((6, list.len() as u64)),
+    }
+}
+
+/// The first row that fits, or the position of the first invalid link, or nothing if all are valid.
+pub fn judge(
+    ticks: &[u32],
+    values: &[i16],
+    list: &[u16],
+    form: Form,
+) -> Result<Option<usize>, Row> {
+    if let Some(row) = trace_refusal(ticks, values) {
+        return Err(row);
+    }
+    let tolerance = held(form).ok_or((4, 0))?;
+    if let Some(row) = list_refusal(ticks.len(), list) {
+        return Err(row);
+    }
+    Ok(list.windows(2).position(|link| {
+        !link_valid(
+            ticks,
+            values,
+            usize::from(link[0]),
+            usize::from(link[1]),
+            tolerance,
+        )
+    }))
+}
+
+#[cfg(test)]
+mod tests {
+    use super::*;
+
+    const EVEN: [u32; 5] = [0, 1, 2, 3, 4];
+
+    fn fraction(p: i128, q: i128) -> Fraction {
+        Fraction { p, q }
+    }
+
+    #[test]
+    fn figures() {
+        let zigzag = [0, 3, 0, 3, 0];
+        assert_eq!(link_error(&EVEN, &zigzag, 0, 1), fraction(0, 1));
+        assert_eq!(link_error(&EVEN, &zigzag, 0, 2), fraction(3, 1));
+        assert_eq!(link_error(&EVEN, &zigzag, 0, 3), fraction(2, 1));
+        assert_eq!(link_error(&EVEN, &zigzag, 0, 4), fraction(3, 1));
+        let (ticks, values) = ([0, 1, 3], [0, 1, 1]);
+        assert_eq!(deviation(&ticks, &values, 0, 2, 1), fraction(2, 3));
+        assert!(link_valid(&ticks, &values, 0, 2, fraction(4, 6)));
+        assert!(!link_valid(&ticks, &values, 0, 2, fraction(665, 1000)));
+        assert_eq!(trace_refusal(&[0, 1_048_575], &[0, 0]), None);
+        assert_eq!(trace_refusal(&[0, 1_048_576], &[0, 0]), Some((3, 1)));
+        assert_eq!(trace_refusal(&[5, 5], &[0, 0]), Some((2, 1)));
+    }
+
+    #[test]
+    fn forms() {
+        assert_eq!(held(Form::Ratio(4, 6)), Some(fraction(2, 3)));
+        assert_eq!(held(Form::Ratio(0, 7)), Some(fraction(0, 1)));
+        assert_eq!(held(Form::Counts(0.75)), Some(fraction(3, 4)));
+        assert_eq!(held(Form::Counts(-0.0)), Some(fraction(0, 1)));
+        assert_eq!(held(Form::Counts(65_535.0)), Some(fraction(65_535, 1)));
+        assert_eq!(held(Form::Counts(65_535.015_625)), None);
+        assert_eq!(held(Form::Counts(0.007_812_5)), None);
+        assert_eq!(held(Form::Counts(-1.0)), None);
+        assert_eq!(held(Form::Counts(f64::MAX)), None);
+        assert_eq!(held(Form::Noise(1.5, 2.125)), Some(fraction(51, 16)));
+        assert_eq!(held(Form::Noise(1_023.0, 63.0)), Some(fraction(64_449, 1)));
+        assert_eq!(held(Form::Noise(0.0, f64::NAN)), None);
+    }
+
+    #[test]
+    fn lists() {
+        let cases: [(&[u16], Option<Row>); 7] = [
+            (&[0, 3, 4], None),
+            (&[], Some((6, 0))),
+            (&[1, 4], Some((6, 0))),
+            (&[0, 2, 2, 4], Some((6, 2))),
+            (&[0, 5], Some((6, 1))),
+            (&[0, 3], Some((6, 2))),
+            (&[0], Some((6, 1))),
+        ];
+        for (list, row) in cases {
+            assert_eq!(list_refusal(5, list), row, "{list:?}");
+        }
+        assert_eq!(list_refusal(1, &[0]), None);
+    }
+}

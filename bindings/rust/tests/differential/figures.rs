@@ -1,0 +1,76 @@
+use crate::{hold, judge, noise, ratio};
+use kovrelna::Tolerance;
+
+const EVEN: [u32; 5] = [0, 1, 2, 3, 4];
+const ZIGZAG: [i16; 5] = [0, 3, 0, 3, 0];
+const WAVE: [i16; 5] = [0, 2, 0, -2, 0];
+
+#[test]
+fn lists() {
+    let all: &[u16] = &[0, 1, 2, 3, 4];
+    type Case<'a> = (&'a [i16; 5], &'a [u16], Tolerance, Option<usize>);
+    let cases: [Case; 16] = [
+        // Tolerance 2: what walk and gallop keep, the minimum, and what it avoids.
+        (&ZIGZAG, all, ratio(2, 1), None),
+        (&ZIGZAG, &[0, 3, 4], ratio(2, 1), None),
+        (&ZIGZAG, &[0, 2, 3, 4], ratio(2, 1), Some(0)),
+        (&ZIGZAG, &[0, 1, 4], ratio(2, 1), None),
+        (&ZIGZAG, &[0, 1, 3, 4], ratio(2, 1), Some(1)),
+        (&ZIGZAG, &[0, 1, 2, 4], ratio(2, 1), Some(2)),
+        (&ZIGZAG, &[0, 4], ratio(2, 1), Some(0)),
+        // Tolerance 3, in all forms.
+        (&ZIGZAG, &[0, 4], ratio(3, 1), None),
+        (&ZIGZAG, &[0, 4], Tolerance::Counts(3.0), None),
+        (&ZIGZAG, &[0, 4], noise(1.5, 2.0), None),
+        // The least errors are 3/1, 2/1 and 0/1: just below them the lists fail.
+        (
+            &ZIGZAG,
+            &[0, 4],
+            ratio(3 * 1_048_575 - 1, 1_048_575),
+            Some(0),
+        ),
+        (
+            &ZIGZAG,
+            &[0, 3, 4],
+            ratio(2 * 1_048_575 - 1, 1_048_575),
+            Some(0),
+        ),
+        (&ZIGZAG, all, ratio(0, 1), None),
+        // The fourth figure.
+        (&WAVE, &[0, 2, 4], ratio(2, 1), None),
+        (&WAVE, &[0, 4], ratio(2, 1), None),
+        (&WAVE, &[0, 2, 4], Tolerance::Counts(1.984_375), Some(0)),
+    ];
+    for (values, list, tolerance, expected) in cases {
+        let answer = judge(&EVEN, values, list, tolerance);
+        assert_eq!(answer, Ok(expected), "{values:?} {list:?} {tolerance:?}");
+    }
+}
+
+#[test]
+fn two_thirds() {
+    assert_eq!(hold(ratio(4, 6)), Ok((2, 3)));
+    for (tolerance, expected) in [
+        (ratio(4, 6), None),
+        (ratio(2, 3), None),
+        (ratio(665, 1000), Some(0)),
+        (ratio(667, 1000), None),
+        (Tolerance::Counts(0.671_875), None),
+        (Tolerance::Counts(0.656_25), Some(0)),
+    ] {
+        let answer = judge(&[0, 1, 3], &[0, 1, 1], &[0, 2], tolerance);
+        assert_eq!(answer, Ok(expected), "{tolerance:?}");
+    }
+}
+
+#[test]
+fn ticks() {
+    for (ticks, expected) in [
+        ([0, 1_048_575], Ok(None)),
+        ([0, 1_048_576], Err((3, 1))),
+        ([5, 5], Err((2, 1))),
+    ] {
+        let answer = judge(&ticks, &[0, 0], &[0, 1], ratio(0, 1));
+        assert_eq!(answer, expected, "{ticks:?}");
+    }
+}

@@ -1,0 +1,224 @@
+use crate::{judge, noise, ratio};
+use kovrelna::{Refusal, Tolerance};
+use kovrelna_reference::generate::{damaged, kept_list, trace, Random, Trace, KINDS};
+use kovrelna_reference::Row;
+
+#[test]
+fn the_table() {
+    let cases = [
+        (Refusal::Length, 1, 0),
+        (Refusal::Tick(21), 2, 21),
+        (Refusal::Span(31), 3, 31),
+        (Refusal::Tolerance, 4, 0),
+        (Refusal::Allowance, 5, 0),
+        (Refusal::List(61), 6, 61),
+        (Refusal::Link(71), 7, 71),
+        (Refusal::Record(81), 8, 81),
+        (Refusal::SecondRecord(91), 9, 91),
+        (Refusal::Room(101), 10, 101),
+    ];
+    for (refusal, number, returned) in cases {
+        assert_eq!((refusal.number(), refusal.returned()), (number, returned));
+        let words = refusal.to_string();
+        assert!(
+            returned == 0 || words.contains(&returned.to_string()),
+            "{words}"
+        );
+    }
+}
+
+#[test]
+fn lengths() {
+    let lengths = [0usize, 1, 2, 4_095, 4_096, 4_097];
+    for samples in lengths {
+        let ticks: Vec<u32> = (0..samples as u32).collect();
+        let mut list: Vec<u16> = vec![0, samples.saturating_sub(1) as u16];
+        list.dedup();
+        for values in lengths {
+            let allowed = samples == values && (1..=4_096).contains(&samples);
+            let expected = if allowed { Ok(None) } else { Err((1, 0)) };
+            let values = vec![7; values];
+            let answer = judge(&ticks, &values, &list, ratio(0, 1));
+            assert_eq!(answer, expected, "{samples} {}", values.len());
+            if !allowed {
+                // Later rows fail too.
+                let answer = judge(&vec![5; samples], &values, &[], ratio(0, 0));
+                assert_eq!(answer, expected, "{samples} {}", values.len());
+            }
+        }
+    }
+}
+
+#[test]
+fn ticks() {
+    const MAX: u32 = u32::MAX;
+    let cases: [(&[u32], Option<Row>); 17] = [
+        (&[0, 1, 1_048_574, 1_048_575], None),
+        (&[MAX - 3, MAX - 2, MAX - 1, MAX], None),
+        (&[MAX - 1_048_575, MAX - 1_048_574, MAX - 1, MAX], None),
+        (&[7, 8, 1_048_582, 1_048_583], Some((3, 3))),
+        (&[7, 8, 1_048_583, 1_048_584], Some((3, 2))),
+        (&[MAX - 1_048_576, MAX - 2, MAX - 1, MAX], Some((3, 3))),
+        (&[0, MAX - 2, MAX - 1, MAX], Some((3, 1))),
+        (&[0, 0, 1, 2], Some((2, 1))),
+        (&[0, 1, 1, 2], Some((2, 2))),
+        (&[0, 1, 2, 2], Some((2, 3))),
+        (&[0, 5, 4, 3], Some((2, 2))),
+        (&[1, 0, 2, 3], Some((2, 1))),
+        (&[MAX, MAX, MAX, MAX], Some((2, 1))),
+        // Ticks do not wrap around.
+        (&[MAX - 2, MAX - 1, MAX, 0], Some((2, 3))),
+        // Row 2 before row 3, whichever comes first in the trace.
+        (&[0, 2_000_000, 2_000_001, 2_000_001], Some((2, 3))),
+        (&[0, 2_000_000, 1, 2], Some((2, 2))),
+        (&[0, 1, 1, 2_000_000], Some((2, 2))),
+    ];
+    for (ticks, row) in cases {
+        let answer = judge(ticks, &[0; 4], &[0, 3], ratio(0, 1));
+        assert_eq!(answer, row.map_or(Ok(None), Err), "{ticks:?}");
+    }
+}
+
+#[test]
+fn lists() {
+    let cases: [(&[u16], Option<u64>); 27] = [
+        (&[0, 5], None),
+        (&[0, 2, 5], None),
+        (&[0, 1, 2, 3, 4, 5], None),
+        // Empty.
+        (&[], Some(0)),
+        // A first entry that is not 0.
+        (&[1, 5], Some(0)),
+        (&[5], Some(0)),
+        (&[6], Some(0)),
+        (&[u16::MAX, 5], Some(0)),
+        // Equal neighbours.
+        (&[0, 0, 5], Some(1)),
+        (&[0, 2, 2, 5], Some(2)),
+        (&[0, 2, 5, 5], Some(3)),
+        // Falling.
+        (&[0, 3, 2, 5], Some(2)),
+        (&[0, 5, 0], Some(2)),
+        (&[0, 5, 4, 5], Some(2)),
+        // Beyond the trace.
+        (&[0, 6], Some(1)),
+        (&[0, 2, 4_096], Some(2)),
+        (&[0, 5, 6], Some(2)),
+        (&[0, u16::MAX], Some(1)),
+        // Stops short.
+        (&[0], Some(1)),
+        (&[0, 4], Some(2)),
+        (&[0, 1, 2, 3, 4], Some(5)),
+        // Several faults.
+        (&[1, 1, 0, 6], Some(0)),
+        (&[0, 6, 6], Some(1)),
+        (&[0, 6, 5], Some(1)),
+        (&[0, 3, 3, 4], Some(2)),
+        (&[0, 2, 1, 6], Some(2)),
+        (&[0, 1, 2, 3, 4, 5, 6, 6, 0], Some(6)),
+    ];
+    let ticks = [0, 1, 2, 3, 4, 5];
+    for (list, position) in cases {
+        let expected = position.map_or(Ok(None), |position| Err((6, position)));
+        let answer = judge(&ticks, &[0; 6], list, ratio(0, 1));
+        assert_eq!(answer, expected, "{list:?}");
+        if expected.is_err() {
+            // Invalid links before the bad entry do not matter.
+            let answer = judge(&ticks, &[0, 9, 0, 8, 1, 9], list, ratio(0, 1));
+            assert_eq!(answer, expected, "{list:?}");
+        }
+    }
+}
+
+#[test]
+fn lists_of_the_shortest_and_longest_traces() {
+    let one: [(&[u16], Result<_, Row>); 5] = [
+        (&[0], Ok(None)),
+        (&[], Err((6, 0))),
+        (&[1], Err((6, 0))),
+        (&[0, 0], Err((6, 1))),
+        (&[0, 1], Err((6, 1))),
+    ];
+    for (list, expected) in one {
+        assert_eq!(judge(&[u32::MAX], &[-1], list, ratio(0, 1)), expected);
+    }
+    let ticks: Vec<u32> = (0..4_096).collect();
+    let values: Vec<i16> = (0..4_096).map(|k| k * 7 % 50).collect();
+    let every: Vec<u16> = (0..=u16::MAX).collect();
+    for (length, expected) in [
+        (4_096, Ok(None)),
+        (4_095, Err((6, 4_095))),
+        (4_097, Err((6, 4_096))),
+        (65_536, Err((6, 4_096))),
+    ] {
+        let answer = judge(&ticks, &values, &every[..length], ratio(0, 1));
+        assert_eq!(answer, expected, "{length}");
+    }
+}
+
+/// Every set of faults among rows 1, 2, 3, 4 and 6: the lowest row answers, with its own value. Row
+/// 3's sample comes before row 2's.
+#[test]
+fn the_first_row_answers() {
+    let rows: [Row; 5] = [(1, 0), (2, 6), (3, 3), (4, 0), (6, 1)];
+    for faults in 0..1 << rows.len() {
+        let has = |row: usize| faults & 1 << row != 0;
+        let mut ticks: Vec<u32> = (10..18).collect();
+        let mut values = vec![0; 8];
+        let (mut list, mut tolerance) = (vec![0, 7], ratio(0, 1));
+        if has(0) {
+            values.push(0);
+        }
+        if has(2) {
+            ticks[3..].iter_mut().for_each(|tick| *tick += 1_048_576);
+        }
+        if has(1) {
+            ticks[6] = ticks[5];
+        }
+        if has(3) {
+            tolerance = Tolerance::Counts(f64::NAN);
+        }
+        if has(4) {
+            list = vec![0, 0, 7];
+        }
+        let expected = (0..rows.len()).find(|&row| has(row));
+        assert_eq!(
+            judge(&ticks, &values, &list, tolerance),
+            expected.map_or(Ok(None), |row| Err(rows[row])),
+            "faults {faults:b}"
+        );
+    }
+}
+
+#[test]
+fn random_faults() {
+    let random = &mut Random::new(3);
+    let mut seen = [0; 7];
+    for _ in 0..20_000 {
+        let samples = random.within(1, 12) as usize;
+        let Trace { mut ticks, values } = trace(random.choose(&KINDS), samples, random);
+        let mut list = kept_list(samples, random);
+        let mut tolerance = ratio(random.below(10), 1);
+        let at = random.below(samples as u64) as usize;
+        for _ in 0..random.below(3) {
+            match random.below(6) {
+                0 => drop(ticks.pop()),
+                1 => ticks.push(u32::MAX),
+                2 => ticks[..=at].rotate_right(1),
+                3 => ticks[at..].iter_mut().for_each(|tick| *tick |= 1 << 20),
+                4 => list = damaged(&list, samples, random),
+                _ => tolerance = random.choose(&[ratio(1, 0), noise(0.0, -1.0)]),
+            }
+            if ticks.len() != samples {
+                break;
+            }
+        }
+        match judge(&ticks, &values, &list, tolerance) {
+            Ok(_) => seen[0] += 1,
+            Err((number, _)) => seen[number as usize] += 1,
+        }
+    }
+    for row in [0, 1, 2, 3, 4, 6] {
+        assert!(seen[row] > 500, "{seen:?}");
+    }
+}

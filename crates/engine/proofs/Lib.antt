@@ -1,0 +1,3 @@
+-- The laws of the public calls' definitions.
+pub mod HoldLaws
+pub mod JudgeLaws

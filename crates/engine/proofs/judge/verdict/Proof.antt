@@ -1,0 +1,30 @@
+-- `engine::judge::verdict` meets its contract. Assumes nothing.
+use Prim.Native.Nat.{_+_, _-_}
+use mathlib.Core.Path.{sym, _∙_, ap}
+use native.Mathlib.Omega.{arith}
+use Rattle.engine.specs.declared.Verdict.the-variants.{No}
+use Rattle.engine.proofs.JudgeLaws.{invalid-bound, verdict-yes, verdict-no}
+use borrow.Author.Needs.{needs}
+use Rattle.engine.proofs.judge.verdict.Statement.{statement}
+use Rattle.engine.proofs.judge.verdict.Tie as tie
+
+first-invalid-requires : tie.Need-first-invalid-requires
+first-invalid-requires c κs = search needs
+
+add-if1 : tie.Need-add-if1
+add-if1 c =
+    let a = c .before .before .before .args in
+    omega (arith, c .first-invalid .ensures, invalid-bound (a .ticks .now) (a .values .now) (a .list .now) (a .c))
+
+returns : tie.Need-returns
+returns c =
+    let a = c .before .before .before .before .args in
+    sym (verdict-yes (a .ticks .now) (a .values .now) (a .list .now) (a .c) (omega (arith, c .if1 .taken, c .before .first-invalid .ensures)))
+
+returns-2 : tie.Need-returns-2
+returns-2 c =
+    let a = c .before .before .before .before .args in
+    ap No (c .before .first-invalid .ensures) ∙ sym (verdict-no (a .ticks .now) (a .values .now) (a .list .now) (a .c) (omega (arith, c .if1 .left, c .before .first-invalid .ensures)))
+
+pub verdict-spec : {M : Type 1} → statement M
+verdict-spec = tie.close (tie.spec first-invalid-requires add-if1 returns returns-2)

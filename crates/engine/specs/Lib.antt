@@ -1,0 +1,3 @@
+-- The outcomes of the public calls.
+pub mod Hold
+pub mod Judge

@@ -1,0 +1,19 @@
+// The public calls. None has a requirement: each states its outcome for every input, and declines by the table of document 01.
+use ratio::Ratio;
+use refusal::Refusal;
+
+// What `hold` answers: the tolerance in lowest terms, or a refusal.
+pub enum Holding {
+    Held(Ratio),
+    Refused(Refusal),
+}
+
+// What `judge` answers: every link is within the tolerance; or not, with the position of the first that is not; or a refusal.
+pub enum Verdict {
+    Yes,
+    No(usize),
+    Refused(Refusal),
+}
+
+pub mod hold;
+pub mod judge;

@@ -1,0 +1,64 @@
+-- The starred figures of document 01, "Figures to reproduce", over the definitions, each by computation.
+-- Assumes nothing.
+use mathlib.Core.Path.{_≡_, refl}
+use mathlib.Core.Bool.{true, false}
+use mathlib.Core.List.{List, [], _∷_}
+use Prim.Native.Nat.{ℕ}
+use lib.IntN.{ℤ, pos}
+use Rattle.lists.specs.First.{first, firstOf}
+use Rattle.ratio.specs.Gcd.{gcd, euclid}
+use Rattle.ratio.specs.Order.{over}
+use Rattle.refusal.specs.declared.Refusal.the-variants.{Tick, Span}
+use Rattle.refusal.specs.declared.Checked.the-variants.{Fine, Refused}
+use Rattle.tolerance.specs.declared.Tolerance.the-variants.{Ratio}
+use Rattle.trace.specs.Trace.{traceRows}
+use Rattle.trace.specs.Link.{deviation, within, allFrom, valid, criterion, greatest, farthest, linkError}
+use Rattle.proposed.specs.Proposed.{badAt, listRow, firstInvalid}
+use Rattle.engine.specs.declared.Verdict.the-variants.{Yes, No}
+use Rattle.engine.specs.Judge.{judgeRows, verdictOf, judgeOf}
+
+-- ---- ticks 0 1 3, values 0 1 1: link 0 to 2 has error 2/3; valid at 4/6, invalid at 665/1000
+
+abbrev slopeTicks : List ℕ
+slopeTicks = 0 ∷ 1 ∷ 3 ∷ []
+
+abbrev slopeValues : List ℤ
+slopeValues = pos 0 ∷ pos 1 ∷ pos 1 ∷ []
+
+slope-error : linkError slopeTicks slopeValues 0 2 ≡ over 2 3
+unfolding linkError farthest greatest deviation gcd euclid
+slope-error = refl
+
+slope-valid : valid slopeTicks slopeValues (criterion (over 4 6)) 0 2 ≡ true
+unfolding valid allFrom within deviation
+slope-valid = refl
+
+slope-invalid : valid slopeTicks slopeValues (criterion (over 665 1000)) 0 2 ≡ false
+unfolding valid allFrom within deviation
+slope-invalid = refl
+
+-- so judge passes the list 0 2 at the one, and names link 0 at the other
+slope-passed : judgeOf slopeTicks slopeValues (0 ∷ 2 ∷ []) (Ratio 4 6) ≡ Yes
+unfolding judgeOf judgeRows verdictOf traceRows listRow badAt firstInvalid first firstOf valid allFrom within deviation gcd euclid
+slope-passed = refl
+
+slope-named : judgeOf slopeTicks slopeValues (0 ∷ 2 ∷ []) (Ratio 665 1000) ≡ No 0
+unfolding judgeOf judgeRows verdictOf traceRows listRow badAt firstInvalid first firstOf valid allFrom within deviation gcd euclid
+slope-named = refl
+
+-- ---- ticks 0 1048575 pass; 0 1048576 is 3 at 1; 5 5 is 2 at 1
+
+abbrev flat : List ℤ
+flat = pos 0 ∷ pos 0 ∷ []
+
+span-passes : traceRows 4096 (0 ∷ 1048575 ∷ []) flat ≡ Fine
+unfolding traceRows first firstOf
+span-passes = refl
+
+span-too-long : traceRows 4096 (0 ∷ 1048576 ∷ []) flat ≡ Refused (Span 1)
+unfolding traceRows first firstOf
+span-too-long = refl
+
+tick-not-above : traceRows 4096 (5 ∷ 5 ∷ []) flat ≡ Refused (Tick 1)
+unfolding traceRows first firstOf
+tick-not-above = refl

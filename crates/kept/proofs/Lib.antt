@@ -1,0 +1,3 @@
+-- The laws of the crate `kept`.
+pub mod KeptLaws
+pub mod ErrorLaws

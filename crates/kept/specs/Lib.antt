@@ -1,0 +1,3 @@
+-- The definitions of the crate `kept`.
+pub mod Kept
+pub mod Error

@@ -1,0 +1,20 @@
+-- `kovrelna::kovrelna_hold` meets its contract. Assumes nothing.
+use borrow.Author.Needs.{needs}
+use Rattle.kovrelna.proofs.kovrelna_hold.Statement.{statement}
+use Rattle.kovrelna.proofs.kovrelna_hold.Tie as tie
+
+tolerance-of-requires : tie.Need-tolerance-of-requires
+tolerance-of-requires c κs = search needs
+
+hold-requires : tie.Need-hold-requires
+hold-requires c κs = search needs
+
+held-of-requires : tie.Need-held-of-requires
+held-of-requires c κs = search needs
+
+returns : tie.Need-returns
+returns c = rw (c .held-of .ensures, c .before .hold .ensures .is, c .before .before .tolerance-of .ensures)
+
+pub kovrelna-hold-spec : {M : Type 1} → statement M
+kovrelna-hold-spec =
+    tie.close (tie.spec tolerance-of-requires hold-requires held-of-requires returns)

@@ -1,0 +1,2 @@
+-- The definitions of the crate `kovrelna`.
+pub mod Border

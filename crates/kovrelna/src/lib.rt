@@ -1,0 +1,116 @@
+// The C interface: each export is a public call of `engine`, with numbers and structs for its enums.
+ghost use mathlib.Core.Path.{_≡_};
+ghost use Rattle.tolerance.specs.Meaning.{meaning};
+ghost use Rattle.engine.specs.Hold.{holdingOf};
+ghost use Rattle.engine.specs.Judge.{judgeOf};
+ghost use Rattle.kovrelna.specs.Border.{toleranceOf, heldOf, verdictOf};
+
+// A tolerance: form 0 is the ratio p/q, form 1 is x counts, form 2 is the noise x times the multiple y. No other form is allowed.
+#[repr(C)]
+pub struct Tolerance {
+    pub form: u64,
+    pub p: u64,
+    pub q: u64,
+    pub x: f64,
+    pub y: f64,
+}
+
+// A tolerance in lowest terms under the number 0, or a refusal's number and value.
+#[repr(C)]
+pub struct Held {
+    pub number: u32,
+    pub value: u64,
+    pub p: u64,
+    pub q: u64,
+}
+
+// A verdict under the number 0, with the first invalid link where the list is not passed; or a refusal's number and value.
+#[repr(C)]
+pub struct Verdict {
+    pub number: u32,
+    pub passed: u32,
+    pub value: u64,
+}
+
+// The tolerance that a form gives. The ratio 0/0, which is not allowed, stands for an unknown form.
+fn tolerance_of(t: Tolerance) -> tolerance::Tolerance
+    ensures { λ r. ⌜ r ≡ toleranceOf t ⌝ }
+{
+    let form = t.form;
+    if form == 0 {
+        return tolerance::Tolerance::Ratio(t.p, t.q);
+    }
+    if form == 1 {
+        return tolerance::Tolerance::Counts(t.x);
+    }
+    if form == 2 {
+        let noise = tolerance::Noise {
+            noise: t.x,
+            multiple: t.y,
+        };
+        return tolerance::Tolerance::Noise(noise);
+    }
+    tolerance::Tolerance::Ratio(0, 0)
+}
+
+fn held_of(h: engine::Holding) -> Held
+    ensures { λ r. ⌜ r ≡ heldOf h ⌝ }
+{
+    match h {
+        engine::Holding::Held(r) => Held {
+            number: 0,
+            value: 0,
+            p: r.p,
+            q: r.q,
+        },
+        engine::Holding::Refused(x) => Held {
+            number: refusal::number(x),
+            value: refusal::returned(x) as u64,
+            p: 0,
+            q: 0,
+        },
+    }
+}
+
+fn verdict_of(v: engine::Verdict) -> Verdict
+    ensures { λ r. ⌜ r ≡ verdictOf v ⌝ }
+{
+    match v {
+        engine::Verdict::Yes => Verdict {
+            number: 0,
+            passed: 1,
+            value: 0,
+        },
+        engine::Verdict::No(k) => Verdict {
+            number: 0,
+            passed: 0,
+            value: k as u64,
+        },
+        engine::Verdict::Refused(x) => Verdict {
+            number: refusal::number(x),
+            passed: 0,
+            value: refusal::returned(x) as u64,
+        },
+    }
+}
+
+// The ratio in lowest terms that a tolerance means.
+#[no_mangle]
+pub extern "C" fn kovrelna_hold(t: Tolerance) -> Held
+    ensures { λ r. ⌜ r ≡ heldOf (holdingOf (meaning (toleranceOf t))) ⌝ }
+{
+    held_of(engine::hold::hold(tolerance_of(t)))
+}
+
+// Whether each link of the list is within the tolerance.
+#[no_mangle]
+pub extern "C" fn kovrelna_judge(
+    ticks: &[u32],
+    values: &[i16],
+    list: &[u16],
+    t: Tolerance,
+) -> Verdict
+    ensures { λ r. ⌜ r ≡ verdictOf (judgeOf (now (ticks .entry)) (now (values .entry)) (now (list .entry)) (toleranceOf t)) ⌝ }
+{
+    verdict_of(engine::judge::judge(ticks, values, list, tolerance_of(t)))
+}

@@ -1,0 +1,3 @@
+-- The laws of the crate `lists`.
+pub mod Tests
+pub mod FirstLaws

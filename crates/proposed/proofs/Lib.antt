@@ -1,0 +1,2 @@
+-- The laws of the crate `proposed`.
+pub mod ProposedLaws

@@ -1,0 +1,3 @@
+-- The laws of the crate `ratio`.
+pub mod Laws
+pub mod OrderLaws

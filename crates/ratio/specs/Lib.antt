@@ -1,0 +1,3 @@
+-- The definitions of the crate `ratio`.
+pub mod Gcd
+pub mod Order

@@ -1,0 +1,4 @@
+-- The laws of the crate `tolerance`.
+pub mod Values
+pub mod Meanings
+pub mod Examples
