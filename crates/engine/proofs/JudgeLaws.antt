@@ -12,30 +12,20 @@ use lib.ListN.{length}
 use borrow.Author.Tests.{le-leb, lt-leb, leb-true}
 use Rattle.lists.proofs.FirstLaws.{first-found}
 use Rattle.refusal.specs.declared.Refusal.{Refusal}
-use Rattle.refusal.specs.declared.Refusal.the-variants.{Tolerance as NotAllowedTolerance}
 use Rattle.refusal.specs.declared.Checked.{Checked}
 use Rattle.refusal.specs.declared.Checked.the-variants.{Fine, Refused}
-use Rattle.refusal.specs.Table.{_thenCheck_}
 use Rattle.refusal.proofs.TableLaws.{then-fine}
 use Rattle.kept.specs.Kept.{KeptList, AllValid}
 use Rattle.tolerance.specs.declared.Tolerance.{Tolerance}
-use Rattle.tolerance.specs.declared.Meaning.the-variants.{Exact, NotAllowed}
-use Rattle.tolerance.specs.Meaning.{meaning, Held}
 use Rattle.trace.specs.declared.Criterion.{Criterion}
-use Rattle.trace.specs.Trace.{Trace, traceRows}
-use Rattle.trace.specs.Link.{criterion, valid, Bounded}
-use Rattle.trace.proofs.TraceLaws.{rows-trace}
+use Rattle.trace.specs.Link.{valid}
 use Rattle.proposed.specs.Proposed.{listRow, invalidAt, firstInvalid}
 use Rattle.proposed.proofs.ProposedLaws.{row-kept, all-valid}
-use Rattle.ratio.specs.declared.Ratio.{Ratio}
 use Rattle.engine.specs.declared.Verdict.{Verdict}
 use Rattle.engine.specs.declared.Verdict.the-variants.{Yes, No, Refused as Declined}
-use Rattle.engine.specs.Hold.{toleranceRow}
-use Rattle.engine.specs.Judge.{criterionOf, judgeRows, verdictOf, declineOr, judgeOf, judgedAt, judgedBy, JudgeOutcome}
-
--- a held tolerance is a criterion within its bounds
-pub held-bounded : {r : Ratio} → Held r → Bounded (criterion r)
-held-bounded h = record { positive = h .positive; q-bound = h .q-bound; p-bound = h .p-bound }
+use Rattle.engine.specs.Prepare.{commonRows, criterionOf}
+use Rattle.engine.specs.Judge.{judgeRows, verdictOf, declineOr, judgeOf, judgedAt, JudgeOutcome}
+use Rattle.engine.proofs.PrepareLaws.{common-trace}
 
 -- ---- the verdict
 
@@ -75,37 +65,28 @@ module _ (ts : List ℕ) (vs : List ℤ) (l : List ℕ) where
   unfolding judgedAt
   list-refused c h = rw h
 
-  pub tolerance-fine : (t : Tolerance) {r : Ratio} → meaning t ≡ Exact r → judgedAt ts vs l (criterion r) ≡ judgedBy ts vs l t
-  unfolding judgedBy judgedAt
-  tolerance-fine t h = rw h
+  pub common-fine : (t : Tolerance) → commonRows ts vs t ≡ Fine → judgedAt ts vs l (criterionOf t) ≡ judgeOf ts vs l t
+  unfolding judgeOf judgeRows judgedAt
+  common-fine t h = rw h
 
-  pub tolerance-refused : (t : Tolerance) → meaning t ≡ NotAllowed → Declined NotAllowedTolerance ≡ judgedBy ts vs l t
-  unfolding judgedBy
-  tolerance-refused t h = rw h
-
-  pub trace-fine : (t : Tolerance) → traceRows 4096 ts vs ≡ Fine → judgedBy ts vs l t ≡ judgeOf ts vs l t
-  unfolding judgeOf judgeRows judgedBy
-  trace-fine t h = rw h
-
-  pub trace-refused : (t : Tolerance) {x : Refusal} → traceRows 4096 ts vs ≡ Refused x → Declined x ≡ judgeOf ts vs l t
+  pub common-refused : (t : Tolerance) {x : Refusal} → commonRows ts vs t ≡ Refused x → Declined x ≡ judgeOf ts vs l t
   unfolding judgeOf judgeRows
-  trace-refused t h = rw h
+  common-refused t h = rw h
 
   -- what the rows say of a list that none of them refuses
   pub rows-kept : (t : Tolerance) → judgeRows ts vs l t ≡ Fine → KeptList (length ts - 1) l
   unfolding judgeRows
   rows-kept t h =
-      let a = then-fine (traceRows 4096 ts vs) _ h in
-      let b = then-fine (toleranceRow (meaning t)) _ (a .1) in
-      row-kept (rows-trace 4096 ts vs (omega arith) (a .0) .0 .some) l .0 (b .1)
+      let a = then-fine (commonRows ts vs t) _ h in
+      row-kept (common-trace ts vs t (a .0) .some) l .0 (a .1)
 
   -- demand 2: a list is passed exactly if each of its links is within the tolerance
-  pub judge-passes : (t : Tolerance) → judgeOf ts vs l t ≡ Yes ↔ (judgeRows ts vs l t ≡ Fine) × KeptList (length ts - 1) l × AllValid (valid ts vs (criterionOf (meaning t))) l
+  pub judge-passes : (t : Tolerance) → judgeOf ts vs l t ≡ Yes ↔ (judgeRows ts vs l t ≡ Fine) × KeptList (length ts - 1) l × AllValid (valid ts vs (criterionOf t)) l
   unfolding judgeOf
   judge-passes t = (
     λ e. let d = decline-fine {x = judgeRows ts vs l t} e in
-        (d .0, rows-kept t (d .0), all-valid ts vs (criterionOf (meaning t)) l .0 (yes-verdict ts vs l (criterionOf (meaning t)) (d .1))),
-    λ h. rw (h .0) (verdict-yes ts vs l (criterionOf (meaning t)) (all-valid ts vs (criterionOf (meaning t)) l .1 (h .2))),
+        (d .0, rows-kept t (d .0), all-valid ts vs (criterionOf t) l .0 (yes-verdict ts vs l (criterionOf t) (d .1))),
+    λ h. rw (h .0) (verdict-yes ts vs l (criterionOf t) (all-valid ts vs (criterionOf t) l .1 (h .2))),
   )
 
 -- the contract, from the answer

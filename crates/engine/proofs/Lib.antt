@@ -1,3 +1,4 @@
 -- The laws of the public calls' definitions.
 pub mod HoldLaws
+pub mod PrepareLaws
 pub mod JudgeLaws

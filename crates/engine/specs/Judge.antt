@@ -12,30 +12,20 @@ use Prim.Native.Nat.{ℕ, _-_}
 use lib.Dec.{leb}
 use lib.IntN.{ℤ}
 use lib.ListN.{length}
-use Rattle.ratio.specs.Order.{over}
 use Rattle.refusal.specs.declared.Checked.{Checked}
 use Rattle.refusal.specs.declared.Checked.the-variants.{Fine, Refused}
 use Rattle.refusal.specs.Table.{_thenCheck_}
 use Rattle.kept.specs.Kept.{KeptList, AllValid}
 use Rattle.tolerance.specs.declared.Tolerance.{Tolerance}
-use Rattle.tolerance.specs.declared.Meaning.{Meaning}
-use Rattle.tolerance.specs.declared.Meaning.the-variants.{Exact, NotAllowed}
-use Rattle.tolerance.specs.Meaning.{meaning}
 use Rattle.trace.specs.declared.Criterion.{Criterion}
-use Rattle.trace.specs.Trace.{traceRows}
-use Rattle.trace.specs.Link.{criterion, valid}
+use Rattle.trace.specs.Link.{valid}
 use Rattle.proposed.specs.Proposed.{listRow, firstInvalid}
 use Rattle.engine.specs.declared.Verdict.{Verdict}
 use Rattle.engine.specs.declared.Verdict.the-variants.{Yes, No, Refused as Declined}
-use Rattle.engine.specs.Hold.{toleranceRow}
-
--- the criterion that a tolerance sets; 0 where it is not allowed, which no answer depends on
-abbrev pub criterionOf : Meaning → Criterion
-criterionOf (Exact r) = criterion r
-criterionOf NotAllowed = criterion (over 0 1)
+use Rattle.engine.specs.Prepare.{commonRows, criterionOf}
 
 unfoldable pub judgeRows : List ℕ → List ℤ → List ℕ → Tolerance → Checked
-judgeRows ts vs l t = traceRows 4096 ts vs thenCheck toleranceRow (meaning t) thenCheck listRow (length ts) l
+judgeRows ts vs l t = commonRows ts vs t thenCheck listRow (length ts) l
 
 -- links are counted from 0
 unfoldable pub verdictOf : List ℕ → List ℤ → List ℕ → Criterion → Verdict
@@ -47,16 +37,13 @@ declineOr Fine v = v
 declineOr (Refused x) v = Declined x
 
 unfoldable pub judgeOf : List ℕ → List ℤ → List ℕ → Tolerance → Verdict
-judgeOf ts vs l t = declineOr (judgeRows ts vs l t) (verdictOf ts vs l (criterionOf (meaning t)))
+judgeOf ts vs l t = declineOr (judgeRows ts vs l t) (verdictOf ts vs l (criterionOf t))
 
 -- A list that row 6 does not refuse is a kept list, and it is passed exactly if each of its links is within the tolerance (demand 2).
 pub record JudgeOutcome (ts : List ℕ) (vs : List ℤ) (l : List ℕ) (t : Tolerance) (r : Verdict) : Type 0 where
   pub is : r ≡ judgeOf ts vs l t
-  pub passed : r ≡ Yes ↔ (judgeRows ts vs l t ≡ Fine) × KeptList (length ts - 1) l × AllValid (valid ts vs (criterionOf (meaning t))) l
+  pub passed : r ≡ Yes ↔ (judgeRows ts vs l t ≡ Fine) × KeptList (length ts - 1) l × AllValid (valid ts vs (criterionOf t)) l
 
--- the answer where the trace passes, and where the tolerance does too
+-- the answer where the checks 1 to 4 pass
 unfoldable pub judgedAt : List ℕ → List ℤ → List ℕ → Criterion → Verdict
 judgedAt ts vs l c = declineOr (listRow (length ts) l) (verdictOf ts vs l c)
-
-unfoldable pub judgedBy : List ℕ → List ℤ → List ℕ → Tolerance → Verdict
-judgedBy ts vs l t = declineOr (toleranceRow (meaning t) thenCheck listRow (length ts) l) (verdictOf ts vs l (criterionOf (meaning t)))

@@ -1,3 +1,4 @@
 -- The outcomes of the public calls.
 pub mod Hold
+pub mod Prepare
 pub mod Judge

@@ -3,15 +3,13 @@ ghost use mathlib.Core.Path.{_≡_};
 ghost use Prim.Native.Nat.{_-_};
 ghost use lib.ListN.{length};
 ghost use Rattle.kept.specs.Kept.{KeptList};
-ghost use Rattle.tolerance.specs.Meaning.{Held};
 ghost use Rattle.trace.specs.Trace.{Trace};
-ghost use Rattle.trace.specs.Link.{criterion, Bounded};
-ghost use Rattle.engine.specs.Judge.{verdictOf, judgedAt, judgedBy, JudgeOutcome};
+ghost use Rattle.trace.specs.Link.{Bounded};
+ghost use Rattle.engine.specs.Judge.{verdictOf, judgedAt, JudgeOutcome};
+use crate::Ready;
 use crate::Verdict;
-use ratio::Ratio;
+use crate::prepare::prepare;
 use refusal::Checked;
-use refusal::Refusal;
-use tolerance::Meaning;
 use tolerance::Tolerance;
 use trace::Criterion;
 
@@ -27,27 +25,15 @@ fn verdict(ticks: &[u32], values: &[i16], list: &[u16], c: Criterion) -> Verdict
     Verdict::No(k)
 }
 
-// The answer at the held tolerance r.
-fn judge_at(ticks: &[u32], values: &[i16], list: &[u16], r: Ratio) -> Verdict
-    requires { ⌜ Trace (now ticks) (now values) × Held r ⌝ }
-    ensures { λ v. ⌜ v ≡ judgedAt (now (ticks .entry)) (now (values .entry)) (now (list .entry)) (criterion r) ⌝ }
+// The answer where the checks 1 to 4 pass.
+fn judge_at(ticks: &[u32], values: &[i16], list: &[u16], c: Criterion) -> Verdict
+    requires { ⌜ Trace (now ticks) (now values) × Bounded c ⌝ }
+    ensures { λ r. ⌜ r ≡ judgedAt (now (ticks .entry)) (now (values .entry)) (now (list .entry)) c ⌝ }
 {
     let checked = proposed::check(list, ticks.len());
     match checked {
-        Checked::Fine => verdict(ticks, values, list, Criterion { p: r.p, q: r.q }),
+        Checked::Fine => verdict(ticks, values, list, c),
         Checked::Refused(x) => Verdict::Refused(x),
-    }
-}
-
-// The answer on a trace.
-fn judge_trace(ticks: &[u32], values: &[i16], list: &[u16], t: Tolerance) -> Verdict
-    requires { ⌜ Trace (now ticks) (now values) ⌝ }
-    ensures { λ r. ⌜ r ≡ judgedBy (now (ticks .entry)) (now (values .entry)) (now (list .entry)) t ⌝ }
-{
-    let m = tolerance::meaning_of(t);
-    match m {
-        Meaning::Exact(r) => judge_at(ticks, values, list, r),
-        Meaning::NotAllowed => Verdict::Refused(Refusal::Tolerance),
     }
 }
 
@@ -55,9 +41,9 @@ fn judge_trace(ticks: &[u32], values: &[i16], list: &[u16], t: Tolerance) -> Ver
 pub fn judge(ticks: &[u32], values: &[i16], list: &[u16], t: Tolerance) -> Verdict
     ensures { λ r. ⌜ JudgeOutcome (now (ticks .entry)) (now (values .entry)) (now (list .entry)) t r ⌝ }
 {
-    let checked = trace::limits::check(ticks, values, 4096);
-    match checked {
-        Checked::Fine => judge_trace(ticks, values, list, t),
-        Checked::Refused(x) => Verdict::Refused(x),
+    let ready = prepare(ticks, values, t);
+    match ready {
+        Ready::At(c) => judge_at(ticks, values, list, c),
+        Ready::Refused(x) => Verdict::Refused(x),
     }
 }

@@ -1,10 +1,17 @@
 // The public calls. None has a requirement: each states its outcome for every input, and declines by the table of document 01.
 use ratio::Ratio;
 use refusal::Refusal;
+use trace::Criterion;
 
 // What `hold` answers: the tolerance in lowest terms, or a refusal.
 pub enum Holding {
     Held(Ratio),
+    Refused(Refusal),
+}
+
+// What the checks of a trace and a tolerance find: the criterion that the tolerance sets, or a refusal.
+pub enum Ready {
+    At(Criterion),
     Refused(Refusal),
 }
 
@@ -17,3 +24,4 @@ pub enum Verdict {
 
 pub mod hold;
 pub mod judge;
+mod prepare;

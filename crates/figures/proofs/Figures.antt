@@ -15,6 +15,7 @@ use Rattle.trace.specs.Trace.{traceRows}
 use Rattle.trace.specs.Link.{deviation, within, allFrom, valid, criterion, greatest, farthest, linkError}
 use Rattle.proposed.specs.Proposed.{badAt, listRow, firstInvalid}
 use Rattle.engine.specs.declared.Verdict.the-variants.{Yes, No}
+use Rattle.engine.specs.Prepare.{commonRows, criterionOf}
 use Rattle.engine.specs.Judge.{judgeRows, verdictOf, judgeOf}
 
 -- ---- ticks 0 1 3, values 0 1 1: link 0 to 2 has error 2/3; valid at 4/6, invalid at 665/1000
@@ -39,11 +40,11 @@ slope-invalid = refl
 
 -- so judge passes the list 0 2 at the one, and names link 0 at the other
 slope-passed : judgeOf slopeTicks slopeValues (0 ∷ 2 ∷ []) (Ratio 4 6) ≡ Yes
-unfolding judgeOf judgeRows verdictOf traceRows listRow badAt firstInvalid first firstOf valid allFrom within deviation gcd euclid
+unfolding judgeOf judgeRows commonRows criterionOf verdictOf traceRows listRow badAt firstInvalid first firstOf valid allFrom within deviation gcd euclid
 slope-passed = refl
 
 slope-named : judgeOf slopeTicks slopeValues (0 ∷ 2 ∷ []) (Ratio 665 1000) ≡ No 0
-unfolding judgeOf judgeRows verdictOf traceRows listRow badAt firstInvalid first firstOf valid allFrom within deviation gcd euclid
+unfolding judgeOf judgeRows commonRows criterionOf verdictOf traceRows listRow badAt firstInvalid first firstOf valid allFrom within deviation gcd euclid
 slope-named = refl
 
 -- ---- ticks 0 1048575 pass; 0 1048576 is 3 at 1; 5 5 is 2 at 1

@@ -1,39 +1,55 @@
 -- `engine::judge::judge` meets its contract. Assumes nothing.
-use mathlib.Core.Path.{sym, _∙_}
-use native.Mathlib.Omega.{arith}
-use Rattle.trace.proofs.TraceLaws.{rows-trace}
-use Rattle.engine.proofs.JudgeLaws.{trace-fine, trace-refused, judge-outcome}
 use borrow.Author.Needs.{needs}
+use mathlib.Core.Path.{sym, subst, ap, _∙_}
+use Rattle.trace.specs.declared.Criterion.{Criterion}
+use Rattle.engine.specs.Prepare.{Prepared, ReadyAt}
+use Rattle.engine.specs.Judge.{judgedAt}
+use Rattle.engine.proofs.JudgeLaws.{common-fine, common-refused, judge-outcome}
 use Rattle.engine.proofs.judge.judge.Statement.{statement}
 use Rattle.engine.proofs.judge.judge.Tie as tie
 
-check-requires : tie.Need-check-requires
-check-requires c κs = search needs
+prepare-requires : tie.Need-prepare-requires
+prepare-requires c κs = search needs
 
-enum-told : tie.Need-enum-told
-enum-told c = search needs
+enum-known-ready : tie.Need-enum-known-ready
+enum-known-ready c = search needs
 
-judge-trace-requires : tie.Need-judge-trace-requires
-judge-trace-requires c κs =
+-- what the checks give where they pass
+ready : (c : tie.After-ready) → let a = c .before .before .before .before .before .args in
+    ReadyAt (a .ticks .now) (a .values .now) (a .t) (c .ready .given .0 .0)
+ready c =
     let a = c .before .before .before .before .before .args in
-    rows-trace 4096 (a .ticks .now) (a .values .now) (omega arith) (sym (c .before .before .check .ensures) ∙ c .enum-told .given .1) .0
+    subst (Prepared (a .ticks .now) (a .values .now) (a .t)) (c .ready .given .1) (c .before .before .prepare .ensures)
 
-enum-known-checked : tie.Need-enum-known-checked
-enum-known-checked c = search needs
+judge-at-requires : tie.Need-judge-at-requires
+judge-at-requires c κs =
+    let r = ready (c .before) in
+    (r .trace, r .bounded)
+
+enum-known-ready-2 : tie.Need-enum-known-ready-2
+enum-known-ready-2 c = search needs
 
 returns : tie.Need-returns
 returns c =
-    let a = c .before .before .before .before .before .before .args in
+    let r = ready (c .before .before) in
+    let a = c .before .before .before .before .before .before .before .args in
     judge-outcome (a .ticks .now) (a .values .now) (a .list .now) (a .t)
-    (c .judge-trace .ensures ∙ trace-fine (a .ticks .now) (a .values .now) (a .list .now) (a .t) (sym (c .before .before .before .check .ensures) ∙ c .before .enum-told .given .1))
+    (c .judge-at .ensures ∙ ap (λ (x : Criterion). judgedAt (a .ticks .now) (a .values .now) (a .list .now) x) (r .is) ∙ common-fine (a .ticks .now) (a .values .now) (a .list .now) (a .t) (r .rows))
 
 returns-2 : tie.Need-returns-2
 returns-2 c =
     let a = c .before .before .before .before .before .before .args in
     judge-outcome (a .ticks .now) (a .values .now) (a .list .now) (a .t)
-    (trace-refused (a .ticks .now) (a .values .now) (a .list .now) (a .t) (sym (c .before .before .before .check .ensures) ∙ c .before .checked .given .1))
+    (common-refused (a .ticks .now) (a .values .now) (a .list .now) (a .t)
+    (subst (Prepared (a .ticks .now) (a .values .now) (a .t)) (c .before .ready2 .given .1) (c .before .before .before .prepare .ensures)))
 
 pub judge-spec : {M : Type 1} → statement M
 judge-spec =
     tie.close
-    (tie.spec check-requires enum-told judge-trace-requires enum-known-checked returns returns-2)
+    (tie.spec
+    prepare-requires
+    enum-known-ready
+    judge-at-requires
+    enum-known-ready-2
+    returns
+    returns-2)

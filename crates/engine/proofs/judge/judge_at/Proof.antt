@@ -1,8 +1,7 @@
 -- `engine::judge::judge_at` meets its contract. Assumes nothing.
 use mathlib.Core.Path.{sym, _∙_}
-use Rattle.trace.specs.Link.{criterion}
 use Rattle.proposed.proofs.ProposedLaws.{row-kept}
-use Rattle.engine.proofs.JudgeLaws.{held-bounded, list-fine, list-refused}
+use Rattle.engine.proofs.JudgeLaws.{list-fine, list-refused}
 use borrow.Author.Needs.{needs}
 use Rattle.engine.proofs.judge.judge_at.Statement.{statement}
 use Rattle.engine.proofs.judge.judge_at.Tie as tie
@@ -16,7 +15,7 @@ enum-told c = search needs
 verdict-requires : tie.Need-verdict-requires
 verdict-requires c κs =
     let pre = c .before .before .before .before .before .pre in
-    (pre .0, held-bounded (pre .1), row-kept (pre .0 .some) _ .0 (sym (c .before .before .check .ensures) ∙ c .enum-told .given .1))
+    (pre .0, pre .1, row-kept (pre .0 .some) _ .0 (sym (c .before .before .check .ensures) ∙ c .enum-told .given .1))
 
 enum-known-checked : tie.Need-enum-known-checked
 enum-known-checked c = search needs
@@ -24,12 +23,12 @@ enum-known-checked c = search needs
 returns : tie.Need-returns
 returns c =
     let a = c .before .before .before .before .before .before .args in
-    c .verdict .ensures ∙ list-fine (a .ticks .now) (a .values .now) (a .list .now) (criterion (a .r)) (sym (c .before .before .before .check .ensures) ∙ c .before .enum-told .given .1)
+    c .verdict .ensures ∙ list-fine (a .ticks .now) (a .values .now) (a .list .now) (a .c) (sym (c .before .before .before .check .ensures) ∙ c .before .enum-told .given .1)
 
 returns-2 : tie.Need-returns-2
 returns-2 c =
     let a = c .before .before .before .before .before .before .args in
-    list-refused (a .ticks .now) (a .values .now) (a .list .now) (criterion (a .r)) (sym (c .before .before .before .check .ensures) ∙ c .before .checked .given .1)
+    list-refused (a .ticks .now) (a .values .now) (a .list .now) (a .c) (sym (c .before .before .before .check .ensures) ∙ c .before .checked .given .1)
 
 pub judge-at-spec : {M : Type 1} → statement M
 judge-at-spec =

@@ -1,0 +1,48 @@
+-- Laws of the checks 1 to 4.
+-- Assumes nothing.
+use mathlib.Core.Path.{_≡_, refl, sym, _∙_}
+use mathlib.Core.List.{List}
+use Prim.Native.Nat.{ℕ}
+use native.Mathlib.Omega.{arith}
+use lib.IntN.{ℤ}
+use Rattle.ratio.specs.declared.Ratio.{Ratio}
+use Rattle.refusal.specs.declared.Refusal.{Refusal}
+use Rattle.refusal.specs.declared.Refusal.the-variants.{Tolerance as NotAllowedTolerance}
+use Rattle.refusal.specs.declared.Checked.the-variants.{Fine, Refused}
+use Rattle.refusal.proofs.TableLaws.{then-fine}
+use Rattle.tolerance.specs.declared.Tolerance.{Tolerance}
+use Rattle.tolerance.specs.declared.Meaning.the-variants.{Exact, NotAllowed}
+use Rattle.tolerance.specs.Meaning.{meaning}
+use Rattle.tolerance.proofs.Meanings.{exact-held}
+use Rattle.trace.specs.declared.Criterion.{Criterion}
+use Rattle.trace.specs.Trace.{Trace, traceRows}
+use Rattle.trace.specs.Link.{criterion, Bounded}
+use Rattle.trace.proofs.TraceLaws.{rows-trace}
+use Rattle.engine.specs.declared.Ready.{Ready}
+use Rattle.engine.specs.declared.Ready.the-variants.{At, Refused as Declined}
+use Rattle.engine.specs.Hold.{toleranceRow}
+use Rattle.engine.specs.Prepare.{commonRows, criterionIn, criterionOf, Sets, Allowed, Prepared}
+
+-- an allowed tolerance sets the criterion of its ratio, within the bounds of an allowed one
+pub exact-sets : (t : Tolerance) {r : Ratio} → meaning t ≡ Exact r → Sets t (criterion r)
+unfolding criterionOf criterionIn
+exact-sets t {r} e =
+    let h = exact-held t r e in
+    record { row = rw e; is = rw e; bounded = record { positive = h .positive; q-bound = h .q-bound; p-bound = h .p-bound } }
+
+pub not-allowed : (t : Tolerance) → meaning t ≡ NotAllowed → toleranceRow (meaning t) ≡ Refused NotAllowedTolerance
+not-allowed t e = rw e
+
+pub common-trace : (ts : List ℕ) (vs : List ℤ) (t : Tolerance) → commonRows ts vs t ≡ Fine → Trace ts vs
+unfolding commonRows
+common-trace ts vs t e = rows-trace 4096 ts vs (omega arith) (then-fine (traceRows 4096 ts vs) _ e .0) .0
+
+-- the tolerance is asked where the trace passes
+pub trace-fine : (ts : List ℕ) (vs : List ℤ) (t : Tolerance) (r : Ready) → traceRows 4096 ts vs ≡ Fine → Allowed t r → Prepared ts vs t r
+unfolding commonRows
+trace-fine ts vs t (At c) e a = record { rows = rw e (a .row); trace = rows-trace 4096 ts vs (omega arith) e .0; is = a .is; bounded = a .bounded }
+trace-fine ts vs t (Declined x) e a = rw e a
+
+pub trace-refused : (ts : List ℕ) (vs : List ℤ) (t : Tolerance) {x : Refusal} → traceRows 4096 ts vs ≡ Refused x → commonRows ts vs t ≡ Refused x
+unfolding commonRows
+trace-refused ts vs t e = rw e
