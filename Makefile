@@ -4,7 +4,9 @@ CARGO = cargo --quiet
 CARGO_FLAGS = --offline --locked --manifest-path bindings/rust/Cargo.toml
 C_FLAGS = -O2 -Wall -Wextra -Wpedantic -Werror -Ibindings/c
 
-.PHONY: lib example test test-rust test-c
+BENCH_FLAGS = -O3
+
+.PHONY: lib example test test-rust test-c bench
 
 # Prove the library and write the archive that programs link.
 lib:
@@ -32,3 +34,9 @@ test-c:
 	@$(CC) -std=c99 $(C_FLAGS) bindings/c/test.c $(ARCHIVE) -o target/test-c && target/test-c
 	@if command -v $(CXX) >/dev/null; then \
 	$(CXX) -x c++ -std=c++11 $(C_FLAGS) bindings/c/test.c -x none $(ARCHIVE) -o target/test-c++ && target/test-c++; fi
+
+# Time the reductions beside plain C; count instructions where valgrind is present.
+bench: lib
+	@$(CC) -std=c99 $(C_FLAGS) $(BENCH_FLAGS) -DFLAGS='"$(CC) $(BENCH_FLAGS)"' bench/bench.c bench/peers.c $(ARCHIVE) -o target/bench
+	@target/bench
+	@bench/instructions.sh target/bench

@@ -1,6 +1,6 @@
 /* Kovrelna: reduced traces. For C and C++; link with libkovrelna.a (x86-64, System V ABI).
  *
- * Contents, in order: refusals; tolerances; lists.
+ * Contents, in order: refusals; tolerances; lists; reductions.
  *
  * A trace is two lists of equal length: ticks and values (ADC counts). It has 1 to 4,096 samples,
  * numbered from 0. Ticks rise strictly; the last minus the first is at most 1,048,575.
@@ -15,8 +15,9 @@
  *
  * For every call:
  * - A list is passed as a pointer to its first element, then the number of elements. The pointer is
- *   aligned for its element and valid for that many elements. Of an empty list the pointer is not
- *   read and may be null.
+ *   aligned for its element and valid for that many elements. Of an empty list nothing is read or
+ *   written, and the pointer may be null.
+ * - An output overlaps no other list. All other lists are only read.
  * - Any content is allowed: what does not fit is refused with a number, as listed below.
  * - Nothing is allocated and nothing is kept after the call returns. There is no global state: calls
  *   may run at the same time on any threads.
@@ -129,12 +130,52 @@ typedef struct kovrelna_verdict {
   uint64_t value;
 } kovrelna_verdict;
 
-/* Whether every link of the proposed list is valid on this trace. Refusals: 1, 2, 3, 4, 6. The
- * three lists are only read. */
+/* Whether every link of the proposed list is valid on this trace. Refusals: 1, 2, 3, 4, 6. */
 kovrelna_verdict kovrelna_judge(const uint32_t *ticks, size_t ticks_len,
                                 const int16_t *values, size_t values_len,
                                 const uint16_t *list, size_t list_len,
                                 kovrelna_tolerance tolerance);
+
+/* ---- Reductions ----
+ *
+ * Each finds a kept list of the trace with every link valid. Refusals: 1, 2, 3, 4, 10. The output
+ * needs as many entries as the trace has samples, however many are kept; 10 returns that number.
+ *
+ * The lists of walk and gallop have at most as many samples as any kept list whose links are all
+ * valid at half the tolerance.
+ */
+
+/* number 0: value is the kept number, and the first that many entries of out are the kept list; the
+ * entries after them are as they were.
+ * Otherwise: the refusal's number and value; out is as it was. */
+typedef struct kovrelna_kept {
+  uint32_t number;
+  uint64_t value;
+} kovrelna_kept;
+
+/* The same, with the probe total; probes is 0 with a refusal. */
+typedef struct kovrelna_galloped {
+  uint32_t number;
+  uint64_t value;
+  uint64_t probes;
+} kovrelna_galloped;
+
+/* From sample i, beginning with 0, tests the links to i+1, i+2, ... and keeps the sample before the
+ * first invalid one, or the last sample if none is invalid; goes on from there. */
+kovrelna_kept kovrelna_walk(const uint32_t *ticks, size_t ticks_len,
+                            const int16_t *values, size_t values_len,
+                            kovrelna_tolerance tolerance,
+                            uint16_t *out, size_t out_len);
+
+/* From sample i, beginning with 0, probes the links to i+2, i+4, i+8, ... until one is invalid. Low
+ * is the last valid offset, or 1; high is the invalid one. While low < high - 1, probes the offset
+ * (low + high) / 2, rounded down, and moves low there if that link is valid, high if not. Keeps
+ * sample i + low and goes on from there. A probe past the last sample is invalid, and counts. A
+ * stop that advances by r samples takes at most 2 floor(log2 r) + 1 probes. */
+kovrelna_galloped kovrelna_gallop(const uint32_t *ticks, size_t ticks_len,
+                                  const int16_t *values, size_t values_len,
+                                  kovrelna_tolerance tolerance,
+                                  uint16_t *out, size_t out_len);
 
 #ifdef __cplusplus
 }

@@ -64,6 +64,66 @@ static void judge(int line, const uint32_t *ticks, size_t ticks_len, const int16
   judge(__LINE__, ticks, COUNT(ticks), values, COUNT(values), list, COUNT(list), tolerance,       \
         number, passed, value)
 
+enum method { WALK, GALLOP };
+
+/* The method's answer in one shape: walk counts no probes. */
+static kovrelna_galloped call(enum method method, const uint32_t *ticks, size_t ticks_len,
+                              const int16_t *values, size_t values_len,
+                              kovrelna_tolerance tolerance, uint16_t *out, size_t out_len) {
+  kovrelna_galloped answer = {0, 0, 0};
+  kovrelna_kept kept;
+  if (method == GALLOP)
+    return kovrelna_gallop(ticks, ticks_len, values, values_len, tolerance, out, out_len);
+  kept = kovrelna_walk(ticks, ticks_len, values, values_len, tolerance, out, out_len);
+  answer.number = kept.number;
+  answer.value = kept.value;
+  return answer;
+}
+
+/* The method answers with this number, value and probes; with number 0 the output then begins with
+ * the list, which has `value` entries. No other entry changes, in the output or beside it. An empty
+ * output has no pointer. */
+static void reduce(int line, enum method method, const uint32_t *ticks, size_t ticks_len,
+                   const int16_t *values, size_t values_len, kovrelna_tolerance tolerance,
+                   size_t out_len, uint32_t number, uint64_t value, uint64_t probes,
+                   const uint16_t *list) {
+  enum { GUARD = 2, ENTRIES = 16 };
+  unsigned char ticks_copy[ROOM], values_copy[ROOM];
+  uint16_t out[ENTRIES], expected[ENTRIES];
+  size_t ticks_size = ticks_len * sizeof(uint32_t), values_size = values_len * sizeof(int16_t), k;
+  kovrelna_galloped answer;
+  keep(ticks_copy, ticks, ticks_size);
+  keep(values_copy, values, values_size);
+  for (k = 0; k < ENTRIES; k++) out[k] = expected[k] = (uint16_t)(60000 + k);
+  if (number == 0) memcpy(expected + GUARD, list, (size_t)value * sizeof(uint16_t));
+  answer = call(method, ticks, ticks_len, values, values_len, tolerance,
+                out_len == 0 ? NULL : out + GUARD, out_len);
+  differ(line, "number", answer.number, number);
+  differ(line, "value", answer.value, value);
+  differ(line, "probes", answer.probes, probes);
+  for (k = 0; k < ENTRIES; k++) differ(line, "an entry", out[k], expected[k]);
+  unchanged(line, "change of ticks", ticks_copy, ticks, ticks_size);
+  unchanged(line, "change of values", values_copy, values, values_size);
+}
+
+#define REDUCE(method, ticks, values, tolerance, out_len, probes, list)                           \
+  reduce(__LINE__, method, ticks, COUNT(ticks), values, COUNT(values), tolerance, out_len, 0,     \
+         COUNT(list), probes, list)
+
+/* Every method refuses so, with 0 probes. */
+static void refuse(int line, const uint32_t *ticks, size_t ticks_len, const int16_t *values,
+                   size_t values_len, kovrelna_tolerance tolerance, size_t out_len,
+                   uint32_t number, uint64_t value) {
+  const enum method methods[] = {WALK, GALLOP};
+  size_t m;
+  for (m = 0; m < COUNT(methods); m++)
+    reduce(line, methods[m], ticks, ticks_len, values, values_len, tolerance, out_len, number,
+           value, 0, NULL);
+}
+
+#define REFUSE(ticks, values, tolerance, out_len, number, value)                                  \
+  refuse(__LINE__, ticks, COUNT(ticks), values, COUNT(values), tolerance, out_len, number, value)
+
 static void tolerances(void) {
   kovrelna_tolerance other = {3, 1, 1, 1.0, 1.0};
   kovrelna_tolerance ratio = {KOVRELNA_FORM_RATIO, 4, 6, (double)NAN, -1.0};
@@ -124,6 +184,36 @@ static void lists(void) {
   JUDGE(uneven, step, pair, kovrelna_ratio(665, 1000), 0, 0, 0);
 }
 
+static void reductions(void) {
+  const uint32_t even[] = {0, 1, 2, 3, 4}, uneven[] = {0, 1, 3};
+  const int16_t zigzag[] = {0, 3, 0, 3, 0}, wave[] = {0, 2, 0, -2, 0}, bend[] = {0, 0, 0, 5, 10},
+                step[] = {0, 1, 1};
+  const uint16_t all[] = {0, 1, 2, 3, 4}, ends[] = {0, 4}, middle[] = {0, 2, 4}, pair[] = {0, 2},
+                 three[] = {0, 1, 2}, two[] = {0, 1}, one[] = {0};
+  size_t out_len;
+
+  /* The output is as long as the trace, or longer. */
+  for (out_len = 5; out_len <= 9; out_len++) {
+    REDUCE(WALK, even, zigzag, kovrelna_ratio(2, 1), out_len, 0, all);
+    REDUCE(GALLOP, even, zigzag, kovrelna_ratio(2, 1), out_len, 4, all);
+    REDUCE(WALK, even, zigzag, kovrelna_counts(3.0), out_len, 0, ends);
+    REDUCE(GALLOP, even, zigzag, kovrelna_counts(3.0), out_len, 5, ends);
+    REDUCE(WALK, even, wave, kovrelna_noise(0.5, 4.0), out_len, 0, middle);
+    REDUCE(GALLOP, even, wave, kovrelna_noise(0.5, 4.0), out_len, 5, ends);
+    REDUCE(WALK, even, bend, kovrelna_ratio(0, 1), out_len, 0, middle);
+    REDUCE(GALLOP, even, bend, kovrelna_ratio(0, 1), out_len, 6, middle);
+  }
+  REDUCE(WALK, uneven, step, kovrelna_ratio(4, 6), 3, 0, pair);
+  REDUCE(GALLOP, uneven, step, kovrelna_ratio(4, 6), 3, 3, pair);
+  REDUCE(WALK, uneven, step, kovrelna_ratio(665, 1000), 3, 0, three);
+  REDUCE(GALLOP, uneven, step, kovrelna_ratio(665, 1000), 3, 2, three);
+  /* Two samples, and one. */
+  reduce(__LINE__, WALK, even, 2, zigzag, 2, kovrelna_ratio(0, 1), 2, 0, 2, 0, two);
+  reduce(__LINE__, GALLOP, even, 2, zigzag, 2, kovrelna_ratio(0, 1), 2, 0, 2, 1, two);
+  reduce(__LINE__, WALK, even, 1, zigzag, 1, kovrelna_ratio(0, 1), 1, 0, 1, 0, one);
+  reduce(__LINE__, GALLOP, even, 1, zigzag, 1, kovrelna_ratio(0, 1), 1, 0, 1, 0, one);
+}
+
 static void refusals(void) {
   const uint32_t even[] = {0, 1, 2, 3, 4}, whole[] = {0, 1048575}, beyond[] = {0, 1048576},
                  equal[] = {5, 5}, high[] = {UINT32_MAX - 1048575, UINT32_MAX},
@@ -153,11 +243,25 @@ static void refusals(void) {
   judge(__LINE__, even, 5, flat, 5, NULL, 0, zero, KOVRELNA_REFUSED_LIST, 0, 0);
   /* One sample: its list is the sample itself. */
   judge(__LINE__, even, 1, flat, 1, ends, 1, zero, 0, 1, 0);
+
+  /* The reductions, without an output and with one. */
+  REFUSE(even, two, none, 0, KOVRELNA_REFUSED_LENGTH, 0);
+  REFUSE(even, two, zero, 5, KOVRELNA_REFUSED_LENGTH, 0);
+  REFUSE(equal, two, none, 0, KOVRELNA_REFUSED_TICK, 1);
+  REFUSE(stuck, flat, none, 5, KOVRELNA_REFUSED_TICK, 4);
+  REFUSE(beyond, two, none, 0, KOVRELNA_REFUSED_SPAN, 1);
+  REFUSE(beyond, two, zero, 2, KOVRELNA_REFUSED_SPAN, 1);
+  REFUSE(even, flat, none, 0, KOVRELNA_REFUSED_TOLERANCE, 0);
+  REFUSE(even, flat, none, 5, KOVRELNA_REFUSED_TOLERANCE, 0);
+  REFUSE(even, flat, zero, 0, KOVRELNA_REFUSED_ROOM, 5);
+  REFUSE(even, flat, zero, 4, KOVRELNA_REFUSED_ROOM, 5);
+  refuse(__LINE__, NULL, 0, NULL, 0, zero, 5, KOVRELNA_REFUSED_LENGTH, 0);
 }
 
 int main(void) {
   tolerances();
   lists();
+  reductions();
   refusals();
   if (failures != 0) return 1;
   puts("c: ok");

@@ -10,7 +10,9 @@ fn main() -> Result<(), Box<dyn Error>> {
     };
     let (mut ticks, mut values) = (Vec::new(), Vec::new());
     for line in fs::read_to_string(file)?.lines() {
-        let (tick, value) = line.split_once(' ').ok_or("a line has a tick and a value")?;
+        let (tick, value) = line
+            .split_once(' ')
+            .ok_or("a line has a tick and a value")?;
         ticks.push(tick.parse()?);
         values.push(value.parse()?);
     }

@@ -24,6 +24,19 @@ pub struct Verdict {
     pub value: u64,
 }
 
+#[repr(C)]
+pub struct Kept {
+    pub number: u32,
+    pub value: u64,
+}
+
+#[repr(C)]
+pub struct Galloped {
+    pub number: u32,
+    pub value: u64,
+    pub probes: u64,
+}
+
 extern "C" {
     fn kovrelna_hold(tolerance: Tolerance) -> Held;
     fn kovrelna_judge(
@@ -35,6 +48,24 @@ extern "C" {
         list_len: usize,
         tolerance: Tolerance,
     ) -> Verdict;
+    fn kovrelna_walk(
+        ticks: *const u32,
+        ticks_len: usize,
+        values: *const i16,
+        values_len: usize,
+        tolerance: Tolerance,
+        out: *mut u16,
+        out_len: usize,
+    ) -> Kept;
+    fn kovrelna_gallop(
+        ticks: *const u32,
+        ticks_len: usize,
+        values: *const i16,
+        values_len: usize,
+        tolerance: Tolerance,
+        out: *mut u16,
+        out_len: usize,
+    ) -> Galloped;
 }
 
 pub fn hold(tolerance: Tolerance) -> Held {
@@ -56,4 +87,47 @@ pub fn judge(ticks: &[u32], values: &[i16], list: &[u16], tolerance: Tolerance) 
             tolerance,
         )
     }
+}
+
+/// A reduction as it is declared above.
+type Reduction<Answer> = unsafe extern "C" fn(
+    *const u32,
+    usize,
+    *const i16,
+    usize,
+    Tolerance,
+    *mut u16,
+    usize,
+) -> Answer;
+
+/// Lends the slices to a reduction. `reduction` is one of those declared above.
+fn reduce<Answer>(
+    reduction: Reduction<Answer>,
+    ticks: &[u32],
+    values: &[i16],
+    tolerance: Tolerance,
+    out: &mut [u16],
+) -> Answer {
+    // SAFETY: each pointer and length are those of one slice, which is aligned, valid for reads and
+    // borrowed for the whole call. `out` is borrowed mutably, so it is valid for writes and overlaps
+    // no other. The call writes only there and accepts every content.
+    unsafe {
+        reduction(
+            ticks.as_ptr(),
+            ticks.len(),
+            values.as_ptr(),
+            values.len(),
+            tolerance,
+            out.as_mut_ptr(),
+            out.len(),
+        )
+    }
+}
+
+pub fn walk(ticks: &[u32], values: &[i16], tolerance: Tolerance, out: &mut [u16]) -> Kept {
+    reduce(kovrelna_walk, ticks, values, tolerance, out)
+}
+
+pub fn gallop(ticks: &[u32], values: &[i16], tolerance: Tolerance, out: &mut [u16]) -> Galloped {
+    reduce(kovrelna_gallop, ticks, values, tolerance, out)
 }

@@ -2,6 +2,7 @@
 //!
 //! - [`Tolerance`], [`Ratio`], [`hold`]: a tolerance, and the reduced ratio it is held as.
 //! - [`Verdict`], [`judge`]: whether every link of a proposed list is valid.
+//! - [`walk`], [`Galloped`], [`gallop`]: kept lists with every link valid.
 //! - [`Refusal`]: why a call declined.
 //!
 //! A trace is two slices of equal length: ticks and values (ADC counts). It has 1 to 4,096 samples,
@@ -18,12 +19,16 @@
 //! Every call accepts every input, allocates nothing and may run at the same time on any threads.
 //!
 //! ```
-//! use kovrelna::{judge, Refusal, Tolerance, Verdict};
+//! use kovrelna::{judge, walk, Refusal, Tolerance, Verdict};
 //!
 //! let (ticks, values) = ([0, 1, 3], [0, 1, 1]);
 //! let tolerance = Tolerance::Ratio { p: 4, q: 6 };
-//! assert_eq!(judge(&ticks, &values, &[0, 2], tolerance), Ok(Verdict::Within));
+//! let mut out = [0; 3];
+//! let kept = walk(&ticks, &values, tolerance, &mut out)?;
+//! assert_eq!(out[..kept], [0, 2]);
+//! assert_eq!(judge(&ticks, &values, &out[..kept], tolerance), Ok(Verdict::Within));
 //! assert_eq!(judge(&ticks, &values, &[0, 1], tolerance), Err(Refusal::List(2)));
+//! # Ok::<(), Refusal>(())
 //! ```
 #![deny(missing_docs, unsafe_code)]
 
@@ -243,5 +248,82 @@ pub fn judge(
             link: verdict.value as usize,
         },
         _ => Verdict::Within,
+    })
+}
+
+/// From sample i, beginning with 0, tests the links to i+1, i+2, ... and keeps the sample before the
+/// first invalid one, or the last sample if none is invalid; goes on from there.
+///
+/// Returns the kept number: the first that many entries of `out` are the kept list, and those after
+/// them are as they were. No kept list whose links are all valid at half the tolerance has fewer
+/// samples.
+///
+/// Refusals: [`Refusal::Length`], [`Refusal::Tick`], [`Refusal::Span`], [`Refusal::Tolerance`], and
+/// [`Refusal::Room`] if `out` has fewer entries than the trace has samples.
+///
+/// ```
+/// use kovrelna::{walk, Refusal, Tolerance};
+///
+/// let (ticks, values) = ([0, 1, 2, 3, 4], [0, 2, 0, -2, 0]);
+/// let two = Tolerance::Counts(2.0);
+/// let mut out = [9; 6];
+/// assert_eq!(walk(&ticks, &values, two, &mut out), Ok(3));
+/// assert_eq!(out, [0, 2, 4, 9, 9, 9]);
+/// assert_eq!(walk(&ticks, &values, two, &mut out[..4]), Err(Refusal::Room(5)));
+/// ```
+pub fn walk(
+    ticks: &[u32],
+    values: &[i16],
+    tolerance: Tolerance,
+    out: &mut [u16],
+) -> Result<usize, Refusal> {
+    kept(ffi::walk(ticks, values, tolerance.into(), out))
+}
+
+/// The kept number, or the refusal.
+fn kept(answer: ffi::Kept) -> Result<usize, Refusal> {
+    Refusal::check(answer.number, answer.value)?;
+    Ok(answer.value as usize)
+}
+
+/// What [`gallop`] returns.
+#[derive(Clone, Copy, Debug, PartialEq, Eq, Hash)]
+pub struct Galloped {
+    /// The kept number.
+    pub kept: usize,
+    /// The probe total.
+    pub probes: usize,
+}
+
+/// From sample i, beginning with 0, probes the links to i+2, i+4, i+8, ... until one is invalid. Low
+/// is the last valid offset, or 1; high is the invalid one. While low < high - 1, probes the offset
+/// (low + high) / 2, rounded down, and moves low there if that link is valid, high if not. Keeps
+/// sample i + low and goes on from there.
+///
+/// A probe past the last sample is invalid, and counts. A stop that advances by r samples takes at
+/// most 2 floor(log2 r) + 1 probes.
+///
+/// The output, its promise and the refusals are those of [`walk`].
+///
+/// ```
+/// use kovrelna::{gallop, Galloped, Tolerance};
+///
+/// let (ticks, values) = ([0, 1, 2, 3, 4], [0, 2, 0, -2, 0]);
+/// let mut out = [9; 5];
+/// let answer = gallop(&ticks, &values, Tolerance::Counts(2.0), &mut out);
+/// assert_eq!(answer, Ok(Galloped { kept: 2, probes: 5 }));
+/// assert_eq!(out, [0, 4, 9, 9, 9]);
+/// ```
+pub fn gallop(
+    ticks: &[u32],
+    values: &[i16],
+    tolerance: Tolerance,
+    out: &mut [u16],
+) -> Result<Galloped, Refusal> {
+    let answer = ffi::gallop(ticks, values, tolerance.into(), out);
+    Refusal::check(answer.number, answer.value)?;
+    Ok(Galloped {
+        kept: answer.value as usize,
+        probes: answer.probes as usize,
     })
 }

@@ -2,3 +2,4 @@
 pub mod HoldLaws
 pub mod PrepareLaws
 pub mod JudgeLaws
+pub mod ReduceLaws

@@ -2,12 +2,14 @@
 -- Assumes nothing.
 use mathlib.Core.Path.{_≡_, refl, sym, _∙_}
 use mathlib.Core.List.{List}
-use Prim.Native.Nat.{ℕ}
+use Prim.Native.Nat.{ℕ, _≤_, _<_}
 use native.Mathlib.Omega.{arith}
 use lib.IntN.{ℤ}
+use lib.ListN.{length}
+use borrow.Author.Tests.{le-leb, lt-leb}
 use Rattle.ratio.specs.declared.Ratio.{Ratio}
 use Rattle.refusal.specs.declared.Refusal.{Refusal}
-use Rattle.refusal.specs.declared.Refusal.the-variants.{Tolerance as NotAllowedTolerance}
+use Rattle.refusal.specs.declared.Refusal.the-variants.{Tolerance as NotAllowedTolerance, Room}
 use Rattle.refusal.specs.declared.Checked.the-variants.{Fine, Refused}
 use Rattle.refusal.proofs.TableLaws.{then-fine}
 use Rattle.tolerance.specs.declared.Tolerance.{Tolerance}
@@ -21,7 +23,7 @@ use Rattle.trace.proofs.TraceLaws.{rows-trace}
 use Rattle.engine.specs.declared.Ready.{Ready}
 use Rattle.engine.specs.declared.Ready.the-variants.{At, Refused as Declined}
 use Rattle.engine.specs.Hold.{toleranceRow}
-use Rattle.engine.specs.Prepare.{commonRows, criterionIn, criterionOf, Sets, Allowed, Prepared}
+use Rattle.engine.specs.Prepare.{commonRows, criterionIn, criterionOf, Sets, Allowed, ReadyAt, Prepared, outputRows, OutputReady}
 
 -- an allowed tolerance sets the criterion of its ratio, within the bounds of an allowed one
 pub exact-sets : (t : Tolerance) {r : Ratio} → meaning t ≡ Exact r → Sets t (criterion r)
@@ -46,3 +48,17 @@ trace-fine ts vs t (Declined x) e a = rw e a
 pub trace-refused : (ts : List ℕ) (vs : List ℤ) (t : Tolerance) {x : Refusal} → traceRows 4096 ts vs ≡ Refused x → commonRows ts vs t ≡ Refused x
 unfolding commonRows
 trace-refused ts vs t e = rw e
+
+-- room is asked where the checks 1 to 4 pass
+module _ (ts : List ℕ) (vs : List ℤ) (t : Tolerance) (room : ℕ) where
+  pub room-refused : {n : ℕ} → n ≡ length ts → commonRows ts vs t ≡ Fine → room < n → outputRows ts vs t room ≡ Refused (Room n)
+  unfolding outputRows
+  room-refused {n} e h lt = rw (h, ← e, lt-leb n room lt)
+
+  pub room-fine : {c : Criterion} → ReadyAt ts vs t c → length ts ≤ room → OutputReady ts vs t room c
+  unfolding outputRows
+  room-fine r le = record { rows = rw (r .rows, le-leb (length ts) room le); ready = r; room-is = le }
+
+  pub common-refused : {x : Refusal} → commonRows ts vs t ≡ Refused x → outputRows ts vs t room ≡ Refused x
+  unfolding outputRows
+  common-refused e = rw e

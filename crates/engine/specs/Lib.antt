@@ -2,3 +2,4 @@
 pub mod Hold
 pub mod Prepare
 pub mod Judge
+pub mod Reduce

@@ -2,15 +2,19 @@
 --   commonRows    the first of the rows 1, 2, 3, 4 that applies
 --   criterionOf   the criterion that a tolerance sets
 --   Prepared      what the checks give: the criterion of a trace, or the row
+--   outputRows    the first of the rows 1, 2, 3, 4, 10 that applies, for a list that needs as many entries as the trace has samples
 -- Assumes nothing.
 use mathlib.Core.Path.{_≡_}
 use mathlib.Core.List.{List}
-use Prim.Native.Nat.{ℕ}
+use Prim.Native.Nat.{ℕ, _≤_}
+use lib.Dec.{leb}
 use lib.IntN.{ℤ}
+use lib.ListN.{length}
 use Rattle.ratio.specs.Order.{over}
+use Rattle.refusal.specs.declared.Refusal.the-variants.{Room}
 use Rattle.refusal.specs.declared.Checked.{Checked}
 use Rattle.refusal.specs.declared.Checked.the-variants.{Fine, Refused}
-use Rattle.refusal.specs.Table.{_thenCheck_}
+use Rattle.refusal.specs.Table.{row, _thenCheck_}
 use Rattle.tolerance.specs.declared.Tolerance.{Tolerance}
 use Rattle.tolerance.specs.declared.Meaning.{Meaning}
 use Rattle.tolerance.specs.declared.Meaning.the-variants.{Exact, NotAllowed}
@@ -53,3 +57,20 @@ pub record ReadyAt (ts : List ℕ) (vs : List ℤ) (t : Tolerance) (c : Criterio
 abbrev pub Prepared : List ℕ → List ℤ → Tolerance → Ready → Type 0
 Prepared ts vs t (At c) = ReadyAt ts vs t c
 Prepared ts vs t (Declined x) = commonRows ts vs t ≡ Refused x
+
+-- 10: output too short
+abbrev pub roomRow : ℕ → ℕ → Checked
+roomRow needed room = row (leb needed room) (Room needed)
+
+unfoldable pub outputRows : List ℕ → List ℤ → Tolerance → ℕ → Checked
+outputRows ts vs t room = commonRows ts vs t thenCheck roomRow (length ts) room
+
+-- a trace, the criterion of an allowed tolerance, and room for the output
+pub record OutputReady (ts : List ℕ) (vs : List ℤ) (t : Tolerance) (room : ℕ) (c : Criterion) : Type 0 where
+  pub rows : outputRows ts vs t room ≡ Fine
+  pub ready : ReadyAt ts vs t c
+  pub room-is : length ts ≤ room
+
+abbrev pub OutputPrepared : List ℕ → List ℤ → Tolerance → ℕ → Ready → Type 0
+OutputPrepared ts vs t room (At c) = OutputReady ts vs t room c
+OutputPrepared ts vs t room (Declined x) = outputRows ts vs t room ≡ Refused x

@@ -1,5 +1,6 @@
 // The public calls. None has a requirement: each states its outcome for every input, and declines by the table of document 01.
 use ratio::Ratio;
+use reduction::Galloped;
 use refusal::Refusal;
 use trace::Criterion;
 
@@ -22,6 +23,20 @@ pub enum Verdict {
     Refused(Refusal),
 }
 
+// What `walk` answers: how many samples it kept, or a refusal.
+pub enum Reduced {
+    Kept(usize),
+    Refused(Refusal),
+}
+
+// What `gallop` answers: how many samples it kept and its probes, or a refusal.
+pub enum Probed {
+    Kept(Galloped),
+    Refused(Refusal),
+}
+
+pub mod gallop;
 pub mod hold;
 pub mod judge;
 mod prepare;
+pub mod walk;

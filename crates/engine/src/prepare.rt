@@ -1,5 +1,5 @@
-// What the calls on a trace with a tolerance have in common: the checks 1 to 4, made once.
-ghost use Rattle.engine.specs.Prepare.{Prepared, Allowed};
+// What the calls on a trace with a tolerance have in common: the checks 1 to 4, and 10 for those that write a list.
+ghost use Rattle.engine.specs.Prepare.{Prepared, Allowed, OutputPrepared};
 use crate::Ready;
 use refusal::Checked;
 use refusal::Refusal;
@@ -26,5 +26,22 @@ pub fn prepare(ticks: &[u32], values: &[i16], t: Tolerance) -> Ready
     match checked {
         Checked::Fine => criterion(t),
         Checked::Refused(x) => Ready::Refused(x),
+    }
+}
+
+// Checks 1, 2, 3, 4 and 10, for an output of `room` entries.
+pub fn prepare_output(ticks: &[u32], values: &[i16], t: Tolerance, room: usize) -> Ready
+    ensures { λ r. ⌜ OutputPrepared (now (ticks .entry)) (now (values .entry)) t room r ⌝ }
+{
+    let ready = prepare(ticks, values, t);
+    match ready {
+        Ready::At(c) => {
+            let n = ticks.len();
+            if room < n {
+                return Ready::Refused(Refusal::Room(n));
+            }
+            Ready::At(c)
+        }
+        Ready::Refused(x) => Ready::Refused(x),
     }
 }

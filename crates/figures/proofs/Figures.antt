@@ -1,13 +1,16 @@
 -- The starred figures of document 01, "Figures to reproduce", over the definitions, each by computation.
 -- Assumes nothing.
 use mathlib.Core.Path.{_≡_, refl}
-use mathlib.Core.Bool.{true, false}
+use mathlib.Core.Bool.{Bool, true, false}
 use mathlib.Core.List.{List, [], _∷_}
 use Prim.Native.Nat.{ℕ}
-use lib.IntN.{ℤ, pos}
+use lib.IntN.{ℤ, pos, negsuc}
 use Rattle.lists.specs.First.{first, firstOf}
 use Rattle.ratio.specs.Gcd.{gcd, euclid}
 use Rattle.ratio.specs.Order.{over}
+use Rattle.kept.specs.Stops.{stops}
+use Rattle.kept.specs.Walk.{walkStop, walkOf}
+use Rattle.kept.specs.Gallop.{probeOf, doubling, bisection, searchBy, gallopSearch, gallopOf, gallopProbes, sumFrom}
 use Rattle.refusal.specs.declared.Refusal.the-variants.{Tick, Span}
 use Rattle.refusal.specs.declared.Checked.the-variants.{Fine, Refused}
 use Rattle.tolerance.specs.declared.Tolerance.the-variants.{Ratio}
@@ -17,6 +20,62 @@ use Rattle.proposed.specs.Proposed.{badAt, listRow, firstInvalid}
 use Rattle.engine.specs.declared.Verdict.the-variants.{Yes, No}
 use Rattle.engine.specs.Prepare.{commonRows, criterionOf}
 use Rattle.engine.specs.Judge.{judgeRows, verdictOf, judgeOf}
+
+-- ticks 0 to 4
+abbrev five : List ℕ
+five = 0 ∷ 1 ∷ 2 ∷ 3 ∷ 4 ∷ []
+
+-- the link test of values at ticks 0 to 4 and tolerance p
+abbrev ok : List ℤ → ℕ → ℕ → ℕ → Bool
+ok vs p = valid five vs (criterion (over p 1))
+
+-- ---- values 0 3 0 3 0, tolerance 2: walk and gallop keep all five, gallop with 4 probes
+
+abbrev teeth : List ℤ
+teeth = pos 0 ∷ pos 3 ∷ pos 0 ∷ pos 3 ∷ pos 0 ∷ []
+
+walk-teeth-2 : walkOf (ok teeth 2) 4 ≡ 0 ∷ 1 ∷ 2 ∷ 3 ∷ 4 ∷ []
+unfolding walkOf walkStop stops valid allFrom within deviation
+walk-teeth-2 = refl
+
+gallop-teeth-2 : gallopOf (ok teeth 2) 4 ≡ 0 ∷ 1 ∷ 2 ∷ 3 ∷ 4 ∷ []
+unfolding gallopOf gallopSearch probeOf searchBy doubling bisection stops valid allFrom within deviation
+gallop-teeth-2 = refl
+
+probes-teeth-2 : gallopProbes (ok teeth 2) 4 ≡ 4
+unfolding gallopProbes sumFrom gallopOf gallopSearch probeOf searchBy doubling bisection stops valid allFrom within deviation
+probes-teeth-2 = refl
+
+-- ---- the same, tolerance 3: all keep 0 4; gallop 5 probes
+
+walk-teeth-3 : walkOf (ok teeth 3) 4 ≡ 0 ∷ 4 ∷ []
+unfolding walkOf walkStop stops valid allFrom within deviation
+walk-teeth-3 = refl
+
+gallop-teeth-3 : gallopOf (ok teeth 3) 4 ≡ 0 ∷ 4 ∷ []
+unfolding gallopOf gallopSearch probeOf searchBy doubling bisection stops valid allFrom within deviation
+gallop-teeth-3 = refl
+
+probes-teeth-3 : gallopProbes (ok teeth 3) 4 ≡ 5
+unfolding gallopProbes sumFrom gallopOf gallopSearch probeOf searchBy doubling bisection stops valid allFrom within deviation
+probes-teeth-3 = refl
+
+-- ---- values 0 2 0 -2 0, tolerance 2: walk 0 2 4; gallop 0 4 with 5 probes
+
+abbrev wave : List ℤ
+wave = pos 0 ∷ pos 2 ∷ pos 0 ∷ negsuc 1 ∷ pos 0 ∷ []
+
+walk-wave : walkOf (ok wave 2) 4 ≡ 0 ∷ 2 ∷ 4 ∷ []
+unfolding walkOf walkStop stops valid allFrom within deviation
+walk-wave = refl
+
+gallop-wave : gallopOf (ok wave 2) 4 ≡ 0 ∷ 4 ∷ []
+unfolding gallopOf gallopSearch probeOf searchBy doubling bisection stops valid allFrom within deviation
+gallop-wave = refl
+
+probes-wave : gallopProbes (ok wave 2) 4 ≡ 5
+unfolding gallopProbes sumFrom gallopOf gallopSearch probeOf searchBy doubling bisection stops valid allFrom within deviation
+probes-wave = refl
 
 -- ---- ticks 0 1 3, values 0 1 1: link 0 to 2 has error 2/3; valid at 4/6, invalid at 665/1000
 

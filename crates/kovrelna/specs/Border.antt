@@ -1,10 +1,14 @@
 -- What the structs of the C interface stand for: the enums of the public calls.
 --   toleranceOf        the tolerance that a form gives
---   heldOf, verdictOf  an answer as numbers: 0 for success, or the refusal's number and value
+--   heldOf, verdictOf, keptOf, gallopedOf   an answer as numbers: 0 for success, or the refusal's number and value
+--   WalkExport, GallopExport                an export that writes a list has the outcome of the public call
 -- Assumes nothing.
+use mathlib.Core.Path.{_≡_}
 use mathlib.Core.Bool.{cond}
+use mathlib.Core.List.{List}
 use Prim.Native.Nat.{ℕ}
 use lib.Dec.{eqb}
+use lib.IntN.{ℤ}
 use Rattle.refusal.specs.Table.{numberOf, returnedOf}
 use Rattle.tolerance.specs.declared.Tolerance as T
 use Rattle.tolerance.specs.declared.Tolerance.the-variants.{Ratio, Counts, Noise}
@@ -12,9 +16,16 @@ use Rattle.engine.specs.declared.Holding.{Holding}
 use Rattle.engine.specs.declared.Holding.the-variants.{Held as IsHeld, Refused as HoldRefused}
 use Rattle.engine.specs.declared.Verdict as E
 use Rattle.engine.specs.declared.Verdict.the-variants.{Yes, No, Refused}
+use Rattle.engine.specs.declared.Reduced.{Reduced}
+use Rattle.engine.specs.declared.Reduced.the-variants.{Kept as IsKept, Refused as NotKept}
+use Rattle.engine.specs.declared.Probed.{Probed}
+use Rattle.engine.specs.declared.Probed.the-variants.{Kept as IsGalloped, Refused as NotGalloped}
+use Rattle.engine.specs.Reduce.{WalkOutcome, GallopOutcome}
 use Rattle.kovrelna.specs.declared.Tolerance.{Tolerance}
 use Rattle.kovrelna.specs.declared.Held.{Held}
 use Rattle.kovrelna.specs.declared.Verdict.{Verdict}
+use Rattle.kovrelna.specs.declared.Kept.{Kept}
+use Rattle.kovrelna.specs.declared.Galloped.{Galloped}
 
 unfoldable pub toleranceOf : Tolerance → T.Tolerance
 toleranceOf t =
@@ -31,3 +42,21 @@ abbrev pub verdictOf : E.Verdict → Verdict
 verdictOf Yes = record { number = 0; passed = 1; value = 0 }
 verdictOf (No k) = record { number = 0; passed = 0; value = k }
 verdictOf (Refused x) = record { number = numberOf x; passed = 0; value = returnedOf x }
+
+abbrev pub keptOf : Reduced → Kept
+keptOf (IsKept n) = record { number = 0; value = n }
+keptOf (NotKept x) = record { number = numberOf x; value = returnedOf x }
+
+abbrev pub gallopedOf : Probed → Galloped
+gallopedOf (IsGalloped g) = record { number = 0; value = g .count; probes = g .probes }
+gallopedOf (NotGalloped x) = record { number = numberOf x; value = returnedOf x; probes = 0 }
+
+pub record WalkExport (ts : List ℕ) (vs : List ℤ) (t : Tolerance) (o : List ℕ) (r : Kept) (o′ : List ℕ) : Type 0 where
+  pub answer : Reduced
+  pub is : r ≡ keptOf answer
+  pub outcome : WalkOutcome ts vs (toleranceOf t) o answer o′
+
+pub record GallopExport (ts : List ℕ) (vs : List ℤ) (t : Tolerance) (o : List ℕ) (r : Galloped) (o′ : List ℕ) : Type 0 where
+  pub answer : Probed
+  pub is : r ≡ gallopedOf answer
+  pub outcome : GallopOutcome ts vs (toleranceOf t) o answer o′

@@ -3,7 +3,7 @@ ghost use mathlib.Core.Path.{_≡_};
 ghost use Rattle.tolerance.specs.Meaning.{meaning};
 ghost use Rattle.engine.specs.Hold.{holdingOf};
 ghost use Rattle.engine.specs.Judge.{judgeOf};
-ghost use Rattle.kovrelna.specs.Border.{toleranceOf, heldOf, verdictOf};
+ghost use Rattle.kovrelna.specs.Border.{toleranceOf, heldOf, verdictOf, keptOf, gallopedOf, WalkExport, GallopExport};
 
 // A tolerance: form 0 is the ratio p/q, form 1 is x counts, form 2 is the noise x times the multiple y. No other form is allowed.
 #[repr(C)]
@@ -30,6 +30,21 @@ pub struct Verdict {
     pub number: u32,
     pub passed: u32,
     pub value: u64,
+}
+
+// How many samples were kept under the number 0, or a refusal's number and value.
+#[repr(C)]
+pub struct Kept {
+    pub number: u32,
+    pub value: u64,
+}
+
+// The same, with the probe total.
+#[repr(C)]
+pub struct Galloped {
+    pub number: u32,
+    pub value: u64,
+    pub probes: u64,
 }
 
 // The tolerance that a form gives. The ratio 0/0, which is not allowed, stands for an unknown form.
@@ -94,6 +109,38 @@ fn verdict_of(v: engine::Verdict) -> Verdict
     }
 }
 
+fn kept_of(a: engine::Reduced) -> Kept
+    ensures { λ r. ⌜ r ≡ keptOf a ⌝ }
+{
+    match a {
+        engine::Reduced::Kept(n) => Kept {
+            number: 0,
+            value: n as u64,
+        },
+        engine::Reduced::Refused(x) => Kept {
+            number: refusal::number(x),
+            value: refusal::returned(x) as u64,
+        },
+    }
+}
+
+fn galloped_of(a: engine::Probed) -> Galloped
+    ensures { λ r. ⌜ r ≡ gallopedOf a ⌝ }
+{
+    match a {
+        engine::Probed::Kept(g) => Galloped {
+            number: 0,
+            value: g.count as u64,
+            probes: g.probes as u64,
+        },
+        engine::Probed::Refused(x) => Galloped {
+            number: refusal::number(x),
+            value: refusal::returned(x) as u64,
+            probes: 0,
+        },
+    }
+}
+
 // The ratio in lowest terms that a tolerance means.
 #[no_mangle]
 pub extern "C" fn kovrelna_hold(t: Tolerance) -> Held
@@ -113,4 +160,30 @@ pub extern "C" fn kovrelna_judge(
     ensures { λ r. ⌜ r ≡ verdictOf (judgeOf (now (ticks .entry)) (now (values .entry)) (now (list .entry)) (toleranceOf t)) ⌝ }
 {
     verdict_of(engine::judge::judge(ticks, values, list, tolerance_of(t)))
+}
+
+// Writes walk's list into the first entries of `out`.
+#[no_mangle]
+pub extern "C" fn kovrelna_walk(
+    ticks: &[u32],
+    values: &[i16],
+    t: Tolerance,
+    out: &mut [u16],
+) -> Kept
+    ensures { λ r. ⌜ WalkExport (now (ticks .entry)) (now (values .entry)) t (now (out .entry)) r (now (out .exit)) ⌝ }
+{
+    kept_of(engine::walk::walk(ticks, values, tolerance_of(t), out))
+}
+
+// Writes gallop's list into the first entries of `out`.
+#[no_mangle]
+pub extern "C" fn kovrelna_gallop(
+    ticks: &[u32],
+    values: &[i16],
+    t: Tolerance,
+    out: &mut [u16],
+) -> Galloped
+    ensures { λ r. ⌜ GallopExport (now (ticks .entry)) (now (values .entry)) t (now (out .entry)) r (now (out .exit)) ⌝ }
+{
+    galloped_of(engine::gallop::gallop(ticks, values, tolerance_of(t), out))
 }

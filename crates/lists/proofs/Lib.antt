@@ -1,3 +1,4 @@
 -- The laws of the crate `lists`.
 pub mod Tests
 pub mod FirstLaws
+pub mod OverwriteLaws

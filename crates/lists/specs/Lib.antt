@@ -1,2 +1,3 @@
 -- The definitions of the crate `lists`.
 pub mod First
+pub mod Overwrite

@@ -1,4 +1,9 @@
--- Which tolerances are allowed, and the fraction in lowest terms that each means. A finite float x is the fraction num x / den x, with a sign. Definitions only.
+-- Which tolerances are allowed, and the fraction in lowest terms that each means (document 01, "Tolerances").
+--   inSteps   a float is from 0 to most, and k times it is whole
+--   meaning   the held ratio of a tolerance, or that it is not allowed
+--   Held      a ratio as a tolerance is held: allowed, and in lowest terms
+--   stepsOf   the whole number of steps of a float
+-- A finite float x is the fraction num x / den x, with a sign. Laws are in Values and Meanings. Assumes nothing.
 use Prim.Native.Nat.{ℕ, _*_, _/_, _%_, _≤_, _<_}
 use mathlib.Core.Path.{_≡_}
 use mathlib.Core.Bool.{Bool, true, false, not, _&&_, _||_}

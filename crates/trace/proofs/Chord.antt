@@ -1,9 +1,10 @@
 -- The geometry of two links, over levels: a sample of a link within a band is near every chord of the samples in it (document 003, Lemma 2.1).
+-- Assumes nothing.
 use mathlib.Core.Path.{_≡_, refl, ap}
 use Prim.Native.Nat.{ℕ, suc, _+_, _-_, _*_, _≤_, _<_}
 use native.Mathlib.Nat.{mul-le-mul-right, le-of-mul-le-mul-right}
 use native.Mathlib.Omega.{arith}
-use Rattle.trace.specs.Level.{Above, Below}
+use Rattle.trace.proofs.Line.{Above, Below}
 use Rattle.trace.proofs.Deviation.{line, above-form, below-form}
 
 -- a line's heights at three places lie on a line

@@ -18,7 +18,8 @@ use Rattle.trace.specs.declared.Edge.{Edge}
 use Rattle.trace.specs.declared.Cone.{Cone}
 use Rattle.trace.specs.Trace.{tick, value, Rising, Trace}
 use Rattle.trace.specs.Link.{Linked, Bounded, valid, above, below}
-use Rattle.trace.specs.Level.{level, LowerBound, UpperBound}
+use Rattle.trace.specs.Level.{level}
+use Rattle.trace.proofs.Line.{LowerBound, UpperBound}
 use Rattle.trace.specs.Edge.{middle, StartAt, EdgeTo, noSteeper, lowered, raised}
 use Rattle.trace.specs.Cone.{coneFrom, admitsEdge, steeperOf, flatterOf, extendedBy, Takes}
 use Rattle.trace.proofs.Ticks.{later, not-earlier}

@@ -1,4 +1,5 @@
 -- The deviation as a difference of two naturals, over levels: numbers a k with value k = a k - base for one base.
+-- Assumes nothing.
 use mathlib.Core.Path.{_≡_, ap}
 use mathlib.Core.Logic.{_↔_}
 use mathlib.Core.List.{List, [], _∷_}
@@ -8,7 +9,8 @@ use lib.IntN.{ℤ, pos, negsuc, natAbs, negℤ, _-ℤ_, _*ℤ_}
 use lib.Signed.{_≤ℤ_}
 use Rattle.trace.specs.Trace.{tick, value}
 use Rattle.trace.specs.Link.{deviation}
-use Rattle.trace.specs.Level.{offset, Above, Below}
+use Rattle.trace.specs.Level.{offset}
+use Rattle.trace.proofs.Line.{Above, Below}
 use Rattle.trace.proofs.Difference.{Diff, same, plus, negated, times, number, at-most}
 
 -- (u + s) times the height of a line from level a to level b, u ticks after its start and s before its end

@@ -1,4 +1,5 @@
 -- An integer as a difference of two naturals. `omega` reads no ℤ: an order on integers becomes one on naturals by these laws.
+-- Assumes nothing.
 use mathlib.Core.Path.{_≡_, refl, ap}
 use mathlib.Core.Bool.{Bool, true, false, cond}
 use mathlib.Core.Logic.{_↔_}

@@ -18,7 +18,7 @@ use Rattle.trace.specs.declared.Edge.{Edge}
 use Rattle.trace.specs.declared.Criterion.{Criterion}
 use Rattle.trace.specs.Trace.{tick, value, Trace}
 use Rattle.trace.specs.Link.{deviation, within, above, below, Linked, Bounded}
-use Rattle.trace.specs.Level.{level, LevelOf, LowerBound, UpperBound}
+use Rattle.trace.specs.Level.{level, LevelOf}
 use Rattle.trace.specs.Edge.{middle, StartAt, EdgeTo, Reach, inBand, Slope, Tilt, noSteeper, lowered, raised, distanceOf}
 use Rattle.trace.proofs.Ticks.{not-earlier, span-bound}
 use Rattle.trace.proofs.Level.{short, level-short, level-diff}

@@ -1,4 +1,5 @@
--- Source paper 003, Lemma 2.1: a link within half a tolerance leaves every link of samples inside it within the tolerance.
+-- Document 003, lemma 2.1: a link within half a tolerance leaves every link of samples inside it within the tolerance.
+-- Assumes nothing.
 use mathlib.Core.Path.{_≡_, refl, sym, subst, subst₂}
 use mathlib.Core.Logic.{⊎-elim}
 use mathlib.Core.List.{List}
@@ -11,7 +12,7 @@ use Rattle.kept.specs.Kept.{Halves}
 use Rattle.trace.specs.declared.Criterion.{Criterion}
 use Rattle.trace.specs.Trace.{tick, value, Rising}
 use Rattle.trace.specs.Link.{Band, Valid, valid, Within, deviation, half}
-use Rattle.trace.specs.Level.{Above, Below}
+use Rattle.trace.proofs.Line.{Above, Below}
 use Rattle.trace.proofs.Ticks.{later, not-earlier}
 use Rattle.trace.proofs.Difference.{wider}
 use Rattle.trace.proofs.Heights.{High, Low, high, low}

@@ -1,4 +1,5 @@
 -- The bounds on a deviation over heights, levels that every list of integers has.
+-- Assumes nothing.
 use mathlib.Core.Logic.{_↔_}
 use mathlib.Core.List.{List, [], _∷_}
 use Prim.Native.Nat.{ℕ, zero, suc, _+_, _-_, _*_, _≤_, _<_}
@@ -8,7 +9,8 @@ use lib.ListN.{length}
 use lib.Signed.{_≤ℤ_}
 use Rattle.trace.specs.Trace.{tick, value, Rising}
 use Rattle.trace.specs.Link.{deviation}
-use Rattle.trace.specs.Level.{offset, Above, Below}
+use Rattle.trace.specs.Level.{offset}
+use Rattle.trace.proofs.Line.{Above, Below}
 use Rattle.trace.proofs.Difference.{Diff}
 use Rattle.trace.proofs.Ticks.{not-earlier}
 use Rattle.trace.proofs.Deviation.{offset-diff, above-levels, below-levels}

@@ -3,6 +3,7 @@ pub mod Difference
 pub mod Between
 pub mod Ticks
 pub mod TraceLaws
+pub mod Line
 pub mod Deviation
 pub mod Level
 pub mod Heights

@@ -1,11 +1,12 @@
 -- The tightest slope bound implies the others, over levels (document 003, section 2.1).
+-- Assumes nothing.
 use mathlib.Core.Path.{_≡_, refl, ap}
 use mathlib.Core.Logic.{_↔_}
 use Prim.Native.Nat.{ℕ, _+_, _-_, _*_, _≤_, _<_}
 use native.Mathlib.Nat.{mul-le-mul-right, le-of-mul-le-mul-right}
 use native.Mathlib.Omega.{arith}
 use lib.IntN.{ℤ}
-use Rattle.trace.specs.Level.{Above, Below, LowerBound, UpperBound}
+use Rattle.trace.proofs.Line.{Above, Below, LowerBound, UpperBound}
 use Rattle.trace.proofs.Difference.{Diff, twice}
 use Rattle.trace.proofs.Deviation.{above-form, below-form}
 

@@ -1,4 +1,5 @@
 -- Ticks that rise from each sample to the next rise from each to every later one.
+-- Assumes nothing.
 use mathlib.Core.Path.{_≡_, sym, subst}
 use mathlib.Core.Logic.{⊎-elim}
 use mathlib.Core.List.{List}

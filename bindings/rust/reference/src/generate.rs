@@ -64,10 +64,12 @@ pub enum Kind {
     Spikes,
     /// At or near the ends of the range.
     Saturated,
+    /// Pulses with exponential tails, over a baseline with noise.
+    Pulses,
 }
 
 /// Every kind.
-pub const KINDS: [Kind; 7] = [
+pub const KINDS: [Kind; 8] = [
     Kind::Small,
     Kind::Wide,
     Kind::Plateaus,
@@ -75,10 +77,12 @@ pub const KINDS: [Kind; 7] = [
     Kind::Zigzag,
     Kind::Spikes,
     Kind::Saturated,
+    Kind::Pulses,
 ];
 
 /// A trace of this kind with 1 to 4,096 samples. Its ticks rise by ones, by little, or spread over
-/// exactly the greatest span; they begin at 0, anywhere, or so that the last is the greatest u32.
+/// exactly the greatest span, evenly or in bursts; they begin at 0, anywhere, or so that the last is
+/// the greatest u32.
 pub fn trace(kind: Kind, samples: usize, random: &mut Random) -> Trace {
     Trace {
         ticks: ticks(samples, random),
@@ -88,9 +92,10 @@ pub fn trace(kind: Kind, samples: usize, random: &mut Random) -> Trace {
 
 fn ticks(samples: usize, random: &mut Random) -> Vec<u32> {
     let longest = SPAN / (samples as u32 - 1).max(1);
-    let step = random.choose(&[1, 4, longest]);
+    let (step, one_in) = random.choose(&[(1, 1), (4, 1), (longest, 1), (longest, 8)]);
     let mut offsets = vec![0];
     for k in 1..samples {
+        let step = if random.below(one_in) == 0 { step } else { 1 };
         offsets.push(offsets[k - 1] + 1 + random.below(step.into()) as u32);
     }
     if samples > 1 && step == longest {
@@ -106,9 +111,9 @@ fn values(kind: Kind, samples: usize, random: &mut Random) -> Vec<i16> {
     let (low, high) = (i64::from(i16::MIN), i64::from(i16::MAX));
     let size = random.choose(&[1, 3, 50, 2_000, high]);
     let base = random.within(low, high);
-    let run = random.within(2, 12) as usize;
-    let (mut value, mut change) = (base, 0);
-    (0..samples)
+    let run = random.within(2, 12);
+    let (mut value, mut change, mut height) = (base, 0, 0);
+    (0..samples as i64)
         .map(|k| {
             value = match kind {
                 Kind::Small => random.within(-4, 4),
@@ -126,6 +131,13 @@ fn values(kind: Kind, samples: usize, random: &mut Random) -> Vec<i16> {
                 Kind::Spikes if random.below(6) == 0 => random.within(low, high),
                 Kind::Spikes => base + random.within(-1, 1),
                 Kind::Saturated => random.choose(&[low, low, low + 1, 0, high - 1, high, high]),
+                Kind::Pulses => {
+                    height = height * run / (run + 1);
+                    if random.below(20) == 0 {
+                        height += random.within(0, size);
+                    }
+                    base + height + random.within(-2, 2)
+                }
             }
             .clamp(low, high);
             value as i16
@@ -185,7 +197,7 @@ fn inverse(p: i128, q: i128) -> i128 {
 #[cfg(test)]
 mod tests {
     use super::*;
-    use crate::{link_error, list_refusal, trace_refusal};
+    use crate::{link_error, link_valid, list_refusal, trace_refusal};
 
     #[test]
     fn traces_and_lists_are_within_the_limits() {
@@ -205,8 +217,10 @@ mod tests {
         for _ in 0..2_000 {
             let Trace { ticks, values } = trace(random.choose(&KINDS), 8, random);
             let error = link_error(&ticks, &values, 0, 7);
+            assert!(link_valid(&ticks, &values, 0, 7, error));
             if error.p > 0 {
                 let below = just_below(error);
+                assert!(!link_valid(&ticks, &values, 0, 7, below));
                 assert_eq!(error.p * below.q - below.p * error.q, 1, "{error:?}");
                 assert!(below.p >= 0 && (1..=DENOMINATOR).contains(&below.q));
             }

@@ -6,6 +6,8 @@
 //! - [`Form`], [`held`]: the three forms of a tolerance.
 //! - [`trace_refusal`], [`list_refusal`]: rows 1 to 3 and row 6 of the table of refusals.
 //! - [`judge`]: the call.
+//! - [`Method`], [`Reduced`], [`reduce`]: the calls walk and gallop.
+//! - [`fewest`]: how short a kept list within a fraction can be.
 //! - [`generate`]: repeatable random traces and lists.
 
 pub mod generate;
@@ -33,6 +35,14 @@ impl Fraction {
     /// Whether this fraction is at most the other.
     pub fn at_most(self, other: Fraction) -> bool {
         self.p * other.q <= other.p * self.q
+    }
+
+    /// Half of p/q: p over 2q.
+    pub fn half(self) -> Fraction {
+        Fraction {
+            p: self.p,
+            q: 2 * self.q,
+        }
     }
 
     /// The same fraction in lowest terms; zero is 0/1.
@@ -70,9 +80,9 @@ pub fn link_error(ticks: &[u32], values: &[i16], i: usize, j: usize) -> Fraction
     error.lowest()
 }
 
-/// Whether the link's error is at most the tolerance.
+/// Whether the link's error is at most the tolerance: whether each deviation is.
 pub fn link_valid(ticks: &[u32], values: &[i16], i: usize, j: usize, tolerance: Fraction) -> bool {
-    link_error(ticks, values, i, j).at_most(tolerance)
+    (i + 1..j).all(|k| deviation(ticks, values, i, j, k).at_most(tolerance))
 }
 
 /// The three forms of a tolerance.
@@ -191,6 +201,109 @@ pub fn judge(
     }))
 }
 
+/// How a kept list is found.
+#[derive(Clone, Copy, Debug, PartialEq, Eq)]
+pub enum Method {
+    Walk,
+    Gallop,
+}
+
+/// Every method.
+pub const METHODS: [Method; 2] = [Method::Walk, Method::Gallop];
+
+/// A kept list, with the probe total of gallop; 0 for other methods.
+#[derive(Clone, Debug, PartialEq, Eq)]
+pub struct Reduced {
+    pub list: Vec<u16>,
+    pub probes: usize,
+}
+
+/// The first row that fits, or the method's list. The output has `room` entries.
+pub fn reduce(
+    method: Method,
+    ticks: &[u32],
+    values: &[i16],
+    form: Form,
+    room: usize,
+) -> Result<Reduced, Row> {
+    if let Some(row) = trace_refusal(ticks, values) {
+        return Err(row);
+    }
+    let tolerance = held(form).ok_or((4, 0))?;
+    let samples = ticks.len();
+    if room < samples {
+        return Err((10, samples as u64));
+    }
+    let last = samples - 1;
+    let valid = |i, j| link_valid(ticks, values, i, j, tolerance);
+    let mut probes = 0;
+    let list = match method {
+        Method::Walk => stops(last, |i| walk_stop(i, last, valid)),
+        Method::Gallop => stops(last, |i| gallop_stop(i, last, valid, &mut probes)),
+    };
+    Ok(Reduced { list, probes })
+}
+
+/// Sample 0 and each next stop, up to the last sample.
+fn stops(last: usize, mut next: impl FnMut(usize) -> usize) -> Vec<u16> {
+    let mut list = vec![0];
+    let mut i = 0;
+    while i < last {
+        i = next(i);
+        list.push(i as u16);
+    }
+    list
+}
+
+/// The sample before the first invalid link from i, or the last sample if none is invalid.
+fn walk_stop(i: usize, last: usize, valid: impl Fn(usize, usize) -> bool) -> usize {
+    match (i + 1..=last).find(|&j| !valid(i, j)) {
+        Some(j) => j - 1,
+        None => last,
+    }
+}
+
+/// The stop from i by doubling and bisection; every probe is counted.
+fn gallop_stop(
+    i: usize,
+    last: usize,
+    valid: impl Fn(usize, usize) -> bool,
+    probes: &mut usize,
+) -> usize {
+    let mut probe = |offset: usize| {
+        *probes += 1;
+        i + offset <= last && valid(i, i + offset)
+    };
+    let (mut low, mut high) = (1, 2);
+    while probe(high) {
+        low = high;
+        high *= 2;
+    }
+    while low < high - 1 {
+        let middle = (low + high) / 2;
+        if probe(middle) {
+            low = middle;
+        } else {
+            high = middle;
+        }
+    }
+    i + low
+}
+
+/// How many samples the shortest kept list within the fraction has. Tries every link.
+pub fn fewest(ticks: &[u32], values: &[i16], fraction: Fraction) -> usize {
+    // The fewest from sample 0 to each sample.
+    let mut fewest = vec![1];
+    for j in 1..ticks.len() {
+        let before = (0..j)
+            .filter(|&i| link_valid(ticks, values, i, j, fraction))
+            .map(|i| fewest[i])
+            .min();
+        fewest.push(before.expect("a link between neighbours is valid") + 1);
+    }
+    fewest[ticks.len() - 1]
+}
+
 #[cfg(test)]
 mod tests {
     use super::*;
@@ -215,6 +328,34 @@ mod tests {
         assert_eq!(trace_refusal(&[0, 1_048_575], &[0, 0]), None);
         assert_eq!(trace_refusal(&[0, 1_048_576], &[0, 0]), Some((3, 1)));
         assert_eq!(trace_refusal(&[5, 5], &[0, 0]), Some((2, 1)));
+    }
+
+    #[test]
+    fn reductions() {
+        let (zigzag, wave) = ([0, 3, 0, 3, 0], [0, 2, 0, -2, 0]);
+        type Case<'a> = (&'a [i16; 5], u64, &'a [u16], &'a [u16], usize);
+        let cases: [Case; 3] = [
+            (&zigzag, 2, &[0, 1, 2, 3, 4], &[0, 1, 2, 3, 4], 4),
+            (&zigzag, 3, &[0, 4], &[0, 4], 5),
+            (&wave, 2, &[0, 2, 4], &[0, 4], 5),
+        ];
+        for (values, p, walk, gallop, probes) in cases {
+            let reduced = |method| reduce(method, &EVEN, values, Form::Ratio(p, 1), 5).unwrap();
+            assert_eq!(reduced(Method::Walk).list, walk, "{values:?} {p}");
+            assert_eq!(reduced(Method::Gallop).list, gallop, "{values:?} {p}");
+            assert_eq!(reduced(Method::Gallop).probes, probes, "{values:?} {p}");
+        }
+    }
+
+    #[test]
+    fn shortest_lists() {
+        let zigzag = [0, 3, 0, 3, 0];
+        for (p, q, expected) in [(3, 1, 2), (2, 1, 3), (3, 2, 5), (0, 1, 5)] {
+            assert_eq!(fewest(&EVEN, &zigzag, fraction(p, q)), expected, "{p}/{q}");
+        }
+        assert_eq!(fewest(&EVEN, &zigzag, fraction(6, 1).half()), 2);
+        assert_eq!(fewest(&EVEN, &zigzag, fraction(5, 1).half()), 3);
+        assert_eq!(fewest(&[7], &[7], fraction(0, 1)), 1);
     }
 
     #[test]

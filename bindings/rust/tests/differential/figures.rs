@@ -1,5 +1,6 @@
-use crate::{hold, judge, noise, ratio};
+use crate::{hold, judge, noise, ratio, reduce};
 use kovrelna::Tolerance;
+use kovrelna_reference::{Method, Reduced};
 
 const EVEN: [u32; 5] = [0, 1, 2, 3, 4];
 const ZIGZAG: [i16; 5] = [0, 3, 0, 3, 0];
@@ -44,6 +45,38 @@ fn lists() {
     for (values, list, tolerance, expected) in cases {
         let answer = judge(&EVEN, values, list, tolerance);
         assert_eq!(answer, Ok(expected), "{values:?} {list:?} {tolerance:?}");
+    }
+}
+
+#[test]
+fn reductions() {
+    use Method::{Gallop, Walk};
+    type Case<'a> = (&'a [i16; 5], u64, Method, &'a [u16], usize);
+    let cases: [Case; 6] = [
+        (&ZIGZAG, 2, Walk, &[0, 1, 2, 3, 4], 0),
+        (&ZIGZAG, 2, Gallop, &[0, 1, 2, 3, 4], 4),
+        (&ZIGZAG, 3, Walk, &[0, 4], 0),
+        (&ZIGZAG, 3, Gallop, &[0, 4], 5),
+        (&WAVE, 2, Walk, &[0, 2, 4], 0),
+        (&WAVE, 2, Gallop, &[0, 4], 5),
+    ];
+    for (values, p, method, list, probes) in cases {
+        let list = list.to_vec();
+        for tolerance in [
+            ratio(p, 1),
+            ratio(6 * p, 6),
+            Tolerance::Counts(p as f64),
+            noise(p as f64 / 4.0, 4.0),
+        ] {
+            assert_eq!(
+                reduce(method, &EVEN, values, tolerance, 5).as_ref(),
+                Ok(&Reduced {
+                    list: list.clone(),
+                    probes
+                }),
+                "{values:?} {method:?} {tolerance:?}"
+            );
+        }
     }
 }
 

@@ -1,7 +1,7 @@
-use crate::{hold, judge, noise, ratio};
+use crate::{hold, judge, noise, ratio, reduce};
 use kovrelna::Tolerance::Counts;
 use kovrelna_reference::generate::Random;
-use kovrelna_reference::Row;
+use kovrelna_reference::{Row, METHODS};
 
 const REFUSED: Result<(u64, u64), Row> = Err((4, 0));
 
@@ -207,7 +207,7 @@ fn random_tolerances() {
     }
 }
 
-/// A tolerance that is held is its own; one that is refused is refused by `judge` too.
+/// A tolerance that is held is its own; one that is refused is refused by every call.
 #[test]
 fn held_again() {
     for tolerance in awkward().into_iter().map(Counts) {
@@ -215,6 +215,10 @@ fn held_again() {
         match hold(tolerance) {
             Ok((p, q)) => assert_eq!((hold(ratio(p, q)), judged), (Ok((p, q)), Ok(None))),
             Err(row) => assert_eq!(judged, Err(row)),
+        }
+        for method in METHODS {
+            let reduced = reduce(method, &[0], &[0], tolerance, 1);
+            assert_eq!(reduced.err(), judged.err());
         }
     }
 }

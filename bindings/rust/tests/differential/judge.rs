@@ -1,29 +1,9 @@
-use crate::{judge, noise, ratio};
-use kovrelna::Tolerance;
+use crate::{any_tolerance, exactly, judge, ratio};
 use kovrelna_reference::generate::{just_below, kept_list, trace, Random, Trace, KINDS};
 use kovrelna_reference::{link_error, Fraction};
 
 fn error(Trace { ticks, values }: &Trace, link: &[u16]) -> Fraction {
     link_error(ticks, values, link[0].into(), link[1].into())
-}
-
-fn tolerance(Fraction { p, q }: Fraction) -> Tolerance {
-    ratio(p as u64, q as u64)
-}
-
-/// A tolerance of any form, small, wide or zero.
-fn any_tolerance(random: &mut Random) -> Tolerance {
-    let q = random.choose(&[1, 6, 1_000, 1_048_575]);
-    let q = 1 + random.below(q);
-    let most = random.choose(&[0, 1, 6, 1_000, 65_535]);
-    match random.below(3) {
-        0 => ratio(random.below(most * q + 1), q),
-        1 => Tolerance::Counts(random.below(64 * most + 1) as f64 / 64.0),
-        _ => {
-            let part = random.below(64 * most.min(1_023) + 1) as f64 / 64.0;
-            noise(part, random.below(8 * 63 + 1) as f64 / 8.0)
-        }
-    }
 }
 
 /// Judges the list at an arbitrary tolerance, and for one of its links and the worst at the error
@@ -39,17 +19,17 @@ fn judge_list(trace: &Trace, list: &[u16], random: &mut Random, answers: &mut [u
     });
     if let Some(&worst) = links.last() {
         let list_error = error(trace, worst);
-        assert_eq!(judge(ticks, values, list, tolerance(list_error)), Ok(None));
+        assert_eq!(judge(ticks, values, list, exactly(list_error)), Ok(None));
         for link in [worst, random.choose(&links)] {
             let Fraction { p, q } = error(trace, link);
-            tolerances.push(tolerance(Fraction { p, q }));
+            tolerances.push(exactly(Fraction { p, q }));
             if p > 0 {
                 let run = i128::from(ticks[usize::from(link[1])] - ticks[usize::from(link[0])]);
                 let unit = Fraction {
                     p: p * (run / q) - 1,
                     q: run,
                 };
-                tolerances.extend([unit, just_below(Fraction { p, q })].map(tolerance));
+                tolerances.extend([unit, just_below(Fraction { p, q })].map(exactly));
             }
         }
     }

@@ -1,7 +1,7 @@
-use crate::{judge, noise, ratio};
+use crate::{judge, noise, ratio, reduce};
 use kovrelna::{Refusal, Tolerance};
 use kovrelna_reference::generate::{damaged, kept_list, trace, Random, Trace, KINDS};
-use kovrelna_reference::Row;
+use kovrelna_reference::{Row, METHODS};
 
 #[test]
 fn the_table() {
@@ -40,10 +40,18 @@ fn lengths() {
             let values = vec![7; values];
             let answer = judge(&ticks, &values, &list, ratio(0, 1));
             assert_eq!(answer, expected, "{samples} {}", values.len());
+            for method in METHODS {
+                let answer = reduce(method, &ticks, &values, ratio(0, 1), samples);
+                let expected = expected.map(|_| list.clone());
+                assert_eq!(answer.map(|reduced| reduced.list), expected);
+            }
             if !allowed {
                 // Later rows fail too.
-                let answer = judge(&vec![5; samples], &values, &[], ratio(0, 0));
-                assert_eq!(answer, expected, "{samples} {}", values.len());
+                let (ticks, none) = (vec![5; samples], ratio(0, 0));
+                assert_eq!(judge(&ticks, &values, &[], none), Err((1, 0)));
+                for method in METHODS {
+                    assert_eq!(reduce(method, &ticks, &values, none, 0), Err((1, 0)));
+                }
             }
         }
     }
@@ -76,6 +84,38 @@ fn ticks() {
     for (ticks, row) in cases {
         let answer = judge(ticks, &[0; 4], &[0, 3], ratio(0, 1));
         assert_eq!(answer, row.map_or(Ok(None), Err), "{ticks:?}");
+        for method in METHODS {
+            let answer = reduce(method, ticks, &[0; 4], ratio(0, 1), 4);
+            assert_eq!(answer.err(), row, "{method:?} {ticks:?}");
+        }
+    }
+}
+
+#[test]
+fn tolerances() {
+    for (tolerance, allowed) in [
+        (ratio(0, 1), true),
+        (ratio(65_535 * 1_048_575, 1_048_575), true),
+        (ratio(65_535 * 1_048_575 + 1, 1_048_575), false),
+        (ratio(0, 0), false),
+        (ratio(0, 1_048_576), false),
+        (Tolerance::Counts(-0.0), true),
+        (Tolerance::Counts(65_535.0), true),
+        (Tolerance::Counts(65_535.015_625), false),
+        (Tolerance::Counts(0.007_812_5), false),
+        (Tolerance::Counts(f64::NAN), false),
+        (noise(1_023.0, 63.0), true),
+        (noise(1_023.0, 63.125), false),
+        (noise(f64::INFINITY, 0.0), false),
+        (noise(0.0, -0.125), false),
+    ] {
+        let row = (!allowed).then_some((4, 0));
+        let answer = judge(&[0, 1, 2], &[0; 3], &[0, 2], tolerance);
+        assert_eq!(answer, row.map_or(Ok(None), Err), "{tolerance:?}");
+        for method in METHODS {
+            let answer = reduce(method, &[0, 1, 2], &[0; 3], tolerance, 3);
+            assert_eq!(answer.err(), row, "{method:?} {tolerance:?}");
+        }
     }
 }
 
@@ -156,69 +196,84 @@ fn lists_of_the_shortest_and_longest_traces() {
     }
 }
 
-/// Every set of faults among rows 1, 2, 3, 4 and 6: the lowest row answers, with its own value. Row
-/// 3's sample comes before row 2's.
+/// Rows 1 to 4 as `faulty` brings them about.
+const ROWS: [Row; 4] = [(1, 0), (2, 6), (3, 3), (4, 0)];
+
+/// Eight samples and a tolerance with this set of faults. Row 3's sample comes before row 2's.
+fn faulty(faults: usize) -> (Trace, Tolerance) {
+    let mut ticks: Vec<u32> = (10..18).collect();
+    let mut values = vec![0; 8];
+    let mut tolerance = ratio(0, 1);
+    if faults & 1 != 0 {
+        values.push(0);
+    }
+    if faults & 4 != 0 {
+        ticks[3..].iter_mut().for_each(|tick| *tick += 1_048_576);
+    }
+    if faults & 2 != 0 {
+        ticks[6] = ticks[5];
+    }
+    if faults & 8 != 0 {
+        tolerance = Tolerance::Counts(f64::NAN);
+    }
+    (Trace { ticks, values }, tolerance)
+}
+
+/// Every set of faults among rows 1 to 4 and a later one: the lowest row answers, with its own value.
 #[test]
 fn the_first_row_answers() {
-    let rows: [Row; 5] = [(1, 0), (2, 6), (3, 3), (4, 0), (6, 1)];
-    for faults in 0..1 << rows.len() {
-        let has = |row: usize| faults & 1 << row != 0;
-        let mut ticks: Vec<u32> = (10..18).collect();
-        let mut values = vec![0; 8];
-        let (mut list, mut tolerance) = (vec![0, 7], ratio(0, 1));
-        if has(0) {
-            values.push(0);
+    for faults in 0..1 << ROWS.len() {
+        let (Trace { ticks, values }, tolerance) = faulty(faults);
+        let first = ROWS.get(faults.trailing_zeros() as usize).copied();
+        for (list, row) in [(&[0, 7][..], None), (&[0, 0, 7], Some((6, 1)))] {
+            let answer = judge(&ticks, &values, list, tolerance);
+            assert_eq!(answer.err(), first.or(row), "faults {faults:b} {list:?}");
         }
-        if has(2) {
-            ticks[3..].iter_mut().for_each(|tick| *tick += 1_048_576);
+        for (room, row) in [(8, None), (7, Some((10, 8))), (0, Some((10, 8)))] {
+            for method in METHODS {
+                let answer = reduce(method, &ticks, &values, tolerance, room);
+                assert_eq!(answer.err(), first.or(row), "faults {faults:b} {room}");
+            }
         }
-        if has(1) {
-            ticks[6] = ticks[5];
-        }
-        if has(3) {
-            tolerance = Tolerance::Counts(f64::NAN);
-        }
-        if has(4) {
-            list = vec![0, 0, 7];
-        }
-        let expected = (0..rows.len()).find(|&row| has(row));
-        assert_eq!(
-            judge(&ticks, &values, &list, tolerance),
-            expected.map_or(Ok(None), |row| Err(rows[row])),
-            "faults {faults:b}"
-        );
     }
 }
 
 #[test]
 fn random_faults() {
     let random = &mut Random::new(3);
-    let mut seen = [0; 7];
+    // How often judge answers with each row, and how often the reductions; 0 for none.
+    let mut seen = [[0; 11]; 2];
     for _ in 0..20_000 {
         let samples = random.within(1, 12) as usize;
         let Trace { mut ticks, values } = trace(random.choose(&KINDS), samples, random);
         let mut list = kept_list(samples, random);
         let mut tolerance = ratio(random.below(10), 1);
         let at = random.below(samples as u64) as usize;
+        let mut room = samples + random.below(3) as usize;
         for _ in 0..random.below(3) {
-            match random.below(6) {
+            match random.below(7) {
                 0 => drop(ticks.pop()),
                 1 => ticks.push(u32::MAX),
                 2 => ticks[..=at].rotate_right(1),
                 3 => ticks[at..].iter_mut().for_each(|tick| *tick |= 1 << 20),
                 4 => list = damaged(&list, samples, random),
+                5 => room = at,
                 _ => tolerance = random.choose(&[ratio(1, 0), noise(0.0, -1.0)]),
             }
             if ticks.len() != samples {
                 break;
             }
         }
-        match judge(&ticks, &values, &list, tolerance) {
-            Ok(_) => seen[0] += 1,
-            Err((number, _)) => seen[number as usize] += 1,
+        let number = |row: Option<Row>| row.map_or(0, |(number, _)| number as usize);
+        let judged = judge(&ticks, &values, &list, tolerance);
+        seen[0][number(judged.err())] += 1;
+        for method in METHODS {
+            let reduced = reduce(method, &ticks, &values, tolerance, room);
+            seen[1][number(reduced.err())] += 1;
         }
     }
-    for row in [0, 1, 2, 3, 4, 6] {
-        assert!(seen[row] > 500, "{seen:?}");
+    for row in [0, 1, 2, 3, 4] {
+        assert!(seen.iter().all(|seen| seen[row] > 500), "{seen:?}");
     }
+    assert!(seen[0][6] > 500 && seen[1][10] > 500, "{seen:?}");
 }

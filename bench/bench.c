@@ -1,0 +1,189 @@
+/* Times the library's reductions beside the peers in plain C.
+ *
+ * bench: prints a table for each call.
+ * bench once KIND: calls every function once, so that instructions can be counted. */
+#define _POSIX_C_SOURCE 199309L
+#include "kovrelna.h"
+#include "peers.h"
+
+#include <stdio.h>
+#include <stdlib.h>
+#include <string.h>
+#include <time.h>
+
+#define COUNT(array) (sizeof(array) / sizeof((array)[0]))
+
+enum { SAMPLES = 4096, REPETITIONS = 201, CALLS = 3 };
+
+/* The functions that are compared, under one signature. */
+typedef reduced reducer(const uint32_t *, const int16_t *, size_t, int64_t, int64_t, uint16_t *);
+
+static void fail(const char *what) {
+  fprintf(stderr, "bench: %s\n", what);
+  exit(1);
+}
+
+static reduced library_walk(const uint32_t *ticks, const int16_t *values, size_t n, int64_t p,
+                            int64_t q, uint16_t *out) {
+  kovrelna_tolerance tolerance = kovrelna_ratio((uint64_t)p, (uint64_t)q);
+  kovrelna_kept kept = kovrelna_walk(ticks, n, values, n, tolerance, out, n);
+  reduced answer = {(size_t)kept.value, 0};
+  if (kept.number != 0) fail("walk refused a trace");
+  return answer;
+}
+
+static reduced library_gallop(const uint32_t *ticks, const int16_t *values, size_t n, int64_t p,
+                              int64_t q, uint16_t *out) {
+  kovrelna_tolerance tolerance = kovrelna_ratio((uint64_t)p, (uint64_t)q);
+  kovrelna_galloped kept = kovrelna_gallop(ticks, n, values, n, tolerance, out, n);
+  reduced answer = {(size_t)kept.value, kept.probes};
+  if (kept.number != 0) fail("gallop refused a trace");
+  return answer;
+}
+
+enum { WALK, WALK_C, GALLOP, GALLOP_C, DOUGLAS_PEUCKER_C, REDUCERS };
+static reducer *const REDUCER[REDUCERS] = {library_walk, walk_c, library_gallop, gallop_c,
+                                           douglas_peucker_c};
+
+/* ---- Traces ---- */
+
+static const char *const KINDS[] = {"pulse", "noise", "ramp", "zigzag", "spike"};
+
+static uint32_t ticks[SAMPLES];
+static int16_t values[COUNT(KINDS)][SAMPLES];
+
+static uint64_t state = 1;
+
+/* From -most to most. */
+static int within(int most) {
+  state ^= state << 13;
+  state ^= state >> 7;
+  state ^= state << 17;
+  return (int)(state % (uint64_t)(2 * most + 1)) - most;
+}
+
+static int noise(int most) { return (within(most) + within(most) + within(most)) / 3; }
+
+static void make_traces(void) {
+  double height = 0;
+  int k;
+  for (k = 0; k < SAMPLES; k++) {
+    ticks[k] = 1000 + 4 * (uint32_t)k;
+    /* A baseline with noise; at times a pulse with an exponential tail. */
+    height *= 0.97;
+    if (within(200) == 0) height += 4500 + within(4000);
+    values[0][k] = (int16_t)(200 + (int)height + noise(6));
+    values[1][k] = (int16_t)noise(40);
+    values[2][k] = (int16_t)(7 * k - 14000 + noise(3));
+    values[3][k] = (int16_t)(k % 2 == 0 ? 0 : 3);
+    values[4][k] = (int16_t)(within(32) == 0 ? within(2000) : noise(3));
+  }
+}
+
+/* ---- Measuring ---- */
+
+static const int64_t TOLERANCES[][2] = {{2, 1}, {15, 2}, {40, 1}};
+
+typedef struct row {
+  const char *kind;
+  double tolerance;
+  reduced answers[REDUCERS];
+  double times[REDUCERS][REPETITIONS]; /* nanoseconds a sample */
+} row;
+
+static row rows[COUNT(KINDS) * COUNT(TOLERANCES)];
+
+static double now(void) {
+  struct timespec time;
+  clock_gettime(CLOCK_MONOTONIC, &time);
+  return 1e9 * (double)time.tv_sec + (double)time.tv_nsec;
+}
+
+static int order(const void *a, const void *b) {
+  double x = *(const double *)a, y = *(const double *)b;
+  return (x > y) - (x < y);
+}
+
+/* The median of the times of x, each divided by the time of y in the same repetition if there is
+ * one. */
+static double median(const row *r, int x, int y) {
+  double list[REPETITIONS];
+  int k;
+  for (k = 0; k < REPETITIONS; k++) list[k] = r->times[x][k] / (y < 0 ? 1.0 : r->times[y][k]);
+  qsort(list, REPETITIONS, sizeof(double), order);
+  return list[REPETITIONS / 2];
+}
+
+static void same(const row *r, uint16_t lists[REDUCERS][SAMPLES], int x, int y) {
+  const reduced *a = &r->answers[x], *b = &r->answers[y];
+  if (a->kept != b->kept || a->probes != b->probes ||
+      memcmp(lists[x], lists[y], a->kept * sizeof(uint16_t)) != 0)
+    fail("the library and the peer differ");
+}
+
+static void measure(row *r, size_t kind, const int64_t *tolerance) {
+  static uint16_t lists[REDUCERS][SAMPLES];
+  int repetition, x, call;
+  r->kind = KINDS[kind];
+  r->tolerance = (double)tolerance[0] / (double)tolerance[1];
+  for (repetition = 0; repetition < REPETITIONS; repetition++) {
+    for (x = 0; x < REDUCERS; x++) {
+      double start = now();
+      for (call = 0; call < CALLS; call++)
+        r->answers[x] =
+            REDUCER[x](ticks, values[kind], SAMPLES, tolerance[0], tolerance[1], lists[x]);
+      r->times[x][repetition] = (now() - start) / CALLS / SAMPLES;
+    }
+  }
+  same(r, lists, WALK, WALK_C);
+  same(r, lists, GALLOP, GALLOP_C);
+  if (!kovrelna_judge(ticks, SAMPLES, values[kind], SAMPLES, lists[DOUGLAS_PEUCKER_C],
+                      r->answers[DOUGLAS_PEUCKER_C].kept,
+                      kovrelna_ratio((uint64_t)tolerance[0], (uint64_t)tolerance[1]))
+           .passed)
+    fail("the list of Douglas-Peucker is not within the tolerance");
+}
+
+/* ---- Tables ---- */
+
+static void print_tables(void) {
+  const row *r, *end = rows + COUNT(rows);
+  printf("Traces of %d samples. Times are nanoseconds a sample, medians of %d repetitions in turn;\n"
+         "ratios are of the same repetition. Times depend on the machine and its load.\n"
+         "C: %s (%s)\n",
+         SAMPLES, REPETITIONS, FLAGS, __VERSION__);
+  printf("\nwalk     tolerance    kept  kovrelna       C   ratio\n");
+  for (r = rows; r < end; r++)
+    printf("%-8s %9.2f %7zu %9.2f %7.2f %7.2f\n", r->kind, r->tolerance, r->answers[WALK].kept,
+           median(r, WALK, -1), median(r, WALK_C, -1), median(r, WALK, WALK_C));
+  printf("\ngallop   tolerance    kept  kovrelna       C   ratio  gallop/walk  probes\n");
+  for (r = rows; r < end; r++)
+    printf("%-8s %9.2f %7zu %9.2f %7.2f %7.2f %12.2f %7llu\n", r->kind, r->tolerance,
+           r->answers[GALLOP].kept, median(r, GALLOP, -1), median(r, GALLOP_C, -1),
+           median(r, GALLOP, GALLOP_C), median(r, GALLOP, WALK),
+           (unsigned long long)r->answers[GALLOP].probes);
+  printf("\nDouglas-Peucker (DP) in C, vertical distance\n"
+         "         tolerance    kept  walk keeps       C  walk/DP\n");
+  for (r = rows; r < end; r++)
+    printf("%-8s %9.2f %7zu %11zu %7.2f %8.3f\n", r->kind, r->tolerance,
+           r->answers[DOUGLAS_PEUCKER_C].kept, r->answers[WALK].kept,
+           median(r, DOUGLAS_PEUCKER_C, -1), median(r, WALK, DOUGLAS_PEUCKER_C));
+}
+
+int main(int argc, char **argv) {
+  size_t kind, t, x;
+  make_traces();
+  if (argc == 3 && strcmp(argv[1], "once") == 0) {
+    static uint16_t list[SAMPLES];
+    for (kind = 0; kind < COUNT(KINDS); kind++)
+      if (strcmp(argv[2], KINDS[kind]) == 0)
+        for (x = 0; x < REDUCERS; x++)
+          REDUCER[x](ticks, values[kind], SAMPLES, TOLERANCES[1][0], TOLERANCES[1][1], list);
+    return 0;
+  }
+  for (kind = 0; kind < COUNT(KINDS); kind++)
+    for (t = 0; t < COUNT(TOLERANCES); t++)
+      measure(&rows[kind * COUNT(TOLERANCES) + t], kind, TOLERANCES[t]);
+  print_tables();
+  return 0;
+}

@@ -1,0 +1,28 @@
+/* Reductions in plain C, to compare with. A peer checks the trace as the library does, takes an
+ * allowed tolerance p/q and an output of n entries, and writes the kept list. */
+#ifndef PEERS_H
+#define PEERS_H
+
+#include <stddef.h>
+#include <stdint.h>
+
+/* The kept number, 0 if the trace is refused, and gallop's probe total. */
+typedef struct reduced {
+  size_t kept;
+  uint64_t probes;
+} reduced;
+
+/* Walk, with the two edges of its cone. */
+reduced walk_c(const uint32_t *ticks, const int16_t *values, size_t n, int64_t p, int64_t q,
+               uint16_t *out);
+
+/* Gallop; a probe goes on with the cone of the last valid link. */
+reduced gallop_c(const uint32_t *ticks, const int16_t *values, size_t n, int64_t p, int64_t q,
+                 uint16_t *out);
+
+/* Douglas-Peucker with vertical distance: both ends, then the farthest sample of every link that is
+ * not valid. */
+reduced douglas_peucker_c(const uint32_t *ticks, const int16_t *values, size_t n, int64_t p,
+                          int64_t q, uint16_t *out);
+
+#endif

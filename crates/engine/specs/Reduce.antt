@@ -1,0 +1,56 @@
+-- The outcomes of the greedy reductions, walk and gallop (document 01, "The four reductions", and demands 1, 2 and 3).
+--   okOf            the link test of a trace at a tolerance
+--   GreedyList      a kept list of valid links with maximal stops, and demand 3 of it
+--   WalkOutcome, GallopOutcome   the contracts: by cases on the answer
+-- A refused call leaves the lent list as it was. Otherwise its first entries are the list, and the others stay.
+-- Assumes nothing.
+use mathlib.Core.Path.{_≡_}
+use mathlib.Core.Bool.{Bool}
+use mathlib.Core.List.{List}
+use Prim.Native.Nat.{ℕ, _+_, _-_, _*_, _≤_}
+use lib.IntN.{ℤ}
+use lib.ListN.{length}
+use Rattle.lists.specs.Overwrite.{Wrote}
+use Rattle.refusal.specs.declared.Checked.the-variants.{Fine, Refused}
+use Rattle.kept.specs.Kept.{KeptList, AllValid, MaximalStops, EachLink}
+use Rattle.kept.specs.Walk.{walkOf}
+use Rattle.kept.specs.Gallop.{gallopOf, gallopProbes, gallopSearch, floorLog2}
+use Rattle.tolerance.specs.declared.Tolerance.{Tolerance}
+use Rattle.trace.specs.Link.{valid, half}
+use Rattle.engine.specs.declared.Reduced.{Reduced}
+use Rattle.engine.specs.declared.Reduced.the-variants.{Kept, Refused as Declined}
+use Rattle.engine.specs.declared.Probed.{Probed}
+use Rattle.engine.specs.declared.Probed.the-variants.{Kept as Galloped, Refused as NotGalloped}
+use Rattle.engine.specs.Prepare.{criterionOf, outputRows}
+
+abbrev pub okOf : List ℕ → List ℤ → Tolerance → ℕ → ℕ → Bool
+okOf ts vs t = valid ts vs (criterionOf t)
+
+pub record GreedyList (ts : List ℕ) (vs : List ℤ) (t : Tolerance) (l : List ℕ) : Type 0 where
+  pub kept : KeptList (length ts - 1) l
+  pub within : AllValid (okOf ts vs t) l
+  pub maximal : MaximalStops (okOf ts vs t) (length ts - 1) l
+  -- demand 3: every kept list of this trace within half the tolerance, p over 2q, has at least as many samples
+  pub size : (h : List ℕ) → KeptList (length ts - 1) h → AllValid (valid ts vs (half (criterionOf t))) h → length l ≤ length h
+
+-- walk kept n samples, and the lent list o became o′
+pub record Walked (ts : List ℕ) (vs : List ℤ) (t : Tolerance) (o : List ℕ) (n : ℕ) (o′ : List ℕ) : Type 0 where
+  pub rows : outputRows ts vs t (length o) ≡ Fine
+  pub wrote : Wrote (walkOf (okOf ts vs t) (length ts - 1)) o n o′
+  pub list : GreedyList ts vs t (walkOf (okOf ts vs t) (length ts - 1))
+
+abbrev pub WalkOutcome : List ℕ → List ℤ → Tolerance → List ℕ → Reduced → List ℕ → Type 0
+WalkOutcome ts vs t o (Kept n) o′ = Walked ts vs t o n o′
+WalkOutcome ts vs t o (Declined x) o′ = (outputRows ts vs t (length o) ≡ Refused x) × (o′ ≡ o)
+
+-- gallop kept n samples by p probes: the method's own, at most 2 floor (log2 r) + 1 for a stop of r samples
+pub record Searched (ts : List ℕ) (vs : List ℤ) (t : Tolerance) (o : List ℕ) (n p : ℕ) (o′ : List ℕ) : Type 0 where
+  pub rows : outputRows ts vs t (length o) ≡ Fine
+  pub wrote : Wrote (gallopOf (okOf ts vs t) (length ts - 1)) o n o′
+  pub list : GreedyList ts vs t (gallopOf (okOf ts vs t) (length ts - 1))
+  pub probes : p ≡ gallopProbes (okOf ts vs t) (length ts - 1)
+  pub bound : EachLink (λ i j. gallopSearch (okOf ts vs t) (length ts - 1) i .probes ≤ 2 * floorLog2 64 (j - i) + 1) (gallopOf (okOf ts vs t) (length ts - 1))
+
+abbrev pub GallopOutcome : List ℕ → List ℤ → Tolerance → List ℕ → Probed → List ℕ → Type 0
+GallopOutcome ts vs t o (Galloped g) o′ = Searched ts vs t o (g .count) (g .probes) o′
+GallopOutcome ts vs t o (NotGalloped x) o′ = (outputRows ts vs t (length o) ≡ Refused x) × (o′ ≡ o)

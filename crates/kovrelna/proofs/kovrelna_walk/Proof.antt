@@ -1,0 +1,33 @@
+-- `kovrelna::kovrelna_walk` meets its contract: it has the outcome of the public call. Assumes nothing.
+use mathlib.Core.Path.{subst}
+use Rattle.engine.specs.Reduce.{WalkOutcome}
+use Rattle.tolerance.specs.declared.Tolerance.{Tolerance}
+use borrow.Author.Needs.{needs}
+use Rattle.kovrelna.proofs.kovrelna_walk.Statement.{statement}
+use Rattle.kovrelna.proofs.kovrelna_walk.Tie as tie
+
+tolerance-of-requires : tie.Need-tolerance-of-requires
+tolerance-of-requires c κs = search needs
+
+walk-requires : tie.Need-walk-requires
+walk-requires c κs = search needs
+
+kept-of-requires : tie.Need-kept-of-requires
+kept-of-requires c κs = search needs
+
+same-length : tie.Need-same-length
+same-length c = search needs
+
+returns : tie.Need-returns
+returns c =
+    let called = c .before .before .before in
+    let a = called .before .before .before .before .before .args in
+    record {
+      answer = called .walk .result;
+      is = c .kept-of .ensures;
+      outcome = subst (λ (x : Tolerance). WalkOutcome (a .ticks .now) (a .values .now) x (a .out .now) (called .walk .result) (called .walk .last .1 .1 .1 .0)) (called .before .before .tolerance-of .ensures) (called .walk .ensures);
+    }
+
+pub kovrelna-walk-spec : {M : Type 1} → statement M
+kovrelna-walk-spec =
+    tie.close (tie.spec tolerance-of-requires walk-requires kept-of-requires same-length returns)

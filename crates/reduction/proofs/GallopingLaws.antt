@@ -1,0 +1,135 @@
+-- Laws of gallop's search over a trace: a probe, and the loops that probe.
+-- Assumes nothing.
+use mathlib.Core.Path.{_≡_, refl, sym, _∙_, subst}
+use mathlib.Core.Bool.{Bool, true, false}
+use mathlib.Core.List.{List}
+use Prim.Native.Nat.{ℕ, _+_, _-_, _*_, _/_, _≤_, _<_}
+use native.Mathlib.Omega.{arith}
+use lib.IntN.{ℤ}
+use lib.ListN.{length}
+use Rattle.kept.specs.declared.Search.{Search}
+use Rattle.kept.specs.Gallop.{found, doubling, bisection, searchBy, gallopSearch}
+use Rattle.kept.proofs.GallopLaws.{probe-within, probe-none, search-bounds}
+use Rattle.kept.proofs.SearchLaws.{moved-yes, stayed-no, at-yes, below-no, Doubling, doubling-none, doubling-more, doubling-ends, Bisecting, bisecting-none, bisecting-yes, bisecting-no, bisecting-ends}
+use Rattle.trace.specs.declared.Criterion.{Criterion}
+use Rattle.trace.specs.Trace.{Trace}
+use Rattle.trace.specs.Link.{Bounded, valid}
+use Rattle.trace.proofs.Validity.{steps-valid}
+use Rattle.reduction.specs.declared.Links.{Links}
+use Rattle.reduction.specs.declared.Probing.{Probing}
+use Rattle.reduction.specs.Outgoing.{TakenIn, Next}
+use Rattle.reduction.specs.Galloping.{probeAt, Yes, Probes, Probed}
+use Rattle.reduction.proofs.OutgoingLaws.{next-at, valid-at}
+
+-- ---- a probe
+
+module _ {ts : List ℕ} {vs : List ℤ} {c : Criterion} {s : Probing} {d : ℕ} (p : Probes ts vs c s d) where
+  abbrev from : ℕ
+  from = s .links .from .sample
+
+  pub probes-next : Next ts vs c (s .links) (from + s .low)
+  probes-next = next-at (p .yes .links) (p .trace) (p .bounded) (omega (arith, p .yes .pos)) (p .yes .inside)
+
+  pub probed-past : length ts ≤ from + d → Probed ts vs c from s d (record { low = s .low; probes = s .probes + 1; links = s .links })
+  probed-past le = record {
+    yes = record { pos = p .yes .pos; inside = p .yes .inside; links = p .yes .links };
+    low = rw (probe-none (valid ts vs c) (length ts - 1) from d (omega (arith, p .yes .inside)));
+    probes = refl;
+  }
+
+  -- l has taken in every sample before the one probed
+  module _ {l : Links} (inside : from + d < length ts) (t : TakenIn ts vs c from (from + d) l) where
+    pub far-next : Next ts vs c l (from + d)
+    far-next = next-at t (p .trace) (p .bounded) (omega (arith, p .further)) inside
+
+    answer : {b : Bool} → b ≡ valid ts vs c (l .from .sample) (from + d) → probeAt ts vs c from d ≡ b
+    answer e = probe-within (valid ts vs c) (length ts - 1) from d (omega arith) ∙ sym (valid-at t (from + d) e)
+
+    pub probed-yes : true ≡ valid ts vs c (l .from .sample) (from + d) → Probed ts vs c from s d (record { low = d; probes = s .probes + 1; links = l })
+    probed-yes e = record {
+      yes = record { pos = omega (arith, p .further); inside = inside; links = t };
+      low = rw (answer e);
+      probes = refl;
+    }
+
+    pub probed-no : false ≡ valid ts vs c (l .from .sample) (from + d) → Probed ts vs c from s d (record { low = s .low; probes = s .probes + 1; links = s .links })
+    probed-no e = record {
+      yes = record { pos = p .yes .pos; inside = p .yes .inside; links = p .yes .links };
+      low = rw (answer e);
+      probes = refl;
+    }
+
+-- a search from sample i
+module _ {ts : List ℕ} {vs : List ℤ} {c : Criterion} {i : ℕ} {s : Probing} (y : Yes ts vs c i s) where
+  pub yes-own : Yes ts vs c (s .links .from .sample) s
+  yes-own = subst (λ (k : ℕ). Yes ts vs c k s) (sym (y .links .start .sample)) y
+
+  pub probes-at : {d : ℕ} → Trace ts vs → Bounded c → s .low < d → d ≤ 8192 → s .probes ≤ 8192 → Probes ts vs c s d
+  probes-at t b lt near few = record {
+    trace = t;
+    bounded = b;
+    yes = yes-own;
+    further = lt;
+    near = near;
+    few = few;
+  }
+
+  pub probed-at : {d : ℕ} {r : Probing} → Probed ts vs c (s .links .from .sample) s d r → Probed ts vs c i s d r
+  probed-at {d} {r} h = subst (λ (k : ℕ). Probed ts vs c k s d r) (y .links .start .sample) h
+
+-- ---- the loops
+
+-- the doubling from sample i has reached the yes of s
+pub record Raising (ts : List ℕ) (vs : List ℤ) (c : Criterion) (i : ℕ) (s : Probing) : Type 0 where
+  pub yes : Yes ts vs c i s
+  pub doubles : Doubling (valid ts vs c) (length ts - 1) i (s .low) (s .probes)
+
+pub raising-none : {ts : List ℕ} {vs : List ℤ} {c : Criterion} {i : ℕ} {l : Links} → i + 1 < length ts → TakenIn ts vs c i (i + 1) l → Raising ts vs c i (record { low = 1; probes = 0; links = l })
+raising-none h t = record { yes = record { pos = omega arith; inside = h; links = t }; doubles = doubling-none (omega arith) }
+
+module _ {ts : List ℕ} {vs : List ℤ} {c : Criterion} {i : ℕ} {s r : Probing} (g : Raising ts vs c i s) (h : Probed ts vs c (s .links .from .sample) s (s .low + s .low) r) where
+  after : Probed ts vs c i s (s .low + s .low) r
+  after = probed-at (g .yes) h
+
+  pub raising-more : (r .low ≡ s .low → ⊥) → Raising ts vs c i r × (r .low ≡ s .low + s .low)
+  raising-more n =
+      let m = moved-yes (probeAt ts vs c i (s .low + s .low)) (s .low) (s .low + s .low) (omega (arith, g .yes .pos)) (after .low) n in
+      (record { yes = after .yes; doubles = rw (m .1, after .probes) (doubling-more (g .doubles) (m .0)) }, m .1)
+
+  pub raising-ends : r .low ≡ s .low → (Yes ts vs c i r × (r .probes ≤ r .low)) × (found (r .low) (r .probes) ≡ doubling (probeAt ts vs c i) 1 0 (length ts - 1))
+  raising-ends e =
+      let q = stayed-no (probeAt ts vs c i (s .low + s .low)) (s .low) (s .low + s .low) (omega (arith, g .yes .pos)) (after .low) e in
+      ((after .yes, omega (arith, g .doubles .few, after .probes)), rw (e, after .probes) (doubling-ends (g .doubles) q))
+
+-- the bisection between the yes of `up` and twice its offset has reached the yes of s and the no `high`
+pub record Narrowing (ts : List ℕ) (vs : List ℤ) (c : Criterion) (up s : Probing) (high : ℕ) : Type 0 where
+  pub yes : Yes ts vs c (up .links .from .sample) s
+  pub bisects : Bisecting (probeAt ts vs c (up .links .from .sample)) (up .low) (up .probes) (s .low) high (s .probes)
+
+module _ {ts : List ℕ} {vs : List ℤ} {c : Criterion} {up s r : Probing} {high : ℕ} (g : Narrowing ts vs c up s high) (lt : s .low + 1 < high)
+    (h : Probed ts vs c (s .links .from .sample) s ((s .low + high) / 2) r) where
+  probed : Probed ts vs c (up .links .from .sample) s ((s .low + high) / 2) r
+  probed = probed-at (g .yes) h
+
+  pub narrowing-yes : r .low ≡ (s .low + high) / 2 → Narrowing ts vs c up r high
+  narrowing-yes e =
+      let q = at-yes (probeAt ts vs c (up .links .from .sample) ((s .low + high) / 2)) (s .low) ((s .low + high) / 2) (omega arith) (probed .low) e in
+      record { yes = probed .yes; bisects = rw (e, probed .probes) (bisecting-yes (g .bisects) lt q) }
+
+  pub narrowing-no : (r .low ≡ (s .low + high) / 2 → ⊥) → Narrowing ts vs c up r ((s .low + high) / 2) × (r .low ≡ s .low)
+  narrowing-no n =
+      let q = below-no (probeAt ts vs c (up .links .from .sample) ((s .low + high) / 2)) (s .low) ((s .low + high) / 2) (omega arith) (probed .low) n in
+      (record { yes = probed .yes; bisects = rw (q .1, probed .probes) (bisecting-no (g .bisects) lt (q .0)) }, q .1)
+
+-- the doubling and then the bisection are the search
+module _ {ts : List ℕ} {vs : List ℤ} {c : Criterion} {i : ℕ} {up : Probing} {r : Search} (y : Yes ts vs c i up)
+    (d : found (up .low) (up .probes) ≡ doubling (probeAt ts vs c i) 1 0 (length ts - 1))
+    (b : r ≡ bisection (probeAt ts vs c (up .links .from .sample)) (up .low) (up .low + up .low) (up .probes) (up .low)) where
+  pub searched : r ≡ gallopSearch (valid ts vs c) (length ts - 1) i
+  unfolding gallopSearch searchBy
+  searched = rw (← d) (rw (y .links .start .sample) at b)
+
+  pub searched-bounds : i + 1 < length ts → (0 < r .low) × (i + r .low < length ts) × (r .probes ≤ 2 * r .low)
+  searched-bounds h =
+      let f = search-bounds (valid ts vs c) (steps-valid ts vs c) (length ts - 1) i (omega arith) r searched in
+      (f .0, omega (arith, f .1), f .2)

@@ -1,0 +1,4 @@
+-- The laws of the crate `reduction`.
+pub mod OutgoingLaws
+pub mod WalkingLaws
+pub mod GallopingLaws

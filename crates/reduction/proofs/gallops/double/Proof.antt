@@ -1,0 +1,59 @@
+-- `reduction::gallops::double` meets its contract. The loop's invariant: the doubling from here on is the whole doubling. Assumes nothing.
+use Prim.Native.Nat.{_-_}
+use native.Mathlib.Omega.{arith}
+use lib.ListN.{length}
+use borrow.Author.Needs.{needs}
+use Rattle.reduction.proofs.GallopingLaws.{probes-at, Raising, raising-none, raising-more, raising-ends}
+use Rattle.reduction.proofs.gallops.double.Statement.{statement}
+use Rattle.reduction.proofs.gallops.double.Tie as tie
+
+abbrev Inv-loop : tie.InvT-loop
+Inv-loop ticks values c i s₀ s = Raising ticks values c i s
+
+abbrev μ-loop : tie.MeasureT-loop
+μ-loop ticks values c i s₀ s = length ticks - s .low
+
+links-at-requires : tie.Need-links-at-requires Inv-loop μ-loop
+links-at-requires c κs = search needs
+
+loop-holds : tie.Need-loop-holds Inv-loop μ-loop
+loop-holds c = raising-none (c .before .before .pre .2) (c .links-at .ensures)
+
+add-probe : tie.Need-add-probe Inv-loop μ-loop
+add-probe c = search needs
+
+probe-requires : tie.Need-probe-requires Inv-loop μ-loop
+probe-requires c κs =
+    let pre = c .before .before .before .before .pre in
+    let g = c .before .loop .inv in
+    probes-at (g .yes) (pre .0) (pre .1) (omega arith) (omega arith) (omega arith)
+
+returns : tie.Need-returns Inv-loop μ-loop
+returns c =
+    let at = c .before .before .before in
+    raising-ends (at .before .before .loop .inv) (at .probe .ensures) (c .if1 .taken)
+
+loop-less : tie.Need-loop-less Inv-loop μ-loop
+loop-less c =
+    let at = c .before .before .before in
+    let m = raising-more (at .before .before .loop .inv) (at .probe .ensures) (c .if1 .left) in
+    omega (arith, m .1, m .0 .yes, at .before .before .loop .inv .yes)
+
+loop-again : tie.Need-loop-again Inv-loop μ-loop
+loop-again c =
+    let at = c .before .before .before in
+    raising-more (at .before .before .loop .inv) (at .probe .ensures) (c .if1 .left) .0
+
+pub double-spec : {M : Type 1} → statement M
+double-spec =
+    tie.close
+    (tie.spec
+    Inv-loop
+    μ-loop
+    links-at-requires
+    loop-holds
+    add-probe
+    probe-requires
+    returns
+    loop-less
+    loop-again)

@@ -1,0 +1,26 @@
+-- The links from one sample of a trace, with the samples taken in so far.
+--   TakenIn  the start is sample i, and every sample between i and j has been taken in
+--   Next     j is a sample of the trace, and every sample between the start and j has been taken in
+-- Laws are in OutgoingLaws. Assumes nothing.
+use mathlib.Core.List.{List}
+use Prim.Native.Nat.{ℕ, _<_}
+use lib.IntN.{ℤ}
+use lib.ListN.{length}
+use Rattle.trace.specs.declared.Criterion.{Criterion}
+use Rattle.trace.specs.Trace.{Trace}
+use Rattle.trace.specs.Link.{Bounded}
+use Rattle.trace.specs.Edge.{StartAt}
+use Rattle.trace.specs.Cone.{ConeFits, Takes}
+use Rattle.reduction.specs.declared.Links.{Links}
+
+pub record TakenIn (ts : List ℕ) (vs : List ℤ) (c : Criterion) (i j : ℕ) (l : Links) : Type 0 where
+  pub start : StartAt ts vs (c .q) i (l .from)
+  pub takes : Takes ts vs c i j (l .cone)
+  pub fits : ConeFits (l .cone)
+
+pub record Next (ts : List ℕ) (vs : List ℤ) (c : Criterion) (l : Links) (j : ℕ) : Type 0 where
+  pub trace : Trace ts vs
+  pub bounded : Bounded c
+  pub taken : TakenIn ts vs c (l .from .sample) j l
+  pub after : l .from .sample < j
+  pub inside : j < length ts

@@ -1,0 +1,135 @@
+// Gallop: from each kept sample the next one is searched, by doubling and bisection. A probe goes on from the links of the last yes.
+ghost use mathlib.Core.Path.{_≡_};
+ghost use Prim.Native.Nat.{_+_, _-_, _*_, _≤_, _<_};
+ghost use lib.ListN.{length};
+ghost use Rattle.kept.specs.Gallop.{found, doubling, bisection, gallopSearch};
+ghost use Rattle.trace.specs.Trace.{Trace};
+ghost use Rattle.trace.specs.Link.{Bounded, valid};
+ghost use Rattle.reduction.specs.Outgoing.{TakenIn, Next};
+ghost use Rattle.reduction.specs.Galloping.{probeAt, Yes, Probes, Probed, Gallops};
+use crate::Galloped;
+use crate::Links;
+use crate::Probing;
+use crate::outgoing::links_at;
+use crate::outgoing::reaches;
+use crate::outgoing::taken;
+use kept::Search;
+use trace::Criterion;
+
+// The links with the samples from a on and before b taken in too.
+fn taken_to(ticks: &[u32], values: &[i16], c: Criterion, links: Links, a: usize, b: usize) -> Links
+    requires { ⌜ Next (now ticks) (now values) c links a × (a ≤ b) × (b < length (now ticks)) ⌝ }
+    ensures { λ r. ⌜ TakenIn (now (ticks .entry)) (now (values .entry)) c (links .from .sample) b r ⌝ }
+{
+    let mut l = links;
+    let mut k = a;
+    while k < b {
+        l = taken(ticks, values, c, l, k);
+        k += 1;
+    }
+    l
+}
+
+// The search after a probe at offset d. A probe past the last sample answers no, and counts.
+fn probe(ticks: &[u32], values: &[i16], c: Criterion, s: Probing, d: usize) -> Probing
+    requires { ⌜ Probes (now ticks) (now values) c s d ⌝ }
+    ensures { λ r. ⌜ Probed (now (ticks .entry)) (now (values .entry)) c (s .links .from .sample) s d r ⌝ }
+{
+    let links = s.links;
+    let i = links.from.sample;
+    let end = i + d;
+    let probes = s.probes + 1;
+    if ticks.len() <= end {
+        return Probing {
+            low: s.low,
+            probes: probes,
+            links: links,
+        };
+    }
+    let far = taken_to(ticks, values, c, links, i + s.low, end);
+    if reaches(ticks, values, c, far, end) {
+        return Probing {
+            low: d,
+            probes: probes,
+            links: far,
+        };
+    }
+    Probing {
+        low: s.low,
+        probes: probes,
+        links: links,
+    }
+}
+
+// The last yes of probes from sample i at offsets 2, 4, 8, ..
+fn double(ticks: &[u32], values: &[i16], c: Criterion, i: usize) -> Probing
+    requires { ⌜ Trace (now ticks) (now values) × Bounded c × (i + 1 < length (now ticks)) ⌝ }
+    ensures yes { λ r. ⌜ Yes (now (ticks .entry)) (now (values .entry)) c i r × (r .probes ≤ r .low) ⌝ }
+    ensures finds { λ r. ⌜ found (r .low) (r .probes) ≡ doubling (probeAt (now (ticks .entry)) (now (values .entry)) c i) 1 0 (length (now (ticks .entry)) - 1) ⌝ }
+{
+    let mut s = Probing {
+        low: 1,
+        probes: 0,
+        links: links_at(ticks, values, c, i),
+    };
+    loop {
+        let next = probe(ticks, values, c, s, s.low + s.low);
+        if next.low == s.low {
+            return next;
+        }
+        s = next;
+    }
+}
+
+// The last yes between the offset of `up`, a yes, and twice that offset, a no.
+fn bisect(ticks: &[u32], values: &[i16], c: Criterion, up: Probing) -> Search
+    requires { ⌜ Trace (now ticks) (now values) × Bounded c × Yes (now ticks) (now values) c (up .links .from .sample) up × (up .probes ≤ up .low) ⌝ }
+    ensures { λ r. ⌜ r ≡ bisection (probeAt (now (ticks .entry)) (now (values .entry)) c (up .links .from .sample)) (up .low) (up .low + up .low) (up .probes) (up .low) ⌝ }
+{
+    let mut s = up;
+    let mut high = up.low + up.low;
+    while s.low + 1 < high {
+        let mid = (s.low + high) / 2;
+        s = probe(ticks, values, c, s, mid);
+        if s.low != mid {
+            high = mid;
+        }
+    }
+    Search {
+        low: s.low,
+        probes: s.probes,
+    }
+}
+
+// The search from sample i: the offset of its stop, and its probes.
+fn search(ticks: &[u32], values: &[i16], c: Criterion, i: usize) -> Search
+    requires { ⌜ Trace (now ticks) (now values) × Bounded c × (i + 1 < length (now ticks)) ⌝ }
+    ensures finds { λ r. ⌜ r ≡ gallopSearch (valid (now (ticks .entry)) (now (values .entry)) c) (length (now (ticks .entry)) - 1) i ⌝ }
+    ensures bounds { λ r. ⌜ (0 < r .low) × (i + r .low < length (now (ticks .entry))) × (r .probes ≤ 2 * r .low) ⌝ }
+{
+    let up = double(ticks, values, c, i);
+    bisect(ticks, values, c, up)
+}
+
+// Writes gallop's list into out; how many samples it keeps, and its probe total.
+pub fn gallop(ticks: &[u32], values: &[i16], c: Criterion, out: &mut [u16]) -> Galloped
+    requires { ⌜ Trace (now ticks) (now values) × Bounded c × (length (now ticks) ≤ length (now out)) ⌝ }
+    ensures { λ r. ⌜ Gallops (now (ticks .entry)) (now (values .entry)) c (now (out .entry)) r (now (out .exit)) ⌝ }
+{
+    let last = ticks.len() - 1;
+    out[0] = 0;
+    let mut count: usize = 1;
+    let mut i: usize = 0;
+    let mut probes: usize = 0;
+    while i < last {
+        let s = search(ticks, values, c, i);
+        i += s.low;
+        probes += s.probes;
+        out[count] = i as u16;
+        count += 1;
+    }
+    Galloped {
+        count: count,
+        probes: probes,
+    }
+}

@@ -1,0 +1,33 @@
+// Reductions of a checked trace: the links from one sample (outgoing), walk (walks) and gallop (gallops).
+use trace::Cone;
+use trace::Start;
+
+// The links from one sample: the sample, and the cone of what the samples taken in leave open.
+pub struct Links {
+    pub from: Start,
+    pub cone: Cone,
+}
+
+// Walk with the sample `at` reached: the links from the last sample kept, and how many samples are kept.
+pub struct Walk {
+    pub links: Links,
+    pub at: usize,
+    pub count: usize,
+}
+
+// A search from a sample: the offset of its last yes, the probes made, and the links with the samples before that offset taken in.
+pub struct Probing {
+    pub low: usize,
+    pub probes: usize,
+    pub links: Links,
+}
+
+// How many samples gallop kept, and the probes that it made.
+pub struct Galloped {
+    pub count: usize,
+    pub probes: usize,
+}
+
+pub mod gallops;
+pub mod outgoing;
+pub mod walks;

@@ -1,0 +1,82 @@
+// The links from one sample of a trace: each is tested, and each sample taken in, in constant time.
+ghost use mathlib.Core.Path.{_≡_};
+ghost use Prim.Native.Nat.{_+_, _<_};
+ghost use lib.ListN.{length};
+ghost use Rattle.trace.specs.Trace.{Trace};
+ghost use Rattle.trace.specs.Link.{Bounded, valid};
+ghost use Rattle.trace.specs.Edge.{Tilt};
+ghost use Rattle.trace.specs.Cone.{coneFrom, extendedBy, ConeFits};
+ghost use Rattle.reduction.specs.Outgoing.{TakenIn, Next};
+use crate::Links;
+use trace::Cone;
+use trace::Criterion;
+use trace::Edge;
+use trace::cones::admits;
+use trace::cones::cone_from;
+use trace::cones::extended;
+use trace::edges::edge_to;
+use trace::edges::lower_by;
+use trace::edges::raise_by;
+use trace::edges::start_at;
+
+// The links from sample i, with nothing taken in.
+pub fn links_at(ticks: &[u32], values: &[i16], c: Criterion, i: usize) -> Links
+    requires { ⌜ Trace (now ticks) (now values) × Bounded c × (i < length (now ticks)) ⌝ }
+    ensures { λ r. ⌜ TakenIn (now (ticks .entry)) (now (values .entry)) c i (i + 1) r ⌝ }
+{
+    let from = start_at(ticks, values, i, c.q);
+    Links {
+        from: from,
+        cone: cone_from(c.p),
+    }
+}
+
+// The cone that has taken in one sample, that of the edge `to`.
+fn cone_of(to: Edge, p: u64) -> Cone
+    requires { ⌜ Tilt to p ⌝ }
+    ensures { λ r. ⌜ (r ≡ extendedBy (coneFrom p) to p) × ConeFits r ⌝ }
+{
+    let low = lower_by(to, p);
+    let high = raise_by(to, p);
+    Cone {
+        low: low,
+        high: high,
+    }
+}
+
+// The links from sample i, with the next sample taken in.
+pub fn links_past(ticks: &[u32], values: &[i16], c: Criterion, i: usize) -> Links
+    requires { ⌜ Trace (now ticks) (now values) × Bounded c × (i + 1 < length (now ticks)) ⌝ }
+    ensures { λ r. ⌜ TakenIn (now (ticks .entry)) (now (values .entry)) c i (i + 2) r ⌝ }
+{
+    let from = start_at(ticks, values, i, c.q);
+    let to = edge_to(ticks, values, from, i + 1, c.q);
+    Links {
+        from: from,
+        cone: cone_of(to, c.p),
+    }
+}
+
+// Whether the link to sample j is valid.
+pub fn reaches(ticks: &[u32], values: &[i16], c: Criterion, links: Links, j: usize) -> bool
+    requires { ⌜ Next (now ticks) (now values) c links j ⌝ }
+    ensures { λ r. ⌜ r ≡ valid (now (ticks .entry)) (now (values .entry)) c (links .from .sample) j ⌝ }
+{
+    let from = links.from;
+    let cone = links.cone;
+    admits(cone, edge_to(ticks, values, from, j, c.q))
+}
+
+// The links with sample j taken in too.
+pub fn taken(ticks: &[u32], values: &[i16], c: Criterion, links: Links, j: usize) -> Links
+    requires { ⌜ Next (now ticks) (now values) c links j ⌝ }
+    ensures { λ r. ⌜ TakenIn (now (ticks .entry)) (now (values .entry)) c (links .from .sample) (j + 1) r ⌝ }
+{
+    let from = links.from;
+    let cone = links.cone;
+    let to = edge_to(ticks, values, from, j, c.q);
+    Links {
+        from: from,
+        cone: extended(cone, to, c.p),
+    }
+}
