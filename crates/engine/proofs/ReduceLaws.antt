@@ -1,4 +1,4 @@
--- Laws of the greedy reductions: the lists of walk and gallop are greedy, and demand 3 holds of them.
+-- Laws of the reductions: the lists of walk and gallop are greedy, and demand 3 holds of them; minimum's is the shortest.
 -- Assumes nothing.
 use mathlib.Core.Path.{_≡_, refl, sym, subst, _∙_}
 use mathlib.Core.Bool.{Bool}
@@ -15,6 +15,8 @@ use Rattle.kept.specs.Walk.{walkOf}
 use Rattle.kept.proofs.WalkLaws.{walk-greedy}
 use Rattle.kept.specs.Gallop.{gallopSearch, gallopOf, gallopProbes, floorLog2}
 use Rattle.kept.proofs.GallopLaws.{gallop-greedy, stop-probes}
+use Rattle.kept.specs.Minimum.{minimumOf}
+use Rattle.shortest.proofs.ShortestLaws.{minimum-list}
 use Rattle.tolerance.specs.declared.Tolerance.{Tolerance}
 use Rattle.trace.specs.declared.Criterion.{Criterion}
 use Rattle.trace.specs.Trace.{Trace}
@@ -23,6 +25,7 @@ use Rattle.trace.proofs.Validity.{steps-valid}
 use Rattle.trace.proofs.Half.{halves}
 use Rattle.engine.specs.Prepare.{criterionOf, OutputReady}
 use Rattle.engine.specs.Reduce.{okOf, GreedyList, Walked, Searched}
+use Rattle.engine.specs.Shortest.{Shortened}
 
 -- any greedy list: kept, of valid links, with maximal stops
 pub greedy-list : {ts : List ℕ} {vs : List ℤ} (t : Tolerance) {l : List ℕ} → Trace ts vs → Greedy (okOf ts vs t) (length ts - 1) l → GreedyList ts vs t l
@@ -52,3 +55,10 @@ module _ {ts : List ℕ} {vs : List ℤ} {t : Tolerance} {o o′ : List ℕ} {n 
         bound = each-map {S = λ i j. gallopSearch (okOf ts vs t) (length ts - 1) i .probes ≤ 2 * floorLog2 64 (j - i) + 1} (λ i j x. le-of-eq x) (gallopOf (okOf ts vs t) (length ts - 1))
             (stop-probes (okOf ts vs t) (steps-valid ts vs (criterionOf t)) (length ts - 1) 64 (omega arith));
       }
+
+  pub shortened : Wrote (minimumOf (valid ts vs c) (length ts - 1)) o n o′ → Shortened ts vs t o n o′
+  shortened w = record {
+    rows = r .rows;
+    wrote = subst (λ (x : Criterion). Wrote (minimumOf (valid ts vs x) (length ts - 1)) o n o′) (r .ready .is) w;
+    list = minimum-list ts vs (criterionOf t);
+  }

@@ -3,3 +3,4 @@ pub mod Hold
 pub mod Prepare
 pub mod Judge
 pub mod Reduce
+pub mod Shortest

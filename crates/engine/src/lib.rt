@@ -23,7 +23,7 @@ pub enum Verdict {
     Refused(Refusal),
 }
 
-// What `walk` answers: how many samples it kept, or a refusal.
+// What `walk` and `minimum` answer: how many samples they kept, or a refusal.
 pub enum Reduced {
     Kept(usize),
     Refused(Refusal),
@@ -38,5 +38,6 @@ pub enum Probed {
 pub mod gallop;
 pub mod hold;
 pub mod judge;
+pub mod minimum;
 mod prepare;
 pub mod walk;

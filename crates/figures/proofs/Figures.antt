@@ -10,6 +10,7 @@ use Rattle.ratio.specs.Gcd.{gcd, euclid}
 use Rattle.ratio.specs.Order.{over}
 use Rattle.kept.specs.Stops.{stops}
 use Rattle.kept.specs.Walk.{walkStop, walkOf}
+use Rattle.kept.specs.Minimum.{bestStop, linksIn, linksOf, nextOf, minimumOf}
 use Rattle.kept.specs.Gallop.{probeOf, doubling, bisection, searchBy, gallopSearch, gallopOf, gallopProbes, sumFrom}
 use Rattle.refusal.specs.declared.Refusal.the-variants.{Tick, Span}
 use Rattle.refusal.specs.declared.Checked.the-variants.{Fine, Refused}
@@ -29,7 +30,7 @@ five = 0 ∷ 1 ∷ 2 ∷ 3 ∷ 4 ∷ []
 abbrev ok : List ℤ → ℕ → ℕ → ℕ → Bool
 ok vs p = valid five vs (criterion (over p 1))
 
--- ---- values 0 3 0 3 0, tolerance 2: walk and gallop keep all five, gallop with 4 probes
+-- ---- values 0 3 0 3 0, tolerance 2: walk and gallop keep all five, gallop with 4 probes; minimum 0 3 4
 
 abbrev teeth : List ℤ
 teeth = pos 0 ∷ pos 3 ∷ pos 0 ∷ pos 3 ∷ pos 0 ∷ []
@@ -46,7 +47,15 @@ probes-teeth-2 : gallopProbes (ok teeth 2) 4 ≡ 4
 unfolding gallopProbes sumFrom gallopOf gallopSearch probeOf searchBy doubling bisection stops valid allFrom within deviation
 probes-teeth-2 = refl
 
+minimum-teeth-2 : minimumOf (ok teeth 2) 4 ≡ 0 ∷ 3 ∷ 4 ∷ []
+unfolding minimumOf nextOf linksOf linksIn bestStop stops valid allFrom within deviation
+minimum-teeth-2 = refl
+
 -- ---- the same, tolerance 3: all keep 0 4; gallop 5 probes
+
+minimum-teeth-3 : minimumOf (ok teeth 3) 4 ≡ 0 ∷ 4 ∷ []
+unfolding minimumOf nextOf linksOf linksIn bestStop stops valid allFrom within deviation
+minimum-teeth-3 = refl
 
 walk-teeth-3 : walkOf (ok teeth 3) 4 ≡ 0 ∷ 4 ∷ []
 unfolding walkOf walkStop stops valid allFrom within deviation

@@ -6,3 +6,4 @@ pub mod WalkLaws
 pub mod GallopLaws
 pub mod SearchLaws
 pub mod Filling
+pub mod MinimumLaws

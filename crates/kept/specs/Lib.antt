@@ -4,3 +4,4 @@ pub mod Error
 pub mod Stops
 pub mod Walk
 pub mod Gallop
+pub mod Minimum

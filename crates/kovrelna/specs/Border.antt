@@ -1,7 +1,7 @@
 -- What the structs of the C interface stand for: the enums of the public calls.
 --   toleranceOf        the tolerance that a form gives
 --   heldOf, verdictOf, keptOf, gallopedOf   an answer as numbers: 0 for success, or the refusal's number and value
---   WalkExport, GallopExport                an export that writes a list has the outcome of the public call
+--   WalkExport, GallopExport, MinimumExport an export that writes a list has the outcome of the public call
 -- Assumes nothing.
 use mathlib.Core.Path.{_≡_}
 use mathlib.Core.Bool.{cond}
@@ -21,6 +21,7 @@ use Rattle.engine.specs.declared.Reduced.the-variants.{Kept as IsKept, Refused 
 use Rattle.engine.specs.declared.Probed.{Probed}
 use Rattle.engine.specs.declared.Probed.the-variants.{Kept as IsGalloped, Refused as NotGalloped}
 use Rattle.engine.specs.Reduce.{WalkOutcome, GallopOutcome}
+use Rattle.engine.specs.Shortest.{MinimumOutcome}
 use Rattle.kovrelna.specs.declared.Tolerance.{Tolerance}
 use Rattle.kovrelna.specs.declared.Held.{Held}
 use Rattle.kovrelna.specs.declared.Verdict.{Verdict}
@@ -60,3 +61,8 @@ pub record GallopExport (ts : List ℕ) (vs : List ℤ) (t : Tolerance) (o : Lis
   pub answer : Probed
   pub is : r ≡ gallopedOf answer
   pub outcome : GallopOutcome ts vs (toleranceOf t) o answer o′
+
+pub record MinimumExport (ts : List ℕ) (vs : List ℤ) (t : Tolerance) (o : List ℕ) (r : Kept) (o′ : List ℕ) : Type 0 where
+  pub answer : Reduced
+  pub is : r ≡ keptOf answer
+  pub outcome : MinimumOutcome ts vs (toleranceOf t) o answer o′

@@ -3,7 +3,7 @@ ghost use mathlib.Core.Path.{_≡_};
 ghost use Rattle.tolerance.specs.Meaning.{meaning};
 ghost use Rattle.engine.specs.Hold.{holdingOf};
 ghost use Rattle.engine.specs.Judge.{judgeOf};
-ghost use Rattle.kovrelna.specs.Border.{toleranceOf, heldOf, verdictOf, keptOf, gallopedOf, WalkExport, GallopExport};
+ghost use Rattle.kovrelna.specs.Border.{toleranceOf, heldOf, verdictOf, keptOf, gallopedOf, WalkExport, GallopExport, MinimumExport};
 
 // A tolerance: form 0 is the ratio p/q, form 1 is x counts, form 2 is the noise x times the multiple y. No other form is allowed.
 #[repr(C)]
@@ -186,4 +186,17 @@ pub extern "C" fn kovrelna_gallop(
     ensures { λ r. ⌜ GallopExport (now (ticks .entry)) (now (values .entry)) t (now (out .entry)) r (now (out .exit)) ⌝ }
 {
     galloped_of(engine::gallop::gallop(ticks, values, tolerance_of(t), out))
+}
+
+// Writes the minimum's list into the first entries of `out`.
+#[no_mangle]
+pub extern "C" fn kovrelna_minimum(
+    ticks: &[u32],
+    values: &[i16],
+    t: Tolerance,
+    out: &mut [u16],
+) -> Kept
+    ensures { λ r. ⌜ MinimumExport (now (ticks .entry)) (now (values .entry)) t (now (out .entry)) r (now (out .exit)) ⌝ }
+{
+    kept_of(engine::minimum::minimum(ticks, values, tolerance_of(t), out))
 }

@@ -15,3 +15,4 @@ pub mod Products
 pub mod EdgeLaws
 pub mod Errors
 pub mod ConeLaws
+pub mod EmptyCone

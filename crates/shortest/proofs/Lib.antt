@@ -1,0 +1,3 @@
+-- The laws of the crate `shortest`.
+pub mod ShortestLaws
+pub mod Tables

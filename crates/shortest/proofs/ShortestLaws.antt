@@ -1,0 +1,93 @@
+-- Laws of the minimum of a trace, and of the scan over the ends of the links from one sample. `Scanning` is the invariant of the scan's loop.
+-- Assumes nothing.
+use mathlib.Core.Path.{_≡_, sym, _∙_}
+use mathlib.Core.Bool.{Bool, true, false, cond, _&&_}
+use mathlib.Core.List.{List}
+use Prim.Native.Nat.{ℕ, suc, _+_, _-_, _≤_, _<_}
+use native.Mathlib.Omega.{arith}
+use lib.Dec.{leb}
+use lib.IntN.{ℤ}
+use lib.ListN.{length, getD}
+use Rattle.kept.specs.Minimum.{StepsTo, Minimum, linksOf, nextOf}
+use Rattle.kept.proofs.MinimumLaws.{minimum-of, minimum-length, Choosing, choosing-none, choosing-more, chosen}
+use Rattle.trace.specs.declared.Criterion.{Criterion}
+use Rattle.trace.specs.declared.Start.{Start}
+use Rattle.trace.specs.declared.Edge.{Edge}
+use Rattle.trace.specs.declared.Cone.{Cone}
+use Rattle.trace.specs.Trace.{Trace}
+use Rattle.trace.specs.Link.{Linked, Bounded, valid}
+use Rattle.trace.specs.Edge.{StartAt, EdgeTo, Reach, Slope, Tilt, noSteeper}
+use Rattle.trace.specs.Cone.{coneFrom, admitsEdge, extendedBy, ConeFits, Takes}
+use Rattle.trace.proofs.Validity.{steps-valid}
+use Rattle.trace.proofs.EdgeLaws.{reach, edge-at, tilts, tilt-slope}
+use Rattle.trace.proofs.ConeLaws.{takes-none, takes-more, takes-admits}
+use Rattle.trace.proofs.EmptyCone.{empty-invalid}
+use Rattle.shortest.specs.Shortest.{minimumList, Scan}
+
+-- ---- the minimum of a trace
+
+pub trace-steps : (ts : List ℕ) (vs : List ℤ) (c : Criterion) (last : ℕ) → StepsTo (valid ts vs c) last
+trace-steps ts vs c last i lt = steps-valid ts vs c i
+
+module _ (ts : List ℕ) (vs : List ℤ) (c : Criterion) where
+  pub minimum-list : Minimum (valid ts vs c) (length ts - 1) (minimumList ts vs c)
+  minimum-list = minimum-of _ _ (trace-steps ts vs c _)
+
+  -- it has at most as many samples as the trace
+  pub minimum-fits : 1 ≤ length ts → length (minimumList ts vs c) ≤ length ts
+  minimum-fits some = omega (arith, minimum-length (valid ts vs c) (length ts - 1) (trace-steps ts vs c (length ts - 1)))
+
+-- ---- the scan from one sample
+
+-- b is the best of the ends before j, and the cone has taken in the samples before j
+pub record Scanning (ts : List ℕ) (vs : List ℤ) (c : Criterion) (i : ℕ) (cone : Cone) (b j : ℕ) : Type 0 where
+  pub choosing : Choosing (valid ts vs c) (linksOf (valid ts vs c) (length ts - 1)) i j b
+  pub takes : Takes ts vs c i j cone
+  pub fits : ConeFits cone
+  pub to : j ≤ length ts
+
+module _ {ts : List ℕ} {vs : List ℤ} {c : Criterion} {links : List ℕ} {i : ℕ} (s : Scan ts vs c links i) where
+  pub scanning-none : {st : Start} {cone : Cone} → StartAt ts vs (c .q) i st → (cone ≡ coneFrom (c .p)) × ConeFits cone → Scanning ts vs c i cone (i + 1) (i + 1)
+  scanning-none st h = record { choosing = choosing-none; takes = rw (h .0) (takes-none st); fits = h .1; to = omega (arith, s .inside) }
+
+  -- the next end j, by the edge to it
+  module _ {cone : Cone} {b j : ℕ} {st : Start} (g : Scanning ts vs c i cone b j) (jn : j ≤ length ts - 1) (at : StartAt ts vs (c .q) i st) where
+    inside : j < length ts
+    inside = omega (arith, s .trace .some)
+
+    pub edge-requires : Reach ts vs (c .q) st j
+    edge-requires = reach at (s .trace) (omega (arith, g .choosing .from)) inside (s .bounded .q-bound)
+
+    module _ {to : Edge} (edge : EdgeTo ts vs (c .q) (st .sample) j to) where
+      pub end-tilt : Tilt to (c .p)
+      end-tilt = tilts (edge-at at edge) (s .trace) (omega (arith, g .choosing .from)) inside (s .bounded .q-bound) (s .bounded .p-bound)
+
+      pub better-requires : (b < length links) × (j < length links) × ConeFits cone × Slope to
+      better-requires =
+          let room = s .counted .links-room in
+          (omega (arith, g .choosing .before), omega arith, g .fits, tilt-slope end-tilt)
+
+      link : Linked ts vs i j
+      link = record { trace = s .trace; forward = g .choosing .from; inside = inside }
+
+      pub scanning-more : {r : ℕ} {next : Cone} → r ≡ cond (leb (getD links j 0) (getD links b 0) && admitsEdge cone to) j b
+          → (next ≡ extendedBy cone to (c .p)) × ConeFits next → Scanning ts vs c i next r (j + 1)
+      scanning-more e h =
+          let counts = s .counted .counts in
+          record {
+            choosing = rw e (choosing-more (g .choosing) (counts j (omega (arith, g .choosing .from)) jn) (counts b (omega (arith, g .choosing .after)) (omega (arith, g .choosing .before)))
+                (takes-admits link (s .bounded) (g .takes) (edge-at at edge)));
+            takes = rw (h .0) (takes-more link (s .bounded) (g .takes) (edge-at at edge));
+            fits = h .1;
+            to = omega (arith, inside);
+          }
+
+  module _ {cone : Cone} {b j : ℕ} (g : Scanning ts vs c i cone b j) where
+    -- the scan has reached the last sample
+    pub scanned-all : length ts - 1 < j → b ≡ nextOf (valid ts vs c) (length ts - 1) i
+    scanned-all h = chosen _ _ (g .choosing) (omega (arith, s .inside)) (omega (arith, g .to, s .trace .some)) (λ e l u. absurd (omega arith))
+
+    -- or the cone is empty
+    pub scanned-empty : noSteeper (cone .low) (cone .high) ≡ false → b ≡ nextOf (valid ts vs c) (length ts - 1) i
+    scanned-empty h = chosen _ _ (g .choosing) (omega (arith, s .inside)) (omega (arith, g .to, s .trace .some))
+        (λ e l u. empty-invalid (s .trace) (s .bounded) (g .takes) h e l (omega (arith, s .trace .some)))

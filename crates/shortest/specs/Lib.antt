@@ -1,0 +1,2 @@
+-- The definitions of the crate `shortest`.
+pub mod Shortest

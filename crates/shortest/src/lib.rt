@@ -1,0 +1,112 @@
+// The reduction minimum: the shortest kept list of valid links, and of several the latest.
+ghost use mathlib.Core.Path.{_≡_};
+ghost use mathlib.Core.Bool.{cond, not, _&&_};
+ghost use Prim.Native.Nat.{_+_, _-_, _≤_, _<_};
+ghost use lib.Dec.{leb};
+ghost use lib.ListN.{length, getD};
+ghost use Rattle.lists.specs.Overwrite.{overwrite};
+ghost use Rattle.kept.specs.Stops.{listBy};
+ghost use Rattle.kept.specs.Minimum.{nextOf};
+ghost use Rattle.trace.specs.Trace.{Trace};
+ghost use Rattle.trace.specs.Link.{Bounded, valid};
+ghost use Rattle.trace.specs.Edge.{noSteeper, Slope};
+ghost use Rattle.trace.specs.Cone.{admitsEdge, ConeFits};
+ghost use Rattle.shortest.specs.Shortest.{minimumList, Planned, Onward, Scan};
+use trace::Cone;
+use trace::Criterion;
+use trace::Edge;
+use trace::cones::admits;
+use trace::cones::cone_from;
+use trace::cones::extended;
+use trace::edges::edge_to;
+use trace::edges::no_steeper;
+use trace::edges::start_at;
+
+// Whether no direction passes every sample taken in: the low edge is steeper than the high one.
+fn empty(cone: Cone) -> bool
+    requires { ⌜ ConeFits cone ⌝ }
+    ensures { λ r. ⌜ r ≡ not (noSteeper (cone .low) (cone .high)) ⌝ }
+{
+    let low = cone.low;
+    let high = cone.high;
+    !no_steeper(low, high)
+}
+
+// Stop j, of the edge `to`, where its link is valid and it has no more links to the end than stop b; otherwise b.
+fn better(links: &[u16], b: usize, j: usize, cone: Cone, to: Edge) -> usize
+    requires { ⌜ (b < length (now links)) × (j < length (now links)) × ConeFits cone × Slope to ⌝ }
+    ensures { λ r. ⌜ r ≡ cond (leb (getD (now (links .entry)) j 0) (getD (now (links .entry)) b 0) && admitsEdge cone to) j b ⌝ }
+{
+    if links[b] < links[j] {
+        return b;
+    }
+    if admits(cone, to) { j } else { b }
+}
+
+// The latest next sample of a shortest list from sample i, by one scan over the ends j of its links. An empty cone ends it.
+fn next_stop(ticks: &[u32], values: &[i16], c: Criterion, links: &[u16], i: usize) -> usize
+    requires { ⌜ Scan (now ticks) (now values) c (now links) i ⌝ }
+    ensures { λ r. ⌜ r ≡ nextOf (valid (now (ticks .entry)) (now (values .entry)) c) (length (now (ticks .entry)) - 1) i ⌝ }
+{
+    let last = ticks.len() - 1;
+    let from = start_at(ticks, values, i, c.q);
+    let mut cone = cone_from(c.p);
+    let mut b = i + 1;
+    let mut j = i + 1;
+    while j <= last {
+        let to = edge_to(ticks, values, from, j, c.q);
+        b = better(links, b, j, cone, to);
+        cone = extended(cone, to, c.p);
+        let done = empty(cone);
+        if done {
+            return b;
+        }
+        j += 1;
+    }
+    b
+}
+
+// Fills both tables, from the last sample back.
+fn plan(ticks: &[u32], values: &[i16], c: Criterion, links: &mut [u16], next: &mut [u16])
+    requires { ⌜ Trace (now ticks) (now values) × Bounded c × (length (now ticks) ≤ length (now links)) × (length (now ticks) ≤ length (now next)) ⌝ }
+    ensures { λ _. ⌜ Planned (valid (now (ticks .entry)) (now (values .entry)) c) (length (now (ticks .entry)) - 1) 0 (now (next .exit)) ⌝ }
+{
+    let mut i = ticks.len() - 1;
+    links[i] = 0;
+    while 0 < i {
+        i -= 1;
+        let b = next_stop(ticks, values, c, links, i);
+        links[i] = links[b] + 1;
+        next[i] = b as u16;
+    }
+}
+
+// Follows `next` from sample 0 to the last one, writes the stops over the front of `out`, and counts them.
+fn follow(last: usize, next: &[u16], out: &mut [u16]) -> usize
+    requires { ⌜ Onward last (now next) × (last < length (now out)) ⌝ }
+    ensures count { λ r. ⌜ r ≡ length (listBy (λ k. getD (now (next .entry)) k 0) last) ⌝ }
+    ensures list { λ r. ⌜ now (out .exit) ≡ overwrite (listBy (λ k. getD (now (next .entry)) k 0) last) (now (out .entry)) ⌝ }
+{
+    out[0] = 0;
+    let mut count = 1;
+    let mut i = 0;
+    while i < last {
+        let j = next[i];
+        out[count] = j;
+        count += 1;
+        i = j as usize;
+    }
+    count
+}
+
+// Writes the minimum's list over the front of `out`, and returns its kept number.
+pub fn minimum(ticks: &[u32], values: &[i16], c: Criterion, out: &mut [u16]) -> usize
+    requires { ⌜ Trace (now ticks) (now values) × Bounded c × (length (now ticks) ≤ length (now out)) ⌝ }
+    ensures count { λ r. ⌜ r ≡ length (minimumList (now (ticks .entry)) (now (values .entry)) c) ⌝ }
+    ensures list { λ r. ⌜ now (out .exit) ≡ overwrite (minimumList (now (ticks .entry)) (now (values .entry)) c) (now (out .entry)) ⌝ }
+{
+    let mut links = [0u16; 4096];
+    let mut next = [0u16; 4096];
+    plan(ticks, values, c, &mut links, &mut next);
+    follow(ticks.len() - 1, &next, out)
+}
