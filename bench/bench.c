@@ -1,7 +1,8 @@
-/* Times the library's reductions beside the peers in plain C.
+/* Times the library's reductions beside the peers in plain C, and counts what they keep.
  *
- * bench: prints a table for each call.
- * bench once KIND: calls every function once, so that instructions can be counted. */
+ * bench: prints a table of times for each call, and the kept numbers.
+ * bench kept: prints the kept numbers.
+ * bench once KIND FUNCTION: calls one function once, so that instructions can be counted. */
 #define _POSIX_C_SOURCE 199309L
 #include "kovrelna.h"
 #include "peers.h"
@@ -13,7 +14,8 @@
 
 #define COUNT(array) (sizeof(array) / sizeof((array)[0]))
 
-enum { SAMPLES = 4096, REPETITIONS = 201, CALLS = 3 };
+/* A fast function is called CALLS times in each repetition, a slow one once in some of them. */
+enum { SAMPLES = 4096, REPETITIONS = 201, CALLS = 3, SLOW_REPETITIONS = 15 };
 
 /* The functions that are compared, under one signature. */
 typedef reduced reducer(const uint32_t *, const int16_t *, size_t, int64_t, int64_t, uint16_t *);
@@ -23,13 +25,21 @@ static void fail(const char *what) {
   exit(1);
 }
 
+typedef kovrelna_kept kept_call(const uint32_t *, size_t, const int16_t *, size_t,
+                                kovrelna_tolerance, uint16_t *, size_t);
+
+static reduced library_kept(kept_call *call, const uint32_t *ticks, const int16_t *values, size_t n,
+                            int64_t p, int64_t q, uint16_t *out) {
+  kovrelna_tolerance tolerance = kovrelna_ratio((uint64_t)p, (uint64_t)q);
+  kovrelna_kept kept = call(ticks, n, values, n, tolerance, out, n);
+  reduced answer = {(size_t)kept.value, 0};
+  if (kept.number != 0) fail("the library refused a trace");
+  return answer;
+}
+
 static reduced library_walk(const uint32_t *ticks, const int16_t *values, size_t n, int64_t p,
                             int64_t q, uint16_t *out) {
-  kovrelna_tolerance tolerance = kovrelna_ratio((uint64_t)p, (uint64_t)q);
-  kovrelna_kept kept = kovrelna_walk(ticks, n, values, n, tolerance, out, n);
-  reduced answer = {(size_t)kept.value, 0};
-  if (kept.number != 0) fail("walk refused a trace");
-  return answer;
+  return library_kept(kovrelna_walk, ticks, values, n, p, q, out);
 }
 
 static reduced library_gallop(const uint32_t *ticks, const int16_t *values, size_t n, int64_t p,
@@ -37,13 +47,41 @@ static reduced library_gallop(const uint32_t *ticks, const int16_t *values, size
   kovrelna_tolerance tolerance = kovrelna_ratio((uint64_t)p, (uint64_t)q);
   kovrelna_galloped kept = kovrelna_gallop(ticks, n, values, n, tolerance, out, n);
   reduced answer = {(size_t)kept.value, kept.probes};
-  if (kept.number != 0) fail("gallop refused a trace");
+  if (kept.number != 0) fail("the library refused a trace");
   return answer;
 }
 
-enum { WALK, WALK_C, GALLOP, GALLOP_C, DOUGLAS_PEUCKER_C, REDUCERS };
-static reducer *const REDUCER[REDUCERS] = {library_walk, walk_c, library_gallop, gallop_c,
-                                           douglas_peucker_c};
+static reduced library_minimum(const uint32_t *ticks, const int16_t *values, size_t n, int64_t p,
+                               int64_t q, uint16_t *out) {
+  return library_kept(kovrelna_minimum, ticks, values, n, p, q, out);
+}
+
+enum {
+  WALK,
+  WALK_C,
+  GALLOP,
+  GALLOP_C,
+  MINIMUM,
+  MINIMUM_C,
+  MINIMUM_C_NOSTOP,
+  DOUGLAS_PEUCKER_C,
+  REDUCERS
+};
+
+static const struct {
+  const char *name;
+  reducer *call;
+  int repetitions, calls;
+} REDUCER[REDUCERS] = {
+    {"kovrelna_walk", library_walk, REPETITIONS, CALLS},
+    {"walk_c", walk_c, REPETITIONS, CALLS},
+    {"kovrelna_gallop", library_gallop, REPETITIONS, CALLS},
+    {"gallop_c", gallop_c, REPETITIONS, CALLS},
+    {"kovrelna_minimum", library_minimum, SLOW_REPETITIONS, 1},
+    {"minimum_c", minimum_c, SLOW_REPETITIONS, 1},
+    {"minimum_c_nostop", minimum_c_nostop, SLOW_REPETITIONS, 1},
+    {"douglas_peucker_c", douglas_peucker_c, REPETITIONS, CALLS},
+};
 
 /* ---- Traces ---- */
 
@@ -108,35 +146,41 @@ static int order(const void *a, const void *b) {
  * one. */
 static double median(const row *r, int x, int y) {
   double list[REPETITIONS];
-  int k;
-  for (k = 0; k < REPETITIONS; k++) list[k] = r->times[x][k] / (y < 0 ? 1.0 : r->times[y][k]);
-  qsort(list, REPETITIONS, sizeof(double), order);
-  return list[REPETITIONS / 2];
+  int k, repetitions = REDUCER[x].repetitions;
+  for (k = 0; k < repetitions; k++) list[k] = r->times[x][k] / (y < 0 ? 1.0 : r->times[y][k]);
+  qsort(list, (size_t)repetitions, sizeof(double), order);
+  return list[repetitions / 2];
 }
 
-static void same(const row *r, uint16_t lists[REDUCERS][SAMPLES], int x, int y) {
-  const reduced *a = &r->answers[x], *b = &r->answers[y];
+static uint16_t lists[REDUCERS][SAMPLES];
+
+static reduced call(int x, size_t kind, const int64_t *tolerance) {
+  return REDUCER[x].call(ticks, values[kind], SAMPLES, tolerance[0], tolerance[1], lists[x]);
+}
+
+static void same(const reduced *answers, int x, int y) {
+  const reduced *a = &answers[x], *b = &answers[y];
   if (a->kept != b->kept || a->probes != b->probes ||
       memcmp(lists[x], lists[y], a->kept * sizeof(uint16_t)) != 0)
     fail("the library and the peer differ");
 }
 
 static void measure(row *r, size_t kind, const int64_t *tolerance) {
-  static uint16_t lists[REDUCERS][SAMPLES];
-  int repetition, x, call;
+  int repetition, x, k;
   r->kind = KINDS[kind];
   r->tolerance = (double)tolerance[0] / (double)tolerance[1];
   for (repetition = 0; repetition < REPETITIONS; repetition++) {
     for (x = 0; x < REDUCERS; x++) {
       double start = now();
-      for (call = 0; call < CALLS; call++)
-        r->answers[x] =
-            REDUCER[x](ticks, values[kind], SAMPLES, tolerance[0], tolerance[1], lists[x]);
-      r->times[x][repetition] = (now() - start) / CALLS / SAMPLES;
+      if (repetition >= REDUCER[x].repetitions) continue;
+      for (k = 0; k < REDUCER[x].calls; k++) r->answers[x] = call(x, kind, tolerance);
+      r->times[x][repetition] = (now() - start) / REDUCER[x].calls / SAMPLES;
     }
   }
-  same(r, lists, WALK, WALK_C);
-  same(r, lists, GALLOP, GALLOP_C);
+  same(r->answers, WALK, WALK_C);
+  same(r->answers, GALLOP, GALLOP_C);
+  same(r->answers, MINIMUM, MINIMUM_C);
+  same(r->answers, MINIMUM, MINIMUM_C_NOSTOP);
   if (!kovrelna_judge(ticks, SAMPLES, values[kind], SAMPLES, lists[DOUGLAS_PEUCKER_C],
                       r->answers[DOUGLAS_PEUCKER_C].kept,
                       kovrelna_ratio((uint64_t)tolerance[0], (uint64_t)tolerance[1]))
@@ -146,12 +190,14 @@ static void measure(row *r, size_t kind, const int64_t *tolerance) {
 
 /* ---- Tables ---- */
 
-static void print_tables(void) {
+static void print_times(void) {
   const row *r, *end = rows + COUNT(rows);
-  printf("Traces of %d samples. Times are nanoseconds a sample, medians of %d repetitions in turn;\n"
-         "ratios are of the same repetition. Times depend on the machine and its load.\n"
+  const double milliseconds = 1e-6 * SAMPLES; /* of a call with 1 nanosecond a sample */
+  printf("Traces of %d samples. Times are nanoseconds a sample, for minimum milliseconds a call:\n"
+         "medians of %d repetitions in turn, for minimum %d. Ratios are of the same repetition.\n"
+         "Times depend on the machine and its load.\n"
          "C: %s (%s)\n",
-         SAMPLES, REPETITIONS, FLAGS, __VERSION__);
+         SAMPLES, REPETITIONS, SLOW_REPETITIONS, FLAGS, __VERSION__);
   printf("\nwalk     tolerance    kept  kovrelna       C   ratio\n");
   for (r = rows; r < end; r++)
     printf("%-8s %9.2f %7zu %9.2f %7.2f %7.2f\n", r->kind, r->tolerance, r->answers[WALK].kept,
@@ -162,6 +208,12 @@ static void print_tables(void) {
            r->answers[GALLOP].kept, median(r, GALLOP, -1), median(r, GALLOP_C, -1),
            median(r, GALLOP, GALLOP_C), median(r, GALLOP, WALK),
            (unsigned long long)r->answers[GALLOP].probes);
+  printf("\nminimum  tolerance    kept  kovrelna       C   ratio  C, no stop   ratio\n");
+  for (r = rows; r < end; r++)
+    printf("%-8s %9.2f %7zu %9.2f %7.2f %7.2f %11.2f %7.2f\n", r->kind, r->tolerance,
+           r->answers[MINIMUM].kept, milliseconds * median(r, MINIMUM, -1),
+           milliseconds * median(r, MINIMUM_C, -1), median(r, MINIMUM, MINIMUM_C),
+           milliseconds * median(r, MINIMUM_C_NOSTOP, -1), median(r, MINIMUM, MINIMUM_C_NOSTOP));
   printf("\nDouglas-Peucker (DP) in C, vertical distance\n"
          "         tolerance    kept  walk keeps       C  walk/DP\n");
   for (r = rows; r < end; r++)
@@ -170,20 +222,52 @@ static void print_tables(void) {
            median(r, DOUGLAS_PEUCKER_C, -1), median(r, WALK, DOUGLAS_PEUCKER_C));
 }
 
+/* What walk, gallop and minimum keep, and minimum at half the tolerance. */
+static void print_kept(void) {
+  static const int64_t tolerances[][2] = {{1, 2}, {1, 1}, {2, 1}, {5, 2}, {5, 1}, {15, 2}, {15, 1},
+                                          {40, 1}};
+  static const int reducers[] = {WALK, GALLOP, MINIMUM};
+  size_t kind, t, m;
+  printf("Kept numbers, traces of %d samples\n"
+         "         tolerance    walk  gallop  minimum  minimum at half\n",
+         SAMPLES);
+  for (kind = 0; kind < COUNT(KINDS); kind++) {
+    for (t = 0; t < COUNT(tolerances); t++) {
+      const int64_t *whole = tolerances[t], half[] = {whole[0], 2 * whole[1]};
+      reduced answers[REDUCERS];
+      for (m = 0; m < COUNT(reducers); m++) {
+        int x = reducers[m], peer = x + 1;
+        answers[x] = call(x, kind, whole);
+        answers[peer] = call(peer, kind, whole);
+        same(answers, x, peer);
+      }
+      printf("%-8s %9.2f %7zu %7zu %8zu %16zu\n", KINDS[kind],
+             (double)whole[0] / (double)whole[1], answers[WALK].kept, answers[GALLOP].kept,
+             answers[MINIMUM].kept, call(MINIMUM, kind, half).kept);
+    }
+  }
+}
+
 int main(int argc, char **argv) {
-  size_t kind, t, x;
+  size_t kind, t;
+  int x;
   make_traces();
-  if (argc == 3 && strcmp(argv[1], "once") == 0) {
-    static uint16_t list[SAMPLES];
+  if (argc == 4 && strcmp(argv[1], "once") == 0) {
     for (kind = 0; kind < COUNT(KINDS); kind++)
-      if (strcmp(argv[2], KINDS[kind]) == 0)
-        for (x = 0; x < REDUCERS; x++)
-          REDUCER[x](ticks, values[kind], SAMPLES, TOLERANCES[1][0], TOLERANCES[1][1], list);
+      for (x = 0; x < REDUCERS; x++)
+        if (strcmp(argv[2], KINDS[kind]) == 0 && strcmp(argv[3], REDUCER[x].name) == 0)
+          call(x, kind, TOLERANCES[1]);
+    return 0;
+  }
+  if (argc == 2 && strcmp(argv[1], "kept") == 0) {
+    print_kept();
     return 0;
   }
   for (kind = 0; kind < COUNT(KINDS); kind++)
     for (t = 0; t < COUNT(TOLERANCES); t++)
       measure(&rows[kind * COUNT(TOLERANCES) + t], kind, TOLERANCES[t]);
-  print_tables();
+  print_times();
+  puts("");
+  print_kept();
   return 0;
 }

@@ -64,6 +64,11 @@ reduced walk_c(const uint32_t *ticks, const int16_t *values, size_t n, int64_t p
   return answer;
 }
 
+/* Whether no line passes all samples and one more, which has these distances from the edges. */
+static int is_empty(cone c, int64_t p, int64_t over, int64_t under) {
+  return (over > p * c.high_run) | (under > p * c.low_run);
+}
+
 /* Whether the link from i to j is valid, where the cone has the samples after i and before `from`.
  * Takes in the samples up to j. */
 static int extend(cone *c, const uint32_t *ticks, const int16_t *values, size_t i, size_t from,
@@ -74,8 +79,7 @@ static int extend(cone *c, const uint32_t *ticks, const int16_t *values, size_t 
     int64_t run = ticks[k] - (int64_t)ticks[i], rise = q * (values[k] - values[i]);
     over = above(*c, rise, run);
     under = below(*c, rise, run);
-    /* No line passes all samples up to k. */
-    if ((over > p * c->high_run) | (under > p * c->low_run)) return 0;
+    if (is_empty(*c, p, over, under)) return 0;
     *c = narrowed(*c, rise, run, p, over, under);
   }
   return (over <= 0) & (under <= 0);
@@ -114,6 +118,50 @@ reduced gallop_c(const uint32_t *ticks, const int16_t *values, size_t n, int64_t
     out[answer.kept++] = (uint16_t)i;
   }
   return answer;
+}
+
+static inline reduced minimum_by_table(const uint32_t *ticks, const int16_t *values, size_t n,
+                                       int64_t p, int64_t q, uint16_t *out, int stop) {
+  reduced answer = {0, 0};
+  /* The links of the shortest list from each sample to the last, and the latest next sample. */
+  uint16_t links[SAMPLES], next[SAMPLES];
+  size_t i, k;
+  if (!is_trace(ticks, n)) return answer;
+  links[n - 1] = 0;
+  for (i = n - 1; i-- > 0;) {
+    int64_t tick = ticks[i], value = values[i];
+    cone c = around(q * (values[i + 1] - value), ticks[i + 1] - tick, p);
+    size_t best = i + 1;
+    unsigned fewest = links[best];
+    for (k = i + 2; k < n; k++) {
+      int64_t run = ticks[k] - tick, rise = q * (values[k] - value);
+      int64_t over = above(c, rise, run), under = below(c, rise, run);
+      if ((over <= 0) & (under <= 0)) {
+        if (links[k] <= fewest) {
+          fewest = links[k];
+          best = k;
+        }
+      } else if (stop && is_empty(c, p, over, under)) {
+        break;
+      }
+      c = narrowed(c, rise, run, p, over, under);
+    }
+    links[i] = (uint16_t)(fewest + 1);
+    next[i] = (uint16_t)best;
+  }
+  for (i = 0; i < n - 1; i = next[i]) out[answer.kept++] = (uint16_t)i;
+  out[answer.kept++] = (uint16_t)i;
+  return answer;
+}
+
+reduced minimum_c(const uint32_t *ticks, const int16_t *values, size_t n, int64_t p, int64_t q,
+                  uint16_t *out) {
+  return minimum_by_table(ticks, values, n, p, q, out, 1);
+}
+
+reduced minimum_c_nostop(const uint32_t *ticks, const int16_t *values, size_t n, int64_t p,
+                         int64_t q, uint16_t *out) {
+  return minimum_by_table(ticks, values, n, p, q, out, 0);
 }
 
 reduced douglas_peucker_c(const uint32_t *ticks, const int16_t *values, size_t n, int64_t p,

@@ -20,6 +20,15 @@ reduced walk_c(const uint32_t *ticks, const int16_t *values, size_t n, int64_t p
 reduced gallop_c(const uint32_t *ticks, const int16_t *values, size_t n, int64_t p, int64_t q,
                  uint16_t *out);
 
+/* Minimum: a table from the last sample back. From each sample one cone takes in the later ones in
+ * turn and tests the link to each; it stops where no line is left. */
+reduced minimum_c(const uint32_t *ticks, const int16_t *values, size_t n, int64_t p, int64_t q,
+                  uint16_t *out);
+
+/* The same without the stop. */
+reduced minimum_c_nostop(const uint32_t *ticks, const int16_t *values, size_t n, int64_t p,
+                         int64_t q, uint16_t *out);
+
 /* Douglas-Peucker with vertical distance: both ends, then the farthest sample of every link that is
  * not valid. */
 reduced douglas_peucker_c(const uint32_t *ticks, const int16_t *values, size_t n, int64_t p,

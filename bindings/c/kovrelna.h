@@ -177,6 +177,13 @@ kovrelna_galloped kovrelna_gallop(const uint32_t *ticks, size_t ticks_len,
                                   kovrelna_tolerance tolerance,
                                   uint16_t *out, size_t out_len);
 
+/* The kept list of valid links with fewest samples. Of several, the one whose second sample is
+ * latest, then its third, and so on. */
+kovrelna_kept kovrelna_minimum(const uint32_t *ticks, size_t ticks_len,
+                               const int16_t *values, size_t values_len,
+                               kovrelna_tolerance tolerance,
+                               uint16_t *out, size_t out_len);
+
 #ifdef __cplusplus
 }
 #endif

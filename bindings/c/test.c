@@ -64,9 +64,9 @@ static void judge(int line, const uint32_t *ticks, size_t ticks_len, const int16
   judge(__LINE__, ticks, COUNT(ticks), values, COUNT(values), list, COUNT(list), tolerance,       \
         number, passed, value)
 
-enum method { WALK, GALLOP };
+enum method { WALK, GALLOP, MINIMUM };
 
-/* The method's answer in one shape: walk counts no probes. */
+/* The method's answer in one shape: only gallop counts probes. */
 static kovrelna_galloped call(enum method method, const uint32_t *ticks, size_t ticks_len,
                               const int16_t *values, size_t values_len,
                               kovrelna_tolerance tolerance, uint16_t *out, size_t out_len) {
@@ -74,7 +74,8 @@ static kovrelna_galloped call(enum method method, const uint32_t *ticks, size_t 
   kovrelna_kept kept;
   if (method == GALLOP)
     return kovrelna_gallop(ticks, ticks_len, values, values_len, tolerance, out, out_len);
-  kept = kovrelna_walk(ticks, ticks_len, values, values_len, tolerance, out, out_len);
+  kept = (method == WALK ? kovrelna_walk : kovrelna_minimum)(ticks, ticks_len, values, values_len,
+                                                             tolerance, out, out_len);
   answer.number = kept.number;
   answer.value = kept.value;
   return answer;
@@ -114,7 +115,7 @@ static void reduce(int line, enum method method, const uint32_t *ticks, size_t t
 static void refuse(int line, const uint32_t *ticks, size_t ticks_len, const int16_t *values,
                    size_t values_len, kovrelna_tolerance tolerance, size_t out_len,
                    uint32_t number, uint64_t value) {
-  const enum method methods[] = {WALK, GALLOP};
+  const enum method methods[] = {WALK, GALLOP, MINIMUM};
   size_t m;
   for (m = 0; m < COUNT(methods); m++)
     reduce(line, methods[m], ticks, ticks_len, values, values_len, tolerance, out_len, number,
@@ -185,33 +186,45 @@ static void lists(void) {
 }
 
 static void reductions(void) {
-  const uint32_t even[] = {0, 1, 2, 3, 4}, uneven[] = {0, 1, 3};
+  const uint32_t even[] = {0, 1, 2, 3, 4}, uneven[] = {0, 1, 3},
+                 nine[] = {0, 1, 2, 3, 4, 5, 6, 7, 8};
   const int16_t zigzag[] = {0, 3, 0, 3, 0}, wave[] = {0, 2, 0, -2, 0}, bend[] = {0, 0, 0, 5, 10},
-                step[] = {0, 1, 1};
-  const uint16_t all[] = {0, 1, 2, 3, 4}, ends[] = {0, 4}, middle[] = {0, 2, 4}, pair[] = {0, 2},
-                 three[] = {0, 1, 2}, two[] = {0, 1}, one[] = {0};
+                step[] = {0, 1, 1}, longer[] = {0, 3, 0, 3, 0, 3, 0, 3, 0};
+  const uint16_t all[] = {0, 1, 2, 3, 4}, ends[] = {0, 4}, late[] = {0, 3, 4}, middle[] = {0, 2, 4},
+                 pair[] = {0, 2}, three[] = {0, 1, 2}, two[] = {0, 1}, one[] = {0},
+                 latest[] = {0, 3, 6, 7, 8};
   size_t out_len;
 
   /* The output is as long as the trace, or longer. */
   for (out_len = 5; out_len <= 9; out_len++) {
     REDUCE(WALK, even, zigzag, kovrelna_ratio(2, 1), out_len, 0, all);
     REDUCE(GALLOP, even, zigzag, kovrelna_ratio(2, 1), out_len, 4, all);
+    REDUCE(MINIMUM, even, zigzag, kovrelna_ratio(2, 1), out_len, 0, late);
     REDUCE(WALK, even, zigzag, kovrelna_counts(3.0), out_len, 0, ends);
     REDUCE(GALLOP, even, zigzag, kovrelna_counts(3.0), out_len, 5, ends);
+    REDUCE(MINIMUM, even, zigzag, kovrelna_counts(3.0), out_len, 0, ends);
     REDUCE(WALK, even, wave, kovrelna_noise(0.5, 4.0), out_len, 0, middle);
     REDUCE(GALLOP, even, wave, kovrelna_noise(0.5, 4.0), out_len, 5, ends);
+    REDUCE(MINIMUM, even, wave, kovrelna_noise(0.5, 4.0), out_len, 0, ends);
     REDUCE(WALK, even, bend, kovrelna_ratio(0, 1), out_len, 0, middle);
     REDUCE(GALLOP, even, bend, kovrelna_ratio(0, 1), out_len, 6, middle);
+    REDUCE(MINIMUM, even, bend, kovrelna_ratio(0, 1), out_len, 0, middle);
   }
   REDUCE(WALK, uneven, step, kovrelna_ratio(4, 6), 3, 0, pair);
   REDUCE(GALLOP, uneven, step, kovrelna_ratio(4, 6), 3, 3, pair);
+  REDUCE(MINIMUM, uneven, step, kovrelna_ratio(4, 6), 3, 0, pair);
   REDUCE(WALK, uneven, step, kovrelna_ratio(665, 1000), 3, 0, three);
   REDUCE(GALLOP, uneven, step, kovrelna_ratio(665, 1000), 3, 2, three);
+  REDUCE(MINIMUM, uneven, step, kovrelna_ratio(665, 1000), 3, 0, three);
+  /* Of several lists of five samples, the one whose second is latest, then its third. */
+  REDUCE(MINIMUM, nine, longer, kovrelna_ratio(2, 1), 9, 0, latest);
   /* Two samples, and one. */
   reduce(__LINE__, WALK, even, 2, zigzag, 2, kovrelna_ratio(0, 1), 2, 0, 2, 0, two);
   reduce(__LINE__, GALLOP, even, 2, zigzag, 2, kovrelna_ratio(0, 1), 2, 0, 2, 1, two);
+  reduce(__LINE__, MINIMUM, even, 2, zigzag, 2, kovrelna_ratio(0, 1), 2, 0, 2, 0, two);
   reduce(__LINE__, WALK, even, 1, zigzag, 1, kovrelna_ratio(0, 1), 1, 0, 1, 0, one);
   reduce(__LINE__, GALLOP, even, 1, zigzag, 1, kovrelna_ratio(0, 1), 1, 0, 1, 0, one);
+  reduce(__LINE__, MINIMUM, even, 1, zigzag, 1, kovrelna_ratio(0, 1), 1, 0, 1, 0, one);
 }
 
 static void refusals(void) {

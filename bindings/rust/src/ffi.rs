@@ -66,6 +66,15 @@ extern "C" {
         out: *mut u16,
         out_len: usize,
     ) -> Galloped;
+    fn kovrelna_minimum(
+        ticks: *const u32,
+        ticks_len: usize,
+        values: *const i16,
+        values_len: usize,
+        tolerance: Tolerance,
+        out: *mut u16,
+        out_len: usize,
+    ) -> Kept;
 }
 
 pub fn hold(tolerance: Tolerance) -> Held {
@@ -130,4 +139,8 @@ pub fn walk(ticks: &[u32], values: &[i16], tolerance: Tolerance, out: &mut [u16]
 
 pub fn gallop(ticks: &[u32], values: &[i16], tolerance: Tolerance, out: &mut [u16]) -> Galloped {
     reduce(kovrelna_gallop, ticks, values, tolerance, out)
+}
+
+pub fn minimum(ticks: &[u32], values: &[i16], tolerance: Tolerance, out: &mut [u16]) -> Kept {
+    reduce(kovrelna_minimum, ticks, values, tolerance, out)
 }

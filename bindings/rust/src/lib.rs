@@ -2,7 +2,7 @@
 //!
 //! - [`Tolerance`], [`Ratio`], [`hold`]: a tolerance, and the reduced ratio it is held as.
 //! - [`Verdict`], [`judge`]: whether every link of a proposed list is valid.
-//! - [`walk`], [`Galloped`], [`gallop`]: kept lists with every link valid.
+//! - [`walk`], [`Galloped`], [`gallop`], [`minimum`]: kept lists with every link valid.
 //! - [`Refusal`]: why a call declined.
 //!
 //! A trace is two slices of equal length: ticks and values (ADC counts). It has 1 to 4,096 samples,
@@ -326,4 +326,29 @@ pub fn gallop(
         kept: answer.value as usize,
         probes: answer.probes as usize,
     })
+}
+
+/// The kept list of valid links with fewest samples. Of several, the one whose second sample is
+/// latest, then its third, and so on.
+///
+/// Returns the kept number: the first that many entries of `out` are the kept list, and those after
+/// them are as they were. The refusals are those of [`walk`].
+///
+/// ```
+/// use kovrelna::{minimum, walk, Tolerance};
+///
+/// let (ticks, values) = ([0, 1, 2, 3, 4], [0, 3, 0, 3, 0]);
+/// let two = Tolerance::Counts(2.0);
+/// let mut out = [9; 5];
+/// assert_eq!(minimum(&ticks, &values, two, &mut out), Ok(3));
+/// assert_eq!(out, [0, 3, 4, 9, 9]);
+/// assert_eq!(walk(&ticks, &values, two, &mut out), Ok(5));
+/// ```
+pub fn minimum(
+    ticks: &[u32],
+    values: &[i16],
+    tolerance: Tolerance,
+    out: &mut [u16],
+) -> Result<usize, Refusal> {
+    kept(ffi::minimum(ticks, values, tolerance.into(), out))
 }

@@ -154,10 +154,14 @@ log2-of w l r a b f =
     omega (arith, leading-unique w r (w - suc l) (suc l) (omega arith) b (omega arith))
 
 -- sums over the same links of equal numbers are equal
-sum-cong : (f g : ℕ → ℕ → ℕ) (i : ℕ) (s : List ℕ) → LinksFrom (λ i j. f i j ≡ g i j) i s → sumFrom f i s ≡ sumFrom g i s
+sum-from-cong : (f g : ℕ → ℕ → ℕ) (i : ℕ) (s : List ℕ) → LinksFrom (λ i j. f i j ≡ g i j) i s → sumFrom f i s ≡ sumFrom g i s
 unfolding sumFrom
-sum-cong f g i [] e = refl
-sum-cong f g i (j ∷ s) e = omega (arith, e .0, sum-cong f g j s (e .1))
+sum-from-cong f g i [] e = refl
+sum-from-cong f g i (j ∷ s) e = omega (arith, e .0, sum-from-cong f g j s (e .1))
+
+sum-cong : (f g : ℕ → ℕ → ℕ) (l : List ℕ) → EachLink (λ i j. f i j ≡ g i j) l → linkSum f l ≡ linkSum g l
+sum-cong f g [] e = refl
+sum-cong f g (i ∷ s) e = sum-from-cong f g i s e
 
 lt-pow : (k : ℕ) → k < 2 ^ k
 lt-pow zero = omega arith
@@ -211,7 +215,7 @@ module _ (ok : ℕ → ℕ → Bool) (step : StepsValid ok) (last : ℕ) where
       let g = gallop-stop-greedy i lt in
       omega (arith, log2-of w (f .l) (gallopSearch ok last i .low) (f .above) (f .below) (omega arith))
 
-  -- .. so does each stop of the list
+  -- .. and so does each stop of its list
   pub stop-probes : (w : ℕ) → last < 2 ^ w → EachLink (λ i j. gallopSearch ok last i .probes ≡ 2 * floorLog2 w (j - i) + 1) (gallopOf ok last)
   unfolding gallopOf
   stop-probes w fit = links-map per-link 0 (stops (gallopStop ok last) last 0 last) (stops-next last (gallopStop ok last) last 0)
@@ -223,6 +227,5 @@ module _ (ok : ℕ → ℕ → Bool) (step : StepsValid ok) (last : ℕ) where
 
   -- The probe total is the sum over the stops of 2 floor (log2 r) + 1.
   pub gallop-probes : (w : ℕ) → last < 2 ^ w → gallopProbes ok last ≡ linkSum (λ i j. 2 * floorLog2 w (j - i) + 1) (gallopOf ok last)
-  unfolding gallopProbes gallopOf
-  gallop-probes w fit =
-      sum-cong (λ i j. gallopSearch ok last i .probes) (λ i j. 2 * floorLog2 w (j - i) + 1) 0 (stops (gallopStop ok last) last 0 last) (stop-probes w fit)
+  unfolding gallopProbes
+  gallop-probes w fit = sum-cong (λ i j. gallopSearch ok last i .probes) (λ i j. 2 * floorLog2 w (j - i) + 1) (gallopOf ok last) (stop-probes w fit)

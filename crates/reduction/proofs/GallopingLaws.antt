@@ -17,9 +17,9 @@ use Rattle.trace.specs.Link.{Bounded, valid}
 use Rattle.trace.proofs.Validity.{steps-valid}
 use Rattle.reduction.specs.declared.Links.{Links}
 use Rattle.reduction.specs.declared.Probing.{Probing}
-use Rattle.reduction.specs.Outgoing.{TakenIn, Next}
+use Rattle.reduction.specs.Outgoing.{TakenIn, Next, Later}
 use Rattle.reduction.specs.Galloping.{probeAt, Yes, Probes, Probed}
-use Rattle.reduction.proofs.OutgoingLaws.{next-at, valid-at}
+use Rattle.reduction.proofs.OutgoingLaws.{next-at, taken-at, valid-at}
 
 -- ---- a probe
 
@@ -27,37 +27,53 @@ module _ {ts : List ℕ} {vs : List ℤ} {c : Criterion} {s : Probing} {d : ℕ}
   abbrev from : ℕ
   from = s .links .from .sample
 
-  pub probes-next : Next ts vs c (s .links) (from + s .low)
-  probes-next = next-at (p .yes .links) (p .trace) (p .bounded) (omega (arith, p .yes .pos)) (p .yes .inside)
-
-  pub probed-past : length ts ≤ from + d → Probed ts vs c from s d (record { low = s .low; probes = s .probes + 1; links = s .links })
-  probed-past le = record {
+  -- a probe that answers no leaves the yes as it was
+  probed-no : probeAt ts vs c from d ≡ false → Probed ts vs c from s d (record { low = s .low; probes = s .probes + 1; links = s .links })
+  probed-no q = record {
     yes = record { pos = p .yes .pos; inside = p .yes .inside; links = p .yes .links };
-    low = rw (probe-none (valid ts vs c) (length ts - 1) from d (omega (arith, p .yes .inside)));
+    low = rw q;
     probes = refl;
   }
 
-  -- l has taken in every sample before the one probed
-  module _ {l : Links} (inside : from + d < length ts) (t : TakenIn ts vs c from (from + d) l) where
-    pub far-next : Next ts vs c l (from + d)
-    far-next = next-at t (p .trace) (p .bounded) (omega (arith, p .further)) inside
+  pub probed-past : length ts ≤ from + d → Probed ts vs c from s d (record { low = s .low; probes = s .probes + 1; links = s .links })
+  probed-past le = probed-no (probe-none (valid ts vs c) (length ts - 1) from d (omega (arith, p .yes .inside)))
 
-    answer : {b : Bool} → b ≡ valid ts vs c (l .from .sample) (from + d) → probeAt ts vs c from d ≡ b
-    answer e = probe-within (valid ts vs c) (length ts - 1) from d (omega arith) ∙ sym (valid-at t (from + d) e)
-
-    pub probed-yes : true ≡ valid ts vs c (l .from .sample) (from + d) → Probed ts vs c from s d (record { low = d; probes = s .probes + 1; links = l })
-    probed-yes e = record {
-      yes = record { pos = omega (arith, p .further); inside = inside; links = t };
-      low = rw (answer e);
-      probes = refl;
+  module _ (inside : from + d < length ts) where
+    pub probes-later : Later ts vs c (s .links) (from + d)
+    probes-later = record {
+      trace = p .trace;
+      bounded = p .bounded;
+      next = from + s .low + 1;
+      taken = p .yes .links;
+      order = omega (arith, p .further);
+      after = omega (arith, p .further);
+      inside = inside;
     }
 
-    pub probed-no : false ≡ valid ts vs c (l .from .sample) (from + d) → Probed ts vs c from s d (record { low = s .low; probes = s .probes + 1; links = s .links })
-    probed-no e = record {
-      yes = record { pos = p .yes .pos; inside = p .yes .inside; links = p .yes .links };
-      low = rw (answer e);
-      probes = refl;
-    }
+    pub probes-next : Next ts vs c (s .links) (from + s .low + 1)
+    probes-next = next-at (p .yes .links) (p .trace) (p .bounded) (omega arith) (omega (arith, p .further))
+
+    answer : {b : Bool} → valid ts vs c from (from + d) ≡ b → probeAt ts vs c from d ≡ b
+    answer e = probe-within (valid ts vs c) (length ts - 1) from d (omega arith) ∙ e
+
+    pub probed-fails : valid ts vs c from (from + d) ≡ false → Probed ts vs c from s d (record { low = s .low; probes = s .probes + 1; links = s .links })
+    probed-fails e = probed-no (answer e)
+
+    -- l has taken in every sample before the one probed
+    module _ {l : Links} (t : TakenIn ts vs c from (from + d) l) where
+      pub far-next : Next ts vs c l (from + d)
+      far-next = next-at t (p .trace) (p .bounded) (omega (arith, p .further)) inside
+
+      pub probed-invalid : false ≡ valid ts vs c (l .from .sample) (from + d) → Probed ts vs c from s d (record { low = s .low; probes = s .probes + 1; links = s .links })
+      probed-invalid e = probed-fails (sym (valid-at t (from + d) e))
+
+      pub probed-yes : {m : Links} → true ≡ valid ts vs c (l .from .sample) (from + d) → TakenIn ts vs c (l .from .sample) (from + d + 1) m
+          → Probed ts vs c from s d (record { low = d; probes = s .probes + 1; links = m })
+      probed-yes e u = record {
+        yes = record { pos = omega (arith, p .further); inside = inside; links = taken-at t u };
+        low = rw (answer (sym (valid-at t (from + d) e)));
+        probes = refl;
+      }
 
 -- a search from sample i
 module _ {ts : List ℕ} {vs : List ℤ} {c : Criterion} {i : ℕ} {s : Probing} (y : Yes ts vs c i s) where
@@ -84,7 +100,7 @@ pub record Raising (ts : List ℕ) (vs : List ℤ) (c : Criterion) (i : ℕ) (s 
   pub yes : Yes ts vs c i s
   pub doubles : Doubling (valid ts vs c) (length ts - 1) i (s .low) (s .probes)
 
-pub raising-none : {ts : List ℕ} {vs : List ℤ} {c : Criterion} {i : ℕ} {l : Links} → i + 1 < length ts → TakenIn ts vs c i (i + 1) l → Raising ts vs c i (record { low = 1; probes = 0; links = l })
+pub raising-none : {ts : List ℕ} {vs : List ℤ} {c : Criterion} {i : ℕ} {l : Links} → i + 1 < length ts → TakenIn ts vs c i (i + 1 + 1) l → Raising ts vs c i (record { low = 1; probes = 0; links = l })
 raising-none h t = record { yes = record { pos = omega arith; inside = h; links = t }; doubles = doubling-none (omega arith) }
 
 module _ {ts : List ℕ} {vs : List ℤ} {c : Criterion} {i : ℕ} {s r : Probing} (g : Raising ts vs c i s) (h : Probed ts vs c (s .links .from .sample) s (s .low + s .low) r) where

@@ -2,3 +2,4 @@
 pub mod OutgoingLaws
 pub mod WalkingLaws
 pub mod GallopingLaws
+pub mod ReductionLaws

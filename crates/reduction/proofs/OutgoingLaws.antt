@@ -1,14 +1,16 @@
 -- Laws of the links from one sample: how they begin, what they say of a link, and one sample more.
 -- Assumes nothing.
-use mathlib.Core.Path.{_≡_, refl, sym, subst}
-use mathlib.Core.Bool.{Bool, true}
+use mathlib.Core.Path.{_≡_, refl, sym, ap, subst, _∙_}
+use mathlib.Core.Logic.{⊎-elim}
+use mathlib.Core.Bool.{Bool, true, false}
 use mathlib.Core.List.{List}
 use Prim.Native.Nat.{ℕ, _+_, _-_, _*_, _≤_, _<_}
-use native.Mathlib.Nat.{mul-le-mul-right}
+use native.Mathlib.Nat.{eq-or-lt-of-le, mul-le-mul-right}
 use native.Mathlib.Omega.{arith}
 use lib.IntN.{ℤ}
 use lib.ListN.{length}
 use borrow.Author.Tests.{le-leb}
+use Rattle.lists.proofs.Tests.{and-true, is-false, is-true-unless, true-false}
 use Rattle.trace.specs.declared.Criterion.{Criterion}
 use Rattle.trace.specs.declared.Start.{Start}
 use Rattle.trace.specs.declared.Edge.{Edge}
@@ -16,11 +18,12 @@ use Rattle.trace.specs.declared.Cone.{Cone}
 use Rattle.trace.specs.Trace.{Trace}
 use Rattle.trace.specs.Link.{Linked, Bounded, valid}
 use Rattle.trace.specs.Edge.{middle, StartAt, EdgeTo, Slope, Tilt, noSteeper, lowered, raised}
-use Rattle.trace.specs.Cone.{coneFrom, admitsEdge, extendedBy, ConeFits, Takes}
-use Rattle.trace.proofs.EdgeLaws.{edge-at, tilts, tilt-slope}
+use Rattle.trace.specs.Cone.{coneFrom, admitsEdge, extendedBy, ConeFits}
+use Rattle.trace.proofs.EdgeLaws.{edge-at, tilts, tilt-slope, low-test, high-test}
+use Rattle.trace.proofs.Validity.{true-valid, not-above, not-below}
 use Rattle.trace.proofs.ConeLaws.{takes-none, takes-more, takes-admits}
 use Rattle.reduction.specs.declared.Links.{Links}
-use Rattle.reduction.specs.Outgoing.{TakenIn, Next}
+use Rattle.reduction.specs.Outgoing.{TakenIn, Next, Later}
 
 -- what has taken in nothing
 pub taken-none : {ts : List ℕ} {vs : List ℤ} {c : Criterion} {i : ℕ} {s : Start} {cone : Cone} → StartAt ts vs (c .q) i s → cone ≡ coneFrom (c .p) → ConeFits cone → TakenIn ts vs c i (i + 1) (record { from = s; cone = cone })
@@ -32,15 +35,12 @@ module _ {ts : List ℕ} {vs : List ℤ} {c : Criterion} {i : ℕ} {s : Start} {
   pub first-tilt : Tilt to (c .p)
   first-tilt = tilts (edge-at h e) t (omega arith) inside (b .q-bound) (b .p-bound)
 
-  pub taken-first : {cone : Cone} → cone ≡ extendedBy (coneFrom (c .p)) to (c .p) → ConeFits cone → TakenIn ts vs c i (i + 2) (record { from = s; cone = cone })
-  taken-first {cone} q f =
-      let two : i + 1 + 1 ≡ i + 2 = omega arith in
-      record {
-        start = h;
-        takes = rw q (subst (λ (k : ℕ). Takes ts vs c i k (extendedBy (coneFrom (c .p)) to (c .p))) two
-            (takes-more (record { trace = t; forward = omega arith; inside = inside }) b (takes-none h) (edge-at h e)));
-        fits = f;
-      }
+  pub taken-first : {cone : Cone} → cone ≡ extendedBy (coneFrom (c .p)) to (c .p) → ConeFits cone → TakenIn ts vs c i (i + 1 + 1) (record { from = s; cone = cone })
+  taken-first q f = record {
+    start = h;
+    takes = rw q (takes-more (record { trace = t; forward = omega arith; inside = inside }) b (takes-none h) (edge-at h e));
+    fits = f;
+  }
 
 -- the next sample j of links whose start is sample i
 module _ {ts : List ℕ} {vs : List ℤ} {c : Criterion} {i j : ℕ} {l : Links} (h : TakenIn ts vs c i j l) where
@@ -76,15 +76,66 @@ module _ {ts : List ℕ} {vs : List ℤ} {c : Criterion} {j : ℕ} {l : Links} {
   pub next-taken : {cone : Cone} → cone ≡ extendedBy (l .cone) to (c .p) → ConeFits cone → TakenIn ts vs c (l .from .sample) (j + 1) (record { from = l .from; cone = cone })
   next-taken e f = record { start = n .taken .start; takes = rw e (takes-more link (n .bounded) (n .taken .takes) h); fits = f }
 
+-- an edge without ticks, which bounds nothing
+module _ (e to : Edge) (p : ℕ) (none : e .run ≡ 0) (flat : e .rise ≡ middle) where
+  low-none : noSteeper (lowered e p) to ≡ true
+  low-none =
+      let l : e .rise - p ≤ middle = omega arith in
+      le-leb ((e .rise - p) * to .run + middle * e .run) (to .rise * e .run + middle * to .run)
+      (omega (arith, mul-le-mul-right (to .run) l, ap (λ (n : ℕ). to .rise * n) none))
+
+  high-none : noSteeper to (raised e p) ≡ true
+  high-none = le-leb (to .rise * e .run + middle * to .run) ((e .rise + p) * to .run + middle * e .run)
+      (omega (arith, ap (λ (n : ℕ). to .rise * n) none, ap (λ (n : ℕ). n * to .run) flat))
+
 -- one sample alone holds both sides of the cone
 module _ (to : Edge) (p : ℕ) where
-  lower-first : noSteeper (coneFrom p .low) (lowered to p) ≡ true
-  lower-first =
-      let l : middle - p ≤ middle = omega arith in
-      le-leb ((middle - p) * to .run + middle * 0) ((to .rise - p) * 0 + middle * to .run) (omega (arith, mul-le-mul-right (to .run) l))
-
-  upper-first : noSteeper (raised to p) (coneFrom p .high) ≡ true
-  upper-first = le-leb ((to .rise + p) * 0 + middle * to .run) ((middle + p) * to .run + middle * 0) (omega arith)
+  abbrev itself : Edge
+  itself = record { rise = middle; run = 0 }
 
   pub first-cone : {low high : Edge} → low ≡ lowered to p → high ≡ raised to p → record { low = low; high = high } ≡ extendedBy (coneFrom p) to p
-  first-cone e f = rw (lower-first, upper-first, e, f)
+  first-cone e f = rw (low-none itself (lowered to p) p refl refl, high-none itself (raised to p) p refl refl, e, f)
+
+-- the edge from a sample to itself
+module _ {ts : List ℕ} {vs : List ℤ} {q i k : ℕ} {e : Edge} (h : EdgeTo ts vs q i k e) (same : i ≡ k) where
+  own : EdgeTo ts vs q i i e
+  own = subst (λ (n : ℕ). EdgeTo ts vs q i n e) (sym same) h
+
+  own-run : e .run ≡ 0
+  own-run = omega (arith, own .run)
+
+  own-rise : e .rise ≡ middle
+  own-rise = omega (arith, own .rise)
+
+-- a link that fails a sample taken in is invalid, whatever else lies between
+module _ {ts : List ℕ} {vs : List ℤ} {c : Criterion} {e : ℕ} {l : Links} {to : Edge} (n : Later ts vs c l e) (h : EdgeTo ts vs (c .q) (l .from .sample) e to) where
+  abbrev from : ℕ
+  from = l .from .sample
+
+  pub later-slope : Slope to
+  later-slope = tilt-slope (tilts h (n .trace) (omega (arith, n .after)) (n .inside) (n .bounded .q-bound) (n .bounded .p-bound))
+
+  module _ (v : valid ts vs c from e ≡ true) where
+    low-passes : noSteeper (l .cone .low) to ≡ true
+    low-passes =
+        let k = n .taken .takes in
+        rw (k .low-is) (⊎-elim
+        (λ z. low-none (k .low) to (c .p) (own-run (k .low-edge) z) (own-rise (k .low-edge) z))
+        (λ lt.
+        low-test (n .trace) (k .lower-from) (omega (arith, k .lower-to, n .order)) (n .inside) h (k .low-edge)
+        (tilts (k .low-edge) (n .trace) (k .lower-from) (omega (arith, k .lower-to, n .order, n .inside)) (n .bounded .q-bound) (n .bounded .p-bound) .low)
+        ∙ is-true-unless _ (λ q. not-above ts vs c from e (k .lower) q (true-valid ts vs c from e v .between (k .lower) lt (omega (arith, k .lower-to, n .order)))))
+        (eq-or-lt-of-le (k .lower-from)))
+
+    high-passes : noSteeper to (l .cone .high) ≡ true
+    high-passes =
+        let k = n .taken .takes in
+        rw (k .high-is) (⊎-elim
+        (λ z. high-none (k .high) to (c .p) (own-run (k .high-edge) z) (own-rise (k .high-edge) z))
+        (λ lt.
+        high-test (n .trace) (k .upper-from) (omega (arith, k .upper-to, n .order)) (n .inside) h (k .high-edge) (c .p)
+        ∙ is-true-unless _ (λ q. not-below ts vs c from e (k .upper) q (true-valid ts vs c from e v .between (k .upper) lt (omega (arith, k .upper-to, n .order)))))
+        (eq-or-lt-of-le (k .upper-from)))
+
+  pub later-invalid : admitsEdge (l .cone) to ≡ false → valid ts vs c from e ≡ false
+  later-invalid r = is-false _ (λ v. true-false (and-true (low-passes v) (high-passes v)) r)

@@ -44,14 +44,12 @@ module _ {ts : List ℕ} {vs : List ℤ} {c : Criterion} {w : Walk} (h : Walked 
     count = rw (add-one (w .at), open-stays (valid ts vs c) (w .at) (test e)) (h .count);
   }
 
-  pub walked-invalid : {l : Links} → false ≡ valid ts vs c (w .links .from .sample) (w .at + 1) → TakenIn ts vs c (w .at) (w .at + 2) l
+  pub walked-invalid : {l : Links} → false ≡ valid ts vs c (w .links .from .sample) (w .at + 1) → TakenIn ts vs c (w .at) (w .at + 1 + 1) l
       → Walked ts vs c (record { links = l; at = w .at + 1; count = w .count + 1 })
-  walked-invalid e t =
-      let two : w .at + 2 ≡ suc (w .at) + 1 = omega arith in
-      record {
-        links = rw (add-one (w .at), start-moves (valid ts vs c) (w .at) (test e), ← two) t;
-        count = rw (add-one (w .at), open-grows (valid ts vs c) (w .at) (test e), length-append) (omega (arith, h .count));
-      }
+  walked-invalid e t = record {
+    links = rw (add-one (w .at), start-moves (valid ts vs c) (w .at) (test e), ← add-one (w .at)) t;
+    count = rw (add-one (w .at), open-grows (valid ts vs c) (w .at) (test e), length-append) (omega (arith, h .count));
+  }
 
 pub steps-next : {ts : List ℕ} {vs : List ℤ} {c : Criterion} {w : Walk} → Steps ts vs c w → Next ts vs c (w .links) (w .at + 1)
 steps-next {ts} {vs} {c} {w} s = next-at (s .walked .links) (s .trace) (s .bounded) (omega (arith, walk-start-le (valid ts vs c) (w .at))) (s .inside)

@@ -1,7 +1,7 @@
 -- Gallop over a trace (document 003, figure 7, and document 01, "The four reductions").
 --   gallopList, gallopTotal   gallop's list of a trace, and its probe total
 --   probeAt                   the answer of a probe from sample i at an offset
---   Yes                       the last yes of a search is within the trace, and the samples before it have been taken in
+--   Yes                       the last yes of a search is within the trace, and the samples up to it have been taken in
 --   Probes, Probed            a probe at a later offset, and the search after it
 --   Gallops                   what gallop answers and writes
 -- Laws are in GallopingLaws. Assumes nothing.
@@ -32,7 +32,7 @@ probeAt ts vs c i = probeOf (valid ts vs c) (length ts - 1) i
 pub record Yes (ts : List ℕ) (vs : List ℤ) (c : Criterion) (i : ℕ) (s : Probing) : Type 0 where
   pub pos : 0 < s .low
   pub inside : i + s .low < length ts
-  pub links : TakenIn ts vs c i (i + s .low) (s .links)
+  pub links : TakenIn ts vs c i (i + s .low + 1) (s .links)
 
 pub record Probes (ts : List ℕ) (vs : List ℤ) (c : Criterion) (s : Probing) (d : ℕ) : Type 0 where
   pub trace : Trace ts vs

@@ -1,9 +1,10 @@
 -- The links from one sample of a trace, with the samples taken in so far.
 --   TakenIn  the start is sample i, and every sample between i and j has been taken in
 --   Next     j is a sample of the trace, and every sample between the start and j has been taken in
+--   Later    e is a sample of the trace after all that have been taken in
 -- Laws are in OutgoingLaws. Assumes nothing.
 use mathlib.Core.List.{List}
-use Prim.Native.Nat.{ℕ, _<_}
+use Prim.Native.Nat.{ℕ, _≤_, _<_}
 use lib.IntN.{ℤ}
 use lib.ListN.{length}
 use Rattle.trace.specs.declared.Criterion.{Criterion}
@@ -24,3 +25,12 @@ pub record Next (ts : List ℕ) (vs : List ℤ) (c : Criterion) (l : Links) (j :
   pub taken : TakenIn ts vs c (l .from .sample) j l
   pub after : l .from .sample < j
   pub inside : j < length ts
+
+pub record Later (ts : List ℕ) (vs : List ℤ) (c : Criterion) (l : Links) (e : ℕ) : Type 0 where
+  pub trace : Trace ts vs
+  pub bounded : Bounded c
+  pub next : ℕ
+  pub taken : TakenIn ts vs c (l .from .sample) next l
+  pub order : next ≤ e
+  pub after : l .from .sample < e
+  pub inside : e < length ts

@@ -10,7 +10,8 @@ ghost use Rattle.reduction.specs.Galloping.{probeAt, Yes, Probes, Probed
 use crate::Galloped;
 use crate::Links;
 use crate::Probing;
-use crate::outgoing::links_at;
+use crate::outgoing::links_past;
+use crate::outgoing::passes;
 use crate::outgoing::reaches;
 use crate::outgoing::taken;
 use kept::Search;
@@ -39,25 +40,25 @@ fn probe(ticks: &[u32], values: &[i16], c: Criterion, s: Probing, d: usize) -> P
     let i = links.from.sample;
     let end = i + d;
     let probes = s.probes + 1;
-    if ticks.len() <= end {
-        return Probing {
-            low: s.low,
-            probes: probes,
-            links: links,
-        };
-    }
-    let far = taken_to(ticks, values, c, links, i + s.low, end);
-    if reaches(ticks, values, c, far, end) {
-        return Probing {
-            low: d,
-            probes: probes,
-            links: far,
-        };
-    }
-    Probing {
+    let no = Probing {
         low: s.low,
         probes: probes,
         links: links,
+    };
+    if ticks.len() <= end {
+        return no;
+    }
+    if !passes(ticks, values, c, links, end) {
+        return no;
+    }
+    let far = taken_to(ticks, values, c, links, i + s.low + 1, end);
+    if !reaches(ticks, values, c, far, end) {
+        return no;
+    }
+    Probing {
+        low: d,
+        probes: probes,
+        links: taken(ticks, values, c, far, end),
     }
 }
 
@@ -70,7 +71,7 @@ fn double(ticks: &[u32], values: &[i16], c: Criterion, i: usize) -> Probing
     let mut s = Probing {
         low: 1,
         probes: 0,
-        links: links_at(ticks, values, c, i),
+        links: links_past(ticks, values, c, i),
     };
     loop {
         let next = probe(ticks, values, c, s, s.low + s.low);

@@ -15,7 +15,7 @@ pub struct Walk {
     pub count: usize,
 }
 
-// A search from a sample: the offset of its last yes, the probes made, and the links with the samples before that offset taken in.
+// A search from a sample: the offset of its last yes, the probes made, and the links with the samples up to that offset taken in.
 pub struct Probing {
     pub low: usize,
     pub probes: usize,

@@ -1,12 +1,13 @@
 // The links from one sample of a trace: each is tested, and each sample taken in, in constant time.
 ghost use mathlib.Core.Path.{_≡_};
+ghost use mathlib.Core.Bool.{false};
 ghost use Prim.Native.Nat.{_+_, _<_};
 ghost use lib.ListN.{length};
 ghost use Rattle.trace.specs.Trace.{Trace};
 ghost use Rattle.trace.specs.Link.{Bounded, valid};
 ghost use Rattle.trace.specs.Edge.{Tilt};
 ghost use Rattle.trace.specs.Cone.{coneFrom, extendedBy, ConeFits};
-ghost use Rattle.reduction.specs.Outgoing.{TakenIn, Next};
+ghost use Rattle.reduction.specs.Outgoing.{TakenIn, Next, Later};
 use crate::Links;
 use trace::Cone;
 use trace::Criterion;
@@ -47,7 +48,7 @@ fn cone_of(to: Edge, p: u64) -> Cone
 // The links from sample i, with the next sample taken in.
 pub fn links_past(ticks: &[u32], values: &[i16], c: Criterion, i: usize) -> Links
     requires { ⌜ Trace (now ticks) (now values) × Bounded c × (i + 1 < length (now ticks)) ⌝ }
-    ensures { λ r. ⌜ TakenIn (now (ticks .entry)) (now (values .entry)) c i (i + 2) r ⌝ }
+    ensures { λ r. ⌜ TakenIn (now (ticks .entry)) (now (values .entry)) c i (i + 1 + 1) r ⌝ }
 {
     let from = start_at(ticks, values, i, c.q);
     let to = edge_to(ticks, values, from, i + 1, c.q);
@@ -65,6 +66,16 @@ pub fn reaches(ticks: &[u32], values: &[i16], c: Criterion, links: Links, j: usi
     let from = links.from;
     let cone = links.cone;
     admits(cone, edge_to(ticks, values, from, j, c.q))
+}
+
+// Whether the link to sample e passes the samples taken in. Where it does not, it is invalid.
+pub fn passes(ticks: &[u32], values: &[i16], c: Criterion, links: Links, e: usize) -> bool
+    requires { ⌜ Later (now ticks) (now values) c links e ⌝ }
+    ensures { λ r. ⌜ (r ≡ false → valid (now (ticks .entry)) (now (values .entry)) c (links .from .sample) e ≡ false) ⌝ }
+{
+    let from = links.from;
+    let cone = links.cone;
+    admits(cone, edge_to(ticks, values, from, e, c.q))
 }
 
 // The links with sample j taken in too.

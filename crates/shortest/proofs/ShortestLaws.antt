@@ -1,28 +1,27 @@
 -- Laws of the minimum of a trace, and of the scan over the ends of the links from one sample. `Scanning` is the invariant of the scan's loop.
 -- Assumes nothing.
-use mathlib.Core.Path.{_≡_, sym, _∙_}
-use mathlib.Core.Bool.{Bool, true, false, cond, _&&_}
+use mathlib.Core.Path.{_≡_}
+use mathlib.Core.Bool.{Bool, true, false}
 use mathlib.Core.List.{List}
-use Prim.Native.Nat.{ℕ, suc, _+_, _-_, _≤_, _<_}
+use Prim.Native.Nat.{ℕ, _+_, _-_, _≤_, _<_}
 use native.Mathlib.Omega.{arith}
-use lib.Dec.{leb}
 use lib.IntN.{ℤ}
 use lib.ListN.{length, getD}
+use borrow.Author.Tests.{le-leb, lt-leb}
 use Rattle.kept.specs.Minimum.{StepsTo, Minimum, linksOf, nextOf}
 use Rattle.kept.proofs.MinimumLaws.{minimum-of, minimum-length, Choosing, choosing-none, choosing-more, chosen}
 use Rattle.trace.specs.declared.Criterion.{Criterion}
 use Rattle.trace.specs.declared.Start.{Start}
 use Rattle.trace.specs.declared.Edge.{Edge}
 use Rattle.trace.specs.declared.Cone.{Cone}
-use Rattle.trace.specs.Trace.{Trace}
-use Rattle.trace.specs.Link.{Linked, Bounded, valid}
+use Rattle.trace.specs.Link.{Linked, valid}
 use Rattle.trace.specs.Edge.{StartAt, EdgeTo, Reach, Slope, Tilt, noSteeper}
 use Rattle.trace.specs.Cone.{coneFrom, admitsEdge, extendedBy, ConeFits, Takes}
 use Rattle.trace.proofs.Validity.{steps-valid}
 use Rattle.trace.proofs.EdgeLaws.{reach, edge-at, tilts, tilt-slope}
 use Rattle.trace.proofs.ConeLaws.{takes-none, takes-more, takes-admits}
 use Rattle.trace.proofs.EmptyCone.{empty-invalid}
-use Rattle.shortest.specs.Shortest.{minimumList, Scan}
+use Rattle.shortest.specs.Shortest.{minimumList, betterEnd, Scan}
 
 -- ---- the minimum of a trace
 
@@ -36,6 +35,21 @@ module _ (ts : List ℕ) (vs : List ℤ) (c : Criterion) where
   -- it has at most as many samples as the trace
   pub minimum-fits : 1 ≤ length ts → length (minimumList ts vs c) ≤ length ts
   minimum-fits some = omega (arith, minimum-length (valid ts vs c) (length ts - 1) (trace-steps ts vs c (length ts - 1)))
+
+-- ---- the better of two ends
+
+module _ (x y : ℕ) (v : Bool) (j b : ℕ) where
+  pub better-longer : y < x → b ≡ betterEnd x y v j b
+  unfolding betterEnd
+  better-longer h = rw (lt-leb x y h)
+
+  pub better-valid : x ≤ y → v ≡ true → j ≡ betterEnd x y v j b
+  unfolding betterEnd
+  better-valid h e = rw (le-leb x y h, e)
+
+  pub better-invalid : x ≤ y → v ≡ false → b ≡ betterEnd x y v j b
+  unfolding betterEnd
+  better-invalid h e = rw (le-leb x y h, e)
 
 -- ---- the scan from one sample
 
@@ -62,16 +76,17 @@ module _ {ts : List ℕ} {vs : List ℤ} {c : Criterion} {links : List ℕ} {i :
       pub end-tilt : Tilt to (c .p)
       end-tilt = tilts (edge-at at edge) (s .trace) (omega (arith, g .choosing .from)) inside (s .bounded .q-bound) (s .bounded .p-bound)
 
-      pub better-requires : (b < length links) × (j < length links) × ConeFits cone × Slope to
-      better-requires =
+      pub choice-requires : (b < length links) × (j < length links) × ConeFits cone × Slope to
+      choice-requires =
           let room = s .counted .links-room in
           (omega (arith, g .choosing .before), omega arith, g .fits, tilt-slope end-tilt)
 
       link : Linked ts vs i j
       link = record { trace = s .trace; forward = g .choosing .from; inside = inside }
 
-      pub scanning-more : {r : ℕ} {next : Cone} → r ≡ cond (leb (getD links j 0) (getD links b 0) && admitsEdge cone to) j b
+      pub scanning-more : {r : ℕ} {next : Cone} → r ≡ betterEnd (getD links j 0) (getD links b 0) (admitsEdge cone to) j b
           → (next ≡ extendedBy cone to (c .p)) × ConeFits next → Scanning ts vs c i next r (j + 1)
+      unfolding betterEnd
       scanning-more e h =
           let counts = s .counted .counts in
           record {
@@ -83,11 +98,13 @@ module _ {ts : List ℕ} {vs : List ℤ} {c : Criterion} {links : List ℕ} {i :
           }
 
   module _ {cone : Cone} {b j : ℕ} (g : Scanning ts vs c i cone b j) where
-    -- the scan has reached the last sample
+    scanned : ((e : ℕ) → j ≤ e → e ≤ length ts - 1 → valid ts vs c i e ≡ false) → b ≡ nextOf (valid ts vs c) (length ts - 1) i
+    scanned none = chosen _ _ (g .choosing) (omega (arith, s .inside)) (omega (arith, g .to, s .trace .some)) none
+
+    -- the scan has taken in the last sample
     pub scanned-all : length ts - 1 < j → b ≡ nextOf (valid ts vs c) (length ts - 1) i
-    scanned-all h = chosen _ _ (g .choosing) (omega (arith, s .inside)) (omega (arith, g .to, s .trace .some)) (λ e l u. absurd (omega arith))
+    scanned-all h = scanned (λ e l u. absurd (omega arith))
 
     -- or the cone is empty
     pub scanned-empty : noSteeper (cone .low) (cone .high) ≡ false → b ≡ nextOf (valid ts vs c) (length ts - 1) i
-    scanned-empty h = chosen _ _ (g .choosing) (omega (arith, s .inside)) (omega (arith, g .to, s .trace .some))
-        (λ e l u. empty-invalid (s .trace) (s .bounded) (g .takes) h e l (omega (arith, s .trace .some)))
+    scanned-empty h = scanned (λ e l u. empty-invalid (s .trace) (s .bounded) (g .takes) h e l (omega (arith, s .trace .some)))

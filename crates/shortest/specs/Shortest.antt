@@ -3,12 +3,14 @@
 --   Counted            `links` holds the fewest links to the last sample, from each sample from i on
 --   Planned            `next` holds the latest next sample of such a list, for each sample from i on
 --   Onward             each entry of `next` leads to a later sample of the trace
+--   betterEnd          the better of two ends of links from one sample
 --   Scan               what a scan over the ends of the links from sample i is given
 -- Laws are in ShortestLaws and Tables. Assumes nothing.
 use mathlib.Core.Path.{_≡_}
-use mathlib.Core.Bool.{Bool}
+use mathlib.Core.Bool.{Bool, cond, _&&_}
 use mathlib.Core.List.{List}
 use Prim.Native.Nat.{ℕ, suc, _+_, _-_, _≤_, _<_}
+use lib.Dec.{leb}
 use lib.IntN.{ℤ}
 use lib.ListN.{length, getD}
 use Rattle.kept.specs.Minimum.{linksOf, nextOf, minimumOf}
@@ -30,6 +32,10 @@ pub record Planned (ok : ℕ → ℕ → Bool) (last i : ℕ) (next : List ℕ) 
 pub record Onward (last : ℕ) (next : List ℕ) : Type 0 where
   pub room : last < length next
   pub onward : (k : ℕ) → k < last → (k < getD next k 0) × (getD next k 0 ≤ last)
+
+-- j where its link is valid and no more links lead on from it than from b: x and y of them
+unfoldable pub betterEnd : ℕ → ℕ → Bool → ℕ → ℕ → ℕ
+betterEnd x y valid j b = cond (leb x y && valid) j b
 
 pub record Scan (ts : List ℕ) (vs : List ℤ) (c : Criterion) (links : List ℕ) (i : ℕ) : Type 0 where
   pub trace : Trace ts vs

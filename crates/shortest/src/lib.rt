@@ -1,8 +1,8 @@
 // The reduction minimum: the shortest kept list of valid links, and of several the latest.
 ghost use mathlib.Core.Path.{_≡_};
-ghost use mathlib.Core.Bool.{cond, not, _&&_};
+ghost use mathlib.Core.Bool.{not, _&&_};
 ghost use Prim.Native.Nat.{_+_, _-_, _≤_, _<_};
-ghost use lib.Dec.{leb};
+ghost use lib.Dec.{ltb};
 ghost use lib.ListN.{length, getD};
 ghost use Rattle.lists.specs.Overwrite.{overwrite};
 ghost use Rattle.kept.specs.Stops.{listBy};
@@ -11,7 +11,7 @@ ghost use Rattle.trace.specs.Trace.{Trace};
 ghost use Rattle.trace.specs.Link.{Bounded, valid};
 ghost use Rattle.trace.specs.Edge.{noSteeper, Slope};
 ghost use Rattle.trace.specs.Cone.{admitsEdge, ConeFits};
-ghost use Rattle.shortest.specs.Shortest.{minimumList, Planned, Onward, Scan};
+ghost use Rattle.shortest.specs.Shortest.{minimumList, Planned, Onward, betterEnd, Scan};
 use trace::Cone;
 use trace::Criterion;
 use trace::Edge;
@@ -22,20 +22,10 @@ use trace::edges::edge_to;
 use trace::edges::no_steeper;
 use trace::edges::start_at;
 
-// Whether no direction passes every sample taken in: the low edge is steeper than the high one.
-fn empty(cone: Cone) -> bool
-    requires { ⌜ ConeFits cone ⌝ }
-    ensures { λ r. ⌜ r ≡ not (noSteeper (cone .low) (cone .high)) ⌝ }
-{
-    let low = cone.low;
-    let high = cone.high;
-    !no_steeper(low, high)
-}
-
-// Stop j, of the edge `to`, where its link is valid and it has no more links to the end than stop b; otherwise b.
+// The better of two ends: j, of the edge `to`, if its link is valid and no more links lead on from it than from b; otherwise b.
 fn better(links: &[u16], b: usize, j: usize, cone: Cone, to: Edge) -> usize
     requires { ⌜ (b < length (now links)) × (j < length (now links)) × ConeFits cone × Slope to ⌝ }
-    ensures { λ r. ⌜ r ≡ cond (leb (getD (now (links .entry)) j 0) (getD (now (links .entry)) b 0) && admitsEdge cone to) j b ⌝ }
+    ensures { λ r. ⌜ r ≡ betterEnd (getD (now (links .entry)) j 0) (getD (now (links .entry)) b 0) (admitsEdge cone to) j b ⌝ }
 {
     if links[b] < links[j] {
         return b;
@@ -43,7 +33,21 @@ fn better(links: &[u16], b: usize, j: usize, cone: Cone, to: Edge) -> usize
     if admits(cone, to) { j } else { b }
 }
 
-// The latest next sample of a shortest list from sample i, by one scan over the ends j of its links. An empty cone ends it.
+// Whether a scan that has taken in j, with b its best end, may stop: the cone is empty, as its low edge is steeper than its high one.
+// Where b is j it is not tested: the direction of j passes every sample taken in.
+fn may_stop(cone: Cone, b: usize, j: usize) -> bool
+    requires { ⌜ ConeFits cone ⌝ }
+    ensures { λ r. ⌜ r ≡ (ltb b j && not (noSteeper (cone .low) (cone .high))) ⌝ }
+{
+    if j <= b {
+        return false;
+    }
+    let low = cone.low;
+    let high = cone.high;
+    !no_steeper(low, high)
+}
+
+// The latest next sample of a shortest list from sample i, by one scan over the ends j of its links with one cone.
 fn next_stop(ticks: &[u32], values: &[i16], c: Criterion, links: &[u16], i: usize) -> usize
     requires { ⌜ Scan (now ticks) (now values) c (now links) i ⌝ }
     ensures { λ r. ⌜ r ≡ nextOf (valid (now (ticks .entry)) (now (values .entry)) c) (length (now (ticks .entry)) - 1) i ⌝ }
@@ -57,7 +61,7 @@ fn next_stop(ticks: &[u32], values: &[i16], c: Criterion, links: &[u16], i: usiz
         let to = edge_to(ticks, values, from, j, c.q);
         b = better(links, b, j, cone, to);
         cone = extended(cone, to, c.p);
-        let done = empty(cone);
+        let done = may_stop(cone, b, j);
         if done {
             return b;
         }
@@ -66,7 +70,7 @@ fn next_stop(ticks: &[u32], values: &[i16], c: Criterion, links: &[u16], i: usiz
     b
 }
 
-// Fills both tables, from the last sample back.
+// Fills both tables from the last sample back: the fewest links from each sample on, and the latest next sample of such a list.
 fn plan(ticks: &[u32], values: &[i16], c: Criterion, links: &mut [u16], next: &mut [u16])
     requires { ⌜ Trace (now ticks) (now values) × Bounded c × (length (now ticks) ≤ length (now links)) × (length (now ticks) ≤ length (now next)) ⌝ }
     ensures { λ _. ⌜ Planned (valid (now (ticks .entry)) (now (values .entry)) c) (length (now (ticks .entry)) - 1) 0 (now (next .exit)) ⌝ }

@@ -1,8 +1,8 @@
 -- The empty cone: where the low edge is steeper than the high one, no direction passes every sample taken in, so no later link from the start is valid.
 -- Assumes nothing.
-use mathlib.Core.Path.{_≡_, refl, sym, ap, subst}
+use mathlib.Core.Path.{_≡_, refl, ap, subst}
 use mathlib.Core.Logic.{⊎-elim}
-use mathlib.Core.Bool.{Bool, true, false}
+use mathlib.Core.Bool.{true, false}
 use mathlib.Core.List.{List}
 use Prim.Native.Nat.{ℕ, _+_, _-_, _*_, _≤_, _<_}
 use native.Mathlib.Nat.{eq-or-lt-of-le, mul-le-mul-right, le-of-mul-le-mul-right}
@@ -17,7 +17,7 @@ use Rattle.trace.specs.declared.Cone.{Cone}
 use Rattle.trace.specs.Trace.{tick, Trace}
 use Rattle.trace.specs.Link.{Bounded, Band, valid}
 use Rattle.trace.proofs.Line.{Above, Below}
-use Rattle.trace.specs.Edge.{middle, EdgeTo, noSteeper, lowered, raised}
+use Rattle.trace.specs.Edge.{middle, EdgeTo, noSteeper}
 use Rattle.trace.specs.Cone.{Takes}
 use Rattle.trace.proofs.Ticks.{later, not-earlier}
 use Rattle.trace.proofs.Difference.{twice}
@@ -35,6 +35,7 @@ crossed : (a b c d p u w s r t : ℕ) → t ≡ u + s → t ≡ w + r → 0 < t 
 crossed a b c d p u w s r t es er some h k = le-of-mul-le-mul-right {k = t}
     (omega (arith, mul-le-mul-right w h, mul-le-mul-right u k, ap (λ (x : ℕ). a * w * x) es, ap (λ (x : ℕ). a * u * x) er)) some
 
+-- the same of a sample that lies at most p/q above the line and of one that lies at most p/q below it
 bounds : {a b c d u w s r p q : ℕ} → u + s ≡ w + r → 0 < u + s → Above a b c u s p q → Below a b d w r p q
     → q * c * w + q * a * u ≤ q * d * u + q * a * w + p * u + p * w
 bounds {a} {b} {c} {d} {u} {w} {s} {r} {p} {q} whole some h k = omega (
@@ -87,6 +88,6 @@ module _ {ts : List ℕ} {vs : List ℤ} {c : Criterion} {start j : ℕ} {cone :
         (omega (arith, tilt .low)) (height-rise (takes .low-edge)) (height-rise (takes .high-edge))
         (rw (takes .low-edge .run, takes .high-edge .run) (bounds (omega arith) (omega arith) passes-lower passes-upper))))
 
-  -- nothing from the sample on that the cone has yet to take in
+  -- no link to a sample that the cone has yet to take in is valid
   pub empty-invalid : noSteeper (cone .low) (cone .high) ≡ false → (e : ℕ) → j ≤ e → e < length ts → valid ts vs c start e ≡ false
   empty-invalid h e je inside = is-false _ (λ v. true-false (not-empty e je inside v) h)

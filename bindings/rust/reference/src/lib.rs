@@ -2,15 +2,18 @@
 //! nothing of the library that is compared with it.
 //!
 //! - [`Fraction`]: exact fractions, compared by cross multiplication.
-//! - [`deviation`], [`link_error`], [`link_valid`]: links of a trace.
+//! - [`deviation`], [`link_error`], [`link_valid`], [`valid_ends`]: links of a trace.
 //! - [`Form`], [`held`]: the three forms of a tolerance.
 //! - [`trace_refusal`], [`list_refusal`]: rows 1 to 3 and row 6 of the table of refusals.
 //! - [`judge`]: the call.
-//! - [`Method`], [`Reduced`], [`reduce`]: the calls walk and gallop.
+//! - [`Method`], [`Reduced`], [`reduce`]: the calls walk, gallop and minimum.
+//! - [`kept_lists`]: every kept list.
 //! - [`fewest`]: how short a kept list within a fraction can be.
 //! - [`generate`]: repeatable random traces and lists.
 
 pub mod generate;
+
+use std::cmp::Reverse;
 
 /// The most samples a trace has.
 pub const SAMPLES: usize = 4_096;
@@ -83,6 +86,36 @@ pub fn link_error(ticks: &[u32], values: &[i16], i: usize, j: usize) -> Fraction
 /// Whether the link's error is at most the tolerance: whether each deviation is.
 pub fn link_valid(ticks: &[u32], values: &[i16], i: usize, j: usize, tolerance: Fraction) -> bool {
     (i + 1..j).all(|k| deviation(ticks, values, i, j, k).at_most(tolerance))
+}
+
+/// The samples to which a link from i is valid, rising. The line from sample i to sample j passes
+/// sample k within p/q exactly if its slope (vj - vi) / (tj - ti) is at least
+/// (vk - vi - p/q) / (tk - ti) and at most (vk - vi + p/q) / (tk - ti); slopes here are times q. Where
+/// no slope is left, no later link is valid.
+pub fn valid_ends(ticks: &[u32], values: &[i16], i: usize, tolerance: Fraction) -> Vec<usize> {
+    let mut ends = Vec::new();
+    // No slope is below or above these.
+    let whole = |p| Fraction { p, q: 1 };
+    let (mut least, mut greatest) = (whole(-(1 << 60)), whole(1 << 60));
+    for j in i + 1..ticks.len() {
+        if !least.at_most(greatest) {
+            break;
+        }
+        let rise = tolerance.q * (i128::from(values[j]) - i128::from(values[i]));
+        let run = i128::from(ticks[j]) - i128::from(ticks[i]);
+        let slope = |rise| Fraction { p: rise, q: run };
+        if least.at_most(slope(rise)) && slope(rise).at_most(greatest) {
+            ends.push(j);
+        }
+        let (low, high) = (slope(rise - tolerance.p), slope(rise + tolerance.p));
+        if least.at_most(low) {
+            least = low;
+        }
+        if high.at_most(greatest) {
+            greatest = high;
+        }
+    }
+    ends
 }
 
 /// The three forms of a tolerance.
@@ -206,10 +239,14 @@ pub fn judge(
 pub enum Method {
     Walk,
     Gallop,
+    Minimum,
 }
 
 /// Every method.
-pub const METHODS: [Method; 2] = [Method::Walk, Method::Gallop];
+pub const METHODS: [Method; 3] = [Method::Walk, Method::Gallop, Method::Minimum];
+
+/// Up to so many samples, minimum tries every kept list.
+pub const TRIED: usize = 12;
 
 /// A kept list, with the probe total of gallop; 0 for other methods.
 #[derive(Clone, Debug, PartialEq, Eq)]
@@ -240,6 +277,8 @@ pub fn reduce(
     let list = match method {
         Method::Walk => stops(last, |i| walk_stop(i, last, valid)),
         Method::Gallop => stops(last, |i| gallop_stop(i, last, valid, &mut probes)),
+        Method::Minimum if samples <= TRIED => minimum_of_all(samples, valid),
+        Method::Minimum => minimum_by_table(last, |i| valid_ends(ticks, values, i, tolerance)),
     };
     Ok(Reduced { list, probes })
 }
@@ -290,6 +329,47 @@ fn gallop_stop(
     i + low
 }
 
+/// Every kept list of a trace with so many samples: each set of samples between the ends.
+pub fn kept_lists(samples: usize) -> impl Iterator<Item = Vec<u16>> {
+    (0..1u64 << samples.saturating_sub(2)).map(move |set| {
+        let kept = |k: usize| k == 0 || k == samples - 1 || set >> (k - 1) & 1 == 1;
+        (0..samples)
+            .filter(|&k| kept(k))
+            .map(|k| k as u16)
+            .collect()
+    })
+}
+
+/// Of all kept lists with valid links the shortest; of several, the one whose second sample is
+/// latest, then its third, and so on.
+fn minimum_of_all(samples: usize, valid: impl Fn(usize, usize) -> bool) -> Vec<u16> {
+    let valid: Vec<Vec<bool>> = (0..samples)
+        .map(|j| (0..j).map(|i| valid(i, j)).collect())
+        .collect();
+    kept_lists(samples)
+        .filter(|list| {
+            list.windows(2)
+                .all(|link| valid[usize::from(link[1])][usize::from(link[0])])
+        })
+        .min_by_key(|list| (list.len(), Reverse(list.clone())))
+        .expect("links between neighbours are valid")
+}
+
+/// The same by a table from the last sample back: how many samples the shortest list from each
+/// sample to the last has, and the latest sample that may come next in it. `ends` gives the valid
+/// links from a sample.
+fn minimum_by_table(last: usize, ends: impl Fn(usize) -> Vec<usize>) -> Vec<u16> {
+    let (mut fewest, mut next) = (vec![1; last + 1], vec![last; last + 1]);
+    for i in (0..last).rev() {
+        next[i] = ends(i)
+            .into_iter()
+            .min_by_key(|&j| (fewest[j], Reverse(j)))
+            .expect("a link between neighbours is valid");
+        fewest[i] = fewest[next[i]] + 1;
+    }
+    stops(last, |i| next[i])
+}
+
 /// How many samples the shortest kept list within the fraction has. Tries every link.
 pub fn fewest(ticks: &[u32], values: &[i16], fraction: Fraction) -> usize {
     // The fewest from sample 0 to each sample.
@@ -307,6 +387,7 @@ pub fn fewest(ticks: &[u32], values: &[i16], fraction: Fraction) -> usize {
 #[cfg(test)]
 mod tests {
     use super::*;
+    use generate::{trace, Random, Trace, KINDS};
 
     const EVEN: [u32; 5] = [0, 1, 2, 3, 4];
 
@@ -333,17 +414,89 @@ mod tests {
     #[test]
     fn reductions() {
         let (zigzag, wave) = ([0, 3, 0, 3, 0], [0, 2, 0, -2, 0]);
-        type Case<'a> = (&'a [i16; 5], u64, &'a [u16], &'a [u16], usize);
+        let all: &[u16] = &[0, 1, 2, 3, 4];
+        type Case<'a> = (&'a [i16; 5], u64, &'a [u16], &'a [u16], usize, &'a [u16]);
         let cases: [Case; 3] = [
-            (&zigzag, 2, &[0, 1, 2, 3, 4], &[0, 1, 2, 3, 4], 4),
-            (&zigzag, 3, &[0, 4], &[0, 4], 5),
-            (&wave, 2, &[0, 2, 4], &[0, 4], 5),
+            (&zigzag, 2, all, all, 4, &[0, 3, 4]),
+            (&zigzag, 3, &[0, 4], &[0, 4], 5, &[0, 4]),
+            (&wave, 2, &[0, 2, 4], &[0, 4], 5, &[0, 4]),
         ];
-        for (values, p, walk, gallop, probes) in cases {
+        for (values, p, walk, gallop, probes, minimum) in cases {
             let reduced = |method| reduce(method, &EVEN, values, Form::Ratio(p, 1), 5).unwrap();
             assert_eq!(reduced(Method::Walk).list, walk, "{values:?} {p}");
             assert_eq!(reduced(Method::Gallop).list, gallop, "{values:?} {p}");
             assert_eq!(reduced(Method::Gallop).probes, probes, "{values:?} {p}");
+            assert_eq!(reduced(Method::Minimum).list, minimum, "{values:?} {p}");
+        }
+    }
+
+    /// Fractions at which the links of a trace begin to be valid, and others.
+    fn tolerances(Trace { ticks, values }: &Trace, random: &mut Random) -> Vec<Fraction> {
+        let mut tolerances = vec![fraction(0, 1), fraction(random.within(0, 9).into(), 2)];
+        if ticks.len() > 2 {
+            let i = random.below(ticks.len() as u64 - 2) as usize;
+            let j = random.within(i as i64 + 2, ticks.len() as i64 - 1) as usize;
+            let error = link_error(ticks, values, i, j);
+            tolerances.extend([error, error.half()]);
+        }
+        tolerances
+    }
+
+    #[test]
+    fn ends_of_valid_links() {
+        let random = &mut Random::new(3);
+        for _ in 0..4_000 {
+            let samples = random.within(1, 40) as usize;
+            let trace = trace(random.choose(&KINDS), samples, random);
+            let Trace { ticks, values } = &trace;
+            for tolerance in tolerances(&trace, random) {
+                for i in 0..samples {
+                    let ends: Vec<usize> = (i + 1..samples)
+                        .filter(|&j| link_valid(ticks, values, i, j, tolerance))
+                        .collect();
+                    let found = valid_ends(ticks, values, i, tolerance);
+                    assert_eq!(found, ends, "{i} {trace:?} {tolerance:?}");
+                }
+            }
+        }
+    }
+
+    /// Trying every kept list, the table over both tests of a link, and the fewest samples agree.
+    #[test]
+    fn minima() {
+        let random = &mut Random::new(4);
+        for _ in 0..4_000 {
+            let samples = random.within(1, TRIED as i64) as usize;
+            let trace = trace(random.choose(&KINDS), samples, random);
+            let Trace { ticks, values } = &trace;
+            for tolerance in tolerances(&trace, random) {
+                let valid = |i, j| link_valid(ticks, values, i, j, tolerance);
+                let list = minimum_of_all(samples, valid);
+                let ends = |i| (i + 1..samples).filter(|&j| valid(i, j)).collect();
+                let by_table = minimum_by_table(samples - 1, ends);
+                assert_eq!(by_table, list, "{trace:?} {tolerance:?}");
+                let ends = |i| valid_ends(ticks, values, i, tolerance);
+                let by_table = minimum_by_table(samples - 1, ends);
+                assert_eq!(by_table, list, "{trace:?} {tolerance:?}");
+                assert_eq!(fewest(ticks, values, tolerance), list.len());
+            }
+        }
+    }
+
+    #[test]
+    fn every_kept_list() {
+        let lists = |samples| kept_lists(samples).collect::<Vec<_>>();
+        assert_eq!(lists(1), [[0]]);
+        assert_eq!(lists(2), [[0, 1]]);
+        assert_eq!(lists(3), [&[0, 2][..], &[0, 1, 2]]);
+        for samples in 2..=TRIED {
+            let mut lists = lists(samples);
+            assert!(lists
+                .iter()
+                .all(|list| list_refusal(samples, list).is_none()));
+            lists.sort();
+            lists.dedup();
+            assert_eq!(lists.len(), 1 << (samples - 2));
         }
     }
 

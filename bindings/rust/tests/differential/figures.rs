@@ -50,15 +50,18 @@ fn lists() {
 
 #[test]
 fn reductions() {
-    use Method::{Gallop, Walk};
+    use Method::{Gallop, Minimum, Walk};
     type Case<'a> = (&'a [i16; 5], u64, Method, &'a [u16], usize);
-    let cases: [Case; 6] = [
+    let cases: [Case; 9] = [
         (&ZIGZAG, 2, Walk, &[0, 1, 2, 3, 4], 0),
         (&ZIGZAG, 2, Gallop, &[0, 1, 2, 3, 4], 4),
+        (&ZIGZAG, 2, Minimum, &[0, 3, 4], 0),
         (&ZIGZAG, 3, Walk, &[0, 4], 0),
         (&ZIGZAG, 3, Gallop, &[0, 4], 5),
+        (&ZIGZAG, 3, Minimum, &[0, 4], 0),
         (&WAVE, 2, Walk, &[0, 2, 4], 0),
         (&WAVE, 2, Gallop, &[0, 4], 5),
+        (&WAVE, 2, Minimum, &[0, 4], 0),
     ];
     for (values, p, method, list, probes) in cases {
         let list = list.to_vec();

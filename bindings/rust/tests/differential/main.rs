@@ -4,7 +4,7 @@
 //! - `refusals`: every row of the table that a call has, its value and its place in the order.
 //! - `hold`: tolerances in all forms.
 //! - `judge`: lists on random and adversarial traces.
-//! - `reduce`: walk and gallop on random and adversarial traces.
+//! - `reduce`: walk, gallop and minimum on random and adversarial traces.
 
 mod figures;
 mod hold;
@@ -164,6 +164,9 @@ fn reduce(
             Method::Walk => kovrelna::walk(t, v, tolerance, out.slice_mut()).map(|kept| (kept, 0)),
             Method::Gallop => kovrelna::gallop(t, v, tolerance, out.slice_mut())
                 .map(|galloped| (galloped.kept, galloped.probes)),
+            Method::Minimum => {
+                kovrelna::minimum(t, v, tolerance, out.slice_mut()).map(|kept| (kept, 0))
+            }
         };
         let input = || format!("ticks, values: {t:?} {v:?}\n{method:?} {tolerance:?} room {room}");
         match &expected {

@@ -1,8 +1,8 @@
 use crate::{any_tolerance, exactly, form, judge, ratio, reduce};
 use kovrelna::Tolerance;
-use kovrelna_reference::generate::{just_below, trace, Random, Trace, KINDS};
-use kovrelna_reference::Method::{self, Gallop, Walk};
-use kovrelna_reference::{fewest, held, link_error, link_valid, Reduced, METHODS};
+use kovrelna_reference::generate::{just_below, trace, Kind, Random, Trace, KINDS};
+use kovrelna_reference::Method::{self, Gallop, Minimum, Walk};
+use kovrelna_reference::{fewest, held, kept_lists, link_error, link_valid, Reduced, METHODS};
 
 /// The methods whose stops are maximal.
 const GREEDY: [Method; 2] = [Walk, Gallop];
@@ -35,17 +35,33 @@ fn greedy(method: Method, trace: &Trace, tolerance: Tolerance, room: usize) -> R
     reduced
 }
 
-/// The greedy lists are no longer than any kept list within half the tolerance.
-fn size_bound(trace: &Trace, tolerance: Tolerance, lists: &[Reduced]) {
-    let half = held(form(tolerance)).unwrap().half();
-    let fewest = fewest(&trace.ticks, &trace.values, half);
-    for reduced in lists {
-        assert!(
-            reduced.list.len() <= fewest,
-            "{} samples, {fewest} at half the tolerance\n{trace:?}\n{tolerance:?}",
-            reduced.list.len()
-        );
-    }
+/// Calls every method and sees what holds of each list and of all: the links of minimum's list are
+/// valid, and no greedy list is shorter. Returns the lists of walk, gallop and minimum.
+fn lists(trace: &Trace, tolerance: Tolerance, room: usize) -> [Vec<u16>; 3] {
+    let Trace { ticks, values } = trace;
+    let [walk, gallop] = GREEDY.map(|method| greedy(method, trace, tolerance, room).list);
+    let minimum = reduce(Minimum, ticks, values, tolerance, room)
+        .unwrap()
+        .list;
+    assert_eq!(judge(ticks, values, &minimum, tolerance), Ok(None));
+    assert!(
+        minimum.len() <= walk.len() && minimum.len() <= gallop.len(),
+        "{minimum:?} is longer than {walk:?} or {gallop:?}\n{trace:?}\n{tolerance:?}"
+    );
+    [walk, gallop, minimum]
+}
+
+/// No kept list within the tolerance is shorter than minimum's, and none within half the tolerance
+/// is shorter than a greedy one.
+fn size_bounds(trace: &Trace, tolerance: Tolerance, [walk, gallop, minimum]: &[Vec<u16>; 3]) {
+    let tolerance = held(form(tolerance)).unwrap();
+    let fewest = |fraction| fewest(&trace.ticks, &trace.values, fraction);
+    let (whole, half) = (fewest(tolerance), fewest(tolerance.half()));
+    assert_eq!(minimum.len(), whole, "{trace:?}\n{tolerance:?}");
+    assert!(
+        walk.len() <= half && gallop.len() <= half,
+        "{walk:?} or {gallop:?}, {half} at half the tolerance\n{trace:?}\n{tolerance:?}"
+    );
 }
 
 /// An arbitrary tolerance; a link's error, and just below it.
@@ -70,42 +86,43 @@ fn tolerances(Trace { ticks, values }: &Trace, random: &mut Random) -> Vec<Toler
 fn random_traces() {
     let random = &mut Random::new(8);
     for kind in KINDS {
-        // All samples kept, both ends alone, others; walk and gallop differ.
-        let mut seen = [0; 4];
+        // All samples kept, both ends alone, others; walk and gallop differ; minimum is shorter.
+        let mut seen = [0; 5];
         for _ in 0..4_000 {
             let samples = random.within(1, 40) as usize;
             let trace = trace(kind, samples, random);
             for tolerance in tolerances(&trace, random) {
                 let room = samples + random.choose(&[0, 0, 1, 7]);
-                let lists = GREEDY.map(|method| greedy(method, &trace, tolerance, room));
-                size_bound(&trace, tolerance, &lists);
-                for reduced in &lists {
-                    match reduced.list.len() {
+                let lists = lists(&trace, tolerance, room);
+                size_bounds(&trace, tolerance, &lists);
+                for list in &lists {
+                    match list.len() {
                         kept if kept == samples => seen[0] += 1,
                         2 => seen[1] += 1,
                         _ => seen[2] += 1,
                     }
                 }
-                seen[3] += usize::from(lists[0].list != lists[1].list);
+                let [walk, gallop, minimum] = lists;
+                seen[3] += usize::from(walk != gallop);
+                seen[4] += usize::from(minimum.len() < walk.len().min(gallop.len()));
             }
         }
         assert!(
-            seen[..3].iter().all(|&count| count > 600) && seen[3] > 60,
+            seen[..3].iter().all(|&count| count > 600) && seen[3..].iter().all(|&count| count > 60),
             "{kind:?} {seen:?}"
         );
     }
 }
 
 #[test]
-fn size_bounds() {
+fn longer_traces() {
     let random = &mut Random::new(9);
     for kind in KINDS {
         for _ in 0..30 {
             let samples = random.within(60, 200) as usize;
             let trace = trace(kind, samples, random);
             for tolerance in tolerances(&trace, random) {
-                let lists = GREEDY.map(|method| greedy(method, &trace, tolerance, samples));
-                size_bound(&trace, tolerance, &lists);
+                size_bounds(&trace, tolerance, &lists(&trace, tolerance, samples));
             }
         }
     }
@@ -118,9 +135,7 @@ fn long_traces() {
         for kind in KINDS {
             let trace = trace(kind, samples, random);
             for tolerance in tolerances(&trace, random) {
-                for method in GREEDY {
-                    greedy(method, &trace, tolerance, samples);
-                }
+                lists(&trace, tolerance, samples);
             }
         }
     }
@@ -133,17 +148,16 @@ fn shortest_traces() {
     for kind in KINDS {
         for samples in [1, 2, 3] {
             let trace = trace(kind, samples, random);
-            let kept =
-                |tolerance| GREEDY.map(|method| greedy(method, &trace, tolerance, samples).list);
+            let kept = |tolerance| lists(&trace, tolerance, samples);
             if samples < 3 {
                 let all: Vec<u16> = (0..samples as u16).collect();
-                assert_eq!(kept(ratio(0, 1)), [all.clone(), all]);
+                assert_eq!(kept(ratio(0, 1)), [&all; 3].map(Vec::clone));
                 continue;
             }
             let error = link_error(&trace.ticks, &trace.values, 0, 2);
-            assert_eq!(kept(exactly(error)), [[0, 2], [0, 2]]);
+            assert_eq!(kept(exactly(error)), [[0, 2]; 3]);
             if error.p > 0 {
-                assert_eq!(kept(exactly(just_below(error))), [[0, 1, 2], [0, 1, 2]]);
+                assert_eq!(kept(exactly(just_below(error))), [[0, 1, 2]; 3]);
             }
         }
     }
@@ -170,30 +184,82 @@ fn stops_of_every_length() {
                 list.extend([r as u16 + 1, samples as u16 - 1]);
                 probes += stop_probes(1) + stop_probes(rest);
             }
-            for method in GREEDY {
-                let reduced = greedy(method, &trace, ratio(0, 1), samples);
-                assert_eq!(reduced.list, list, "{method:?} {r} {rest}");
-                if method == Gallop {
-                    assert_eq!(reduced.probes, probes, "{r} {rest}");
-                }
-            }
+            let kept = lists(&trace, ratio(0, 1), samples);
+            assert_eq!(kept, [&list; 3].map(Vec::clone), "{r} {rest}");
+            let galloped = greedy(Gallop, &trace, ratio(0, 1), samples);
+            assert_eq!(galloped.probes, probes, "{r} {rest}");
         }
     }
 }
 
-/// Up and down by 3 in turn: below tolerance 3 every sample is kept, from 3 on the ends alone.
+/// Up and down by 3 in turn. From tolerance 3 on the ends alone are kept. Below it the greedy methods
+/// keep every sample: a link of even length has the error 3, one of odd length r the error 3 - 3/r.
+/// Minimum takes the longest links that are valid (length 3 at tolerance 2), then those of length 1.
 #[test]
 fn zigzags() {
-    for samples in [3usize, 5, 64, 65, 4_095, 4_096] {
+    for samples in [3usize, 4, 5, 6, 7, 64, 65, 66, 4_095, 4_096] {
         let trace = Trace {
             ticks: (0..samples as u32).collect(),
             values: (0..samples).map(|k| 3 * (k % 2) as i16).collect(),
         };
-        for method in GREEDY {
-            let kept = |tolerance| greedy(method, &trace, tolerance, samples).list.len();
-            assert_eq!(kept(ratio(3, 1)), 2, "{method:?} {samples}");
-            let below = ratio(3 * 1_048_575 - 1, 1_048_575);
-            assert_eq!(kept(below), samples, "{method:?} {samples}");
+        let last = samples as u16 - 1;
+        let kept = |tolerance| lists(&trace, tolerance, samples);
+        assert_eq!(kept(ratio(3, 1)), [[0, last]; 3]);
+        for (tolerance, longest) in [
+            (ratio(2, 1), 3),
+            (ratio(3 * 1_048_575 - 1, 1_048_575), (last - 1) | 1),
+        ] {
+            let all: Vec<u16> = (0..=last).collect();
+            let mut minimum: Vec<u16> = (0..=last).step_by(longest.into()).collect();
+            minimum.extend(minimum[minimum.len() - 1] + 1..=last);
+            assert_eq!(kept(tolerance), [all.clone(), all, minimum], "{samples}");
+        }
+    }
+}
+
+/// Traces with several shortest lists, as they come, with every value twice, and the same backwards:
+/// of all kept lists that judge passes, minimum's is the last in the order of their samples.
+#[test]
+fn ties() {
+    let random = &mut Random::new(13);
+    let source: [fn(usize, usize) -> usize; 3] =
+        [|k, _| k, |k, _| k / 2, |k, samples| k.min(samples - 1 - k)];
+    for kind in [Kind::Small, Kind::Zigzag, Kind::Pulses] {
+        for (shape, source) in source.iter().enumerate() {
+            // The shortest list is the only one; others have another second sample; only later
+            // samples differ.
+            let mut seen = [0; 3];
+            for _ in 0..500 {
+                let samples = random.within(3, 12) as usize;
+                let mut trace = trace(kind, samples, random);
+                trace.values = (0..samples)
+                    .map(|k| trace.values[source(k, samples)])
+                    .collect();
+                for tolerance in tolerances(&trace, random) {
+                    let [.., minimum] = lists(&trace, tolerance, samples);
+                    let passed = |list: &Vec<u16>| {
+                        judge(&trace.ticks, &trace.values, list, tolerance) == Ok(None)
+                    };
+                    let shortest: Vec<Vec<u16>> = kept_lists(samples)
+                        .filter(|list| list.len() == minimum.len() && passed(list))
+                        .collect();
+                    assert_eq!(
+                        shortest.iter().max(),
+                        Some(&minimum),
+                        "{trace:?} {tolerance:?}"
+                    );
+                    let differ = |end| shortest.iter().any(|list| list[..end] != minimum[..end]);
+                    match (differ(2), differ(minimum.len())) {
+                        (false, false) => seen[0] += 1,
+                        (true, _) => seen[1] += 1,
+                        (false, true) => seen[2] += 1,
+                    }
+                }
+            }
+            assert!(
+                seen.iter().all(|&count| count > 20),
+                "{kind:?} {shape} {seen:?}"
+            );
         }
     }
 }
@@ -224,8 +290,7 @@ fn greatest_numbers() {
                 for below in [0, 1, 2] {
                     for q in [1, 2, 3, 1_048_574, 1_048_575] {
                         let tolerance = ratio((p * q).saturating_sub(below), q);
-                        let lists = GREEDY.map(|method| greedy(method, &trace, tolerance, 16));
-                        size_bound(&trace, tolerance, &lists);
+                        size_bounds(&trace, tolerance, &lists(&trace, tolerance, 16));
                     }
                 }
             }
@@ -259,8 +324,8 @@ fn every_small_trace() {
                     (2, 1),
                     (7, 2),
                 ] {
-                    let lists = GREEDY.map(|method| greedy(method, &trace, ratio(p, q), 5));
-                    size_bound(&trace, ratio(p, q), &lists);
+                    let tolerance = ratio(p, q);
+                    size_bounds(&trace, tolerance, &lists(&trace, tolerance, 5));
                 }
             }
         }

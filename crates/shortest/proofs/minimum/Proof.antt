@@ -1,6 +1,4 @@
 -- `shortest::minimum` meets its contract: what `plan` fills in, `follow` writes. Assumes nothing.
-use Prim.Native.Nat.{_-_}
-use native.Mathlib.Omega.{arith}
 use Rattle.shortest.proofs.ShortestLaws.{trace-steps}
 use Rattle.shortest.proofs.Tables.{planned-onward, planned-minimum}
 use borrow.Author.Needs.{needs}

@@ -1,11 +1,12 @@
 -- `shortest::next_stop` meets its contract: each turn scans one end more, and the scan is complete at the last sample and where the cone is empty. Assumes nothing.
 use Prim.Native.Nat.{_+_, _-_}
 use native.Mathlib.Omega.{arith}
-use lib.ListN.{length}
+use lib.Dec.{ltb}
 use borrow.Author.Needs.{needs}
 use borrow.Author.Tests.{not-true}
 use mathlib.Core.Path.{sym, _∙_}
-use Rattle.shortest.proofs.ShortestLaws.{Scanning, scanning-none, edge-requires, end-tilt, better-requires as better-asks, scanning-more, scanned-all, scanned-empty}
+use Rattle.lists.proofs.Tests.{and-second}
+use Rattle.shortest.proofs.ShortestLaws.{Scanning, scanning-none, edge-requires, end-tilt, choice-requires, scanning-more, scanned-all, scanned-empty}
 use Rattle.shortest.proofs.next_stop.Statement.{statement}
 use Rattle.shortest.proofs.next_stop.Tie as tie
 
@@ -34,37 +35,38 @@ loop-holds : tie.Need-loop-holds Inv-loop μ-loop
 loop-holds c = scanning-none (c .before .before .before .before .pre) (c .before .start-at .ensures) (c .cone-from .ensures)
 
 edge-to-requires : tie.Need-edge-to-requires Inv-loop μ-loop
-edge-to-requires c κs = edge-requires (c .before .before .before .before .before .before .pre) (c .before .loop .inv) (c .loop-test .taken) (c .before .before .before .start-at .ensures)
+edge-to-requires c κs = edge-requires (c .before .before .before .before .before .before .pre) (c .before .loop .inv) (search needs) (c .before .before .before .start-at .ensures)
 
 better-requires : tie.Need-better-requires Inv-loop μ-loop
 better-requires c κs =
     let s = c .before .before .before .before in
-    better-asks (s .before .before .before .pre) (c .before .before .loop .inv) (c .before .loop-test .taken) (s .start-at .ensures) (c .edge-to .ensures)
+    choice-requires (s .before .before .before .pre) (c .before .before .loop .inv) (search needs) (s .start-at .ensures) (c .edge-to .ensures)
 
 extended-requires : tie.Need-extended-requires Inv-loop μ-loop
 extended-requires c κs =
     let l = c .before .before .before in
     let s = l .before .before in
-    (l .loop .inv .fits, end-tilt (s .before .before .before .pre) (l .loop .inv) (c .before .before .loop-test .taken) (s .start-at .ensures) (c .before .edge-to .ensures))
+    (l .loop .inv .fits, end-tilt (s .before .before .before .pre) (l .loop .inv) (search needs) (s .start-at .ensures) (c .before .edge-to .ensures))
 
-empty-requires : tie.Need-empty-requires Inv-loop μ-loop
-empty-requires c κs = c .extended .ensures .1
+may-stop-requires : tie.Need-may-stop-requires Inv-loop μ-loop
+may-stop-requires c κs = c .extended .ensures .1
 
 -- the state after a turn
-turned : (c : tie.After-empty Inv-loop μ-loop) →
+turned : (c : tie.After-may-stop Inv-loop μ-loop) →
     let l = c .before .before .before .before .before in
     let a = l .before .before .before .before .before .args in
     Scanning (a .ticks .now) (a .values .now) (a .c) (a .i) (c .before .extended .result) (c .before .before .better .result) (l .loop .j + 1)
 turned c =
     let l = c .before .before .before .before .before in
     let s = l .before .before in
-    scanning-more (s .before .before .before .pre) (l .loop .inv) (c .before .before .before .before .loop-test .taken) (s .start-at .ensures) (c .before .before .before .edge-to .ensures)
+    scanning-more (s .before .before .before .pre) (l .loop .inv) (search needs) (s .start-at .ensures) (c .before .before .before .edge-to .ensures)
     (c .before .before .better .ensures) (c .before .extended .ensures)
 
 returns : tie.Need-returns Inv-loop μ-loop
 returns c =
-    let s = c .before .before .before .before .before .before .before .before in
-    scanned-empty (s .before .before .before .pre) (turned (c .before)) (not-true _ (sym (c .before .empty .ensures) ∙ c .if1 .taken))
+    let l = c .before .before .before .before .before .before in
+    let empty = and-second (ltb (c .before .before .before .better .result) (l .loop .j)) _ (sym (c .before .may-stop .ensures) ∙ c .if1 .taken) in
+    scanned-empty (l .before .before .before .before .before .pre) (turned (c .before)) (not-true _ empty)
 
 add-j-2 : tie.Need-add-j-2 Inv-loop μ-loop
 add-j-2 c = omega (arith, turned (c .before) .to, c .before .before .before .before .before .before .before .before .before .before .before .pre .trace .few)
@@ -93,7 +95,7 @@ next-stop-spec =
     edge-to-requires
     better-requires
     extended-requires
-    empty-requires
+    may-stop-requires
     returns
     add-j-2
     loop-less

@@ -13,11 +13,11 @@ Inv-loop ticks values c i s₀ s = Raising ticks values c i s
 abbrev μ-loop : tie.MeasureT-loop
 μ-loop ticks values c i s₀ s = length ticks - s .low
 
-links-at-requires : tie.Need-links-at-requires Inv-loop μ-loop
-links-at-requires c κs = search needs
+links-past-requires : tie.Need-links-past-requires Inv-loop μ-loop
+links-past-requires c κs = search needs
 
 loop-holds : tie.Need-loop-holds Inv-loop μ-loop
-loop-holds c = raising-none (c .before .before .pre .2) (c .links-at .ensures)
+loop-holds c = raising-none (c .before .before .pre .2) (c .links-past .ensures)
 
 add-probe : tie.Need-add-probe Inv-loop μ-loop
 add-probe c = search needs
@@ -50,7 +50,7 @@ double-spec =
     (tie.spec
     Inv-loop
     μ-loop
-    links-at-requires
+    links-past-requires
     loop-holds
     add-probe
     probe-requires
