@@ -3,3 +3,4 @@ pub mod HoldLaws
 pub mod PrepareLaws
 pub mod JudgeLaws
 pub mod ReduceLaws
+pub mod ExpandLaws

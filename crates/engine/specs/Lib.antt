@@ -4,3 +4,4 @@ pub mod Prepare
 pub mod Judge
 pub mod Reduce
 pub mod Shortest
+pub mod Expand

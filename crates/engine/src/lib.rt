@@ -35,9 +35,18 @@ pub enum Probed {
     Refused(Refusal),
 }
 
+// What a call that writes entries or bytes answers: how many, or a refusal.
+pub enum Written {
+    Count(usize),
+    Refused(Refusal),
+}
+
+pub mod expand;
 pub mod gallop;
 pub mod hold;
 pub mod judge;
 pub mod minimum;
 mod prepare;
+pub mod read;
+pub mod same;
 pub mod walk;

@@ -60,20 +60,20 @@ pub record Galloping (ok : ℕ → ℕ → Bool) (last : ℕ) (o out : List ℕ)
   pub probes-few : probes ≤ 2 * i
   pub same : length out ≡ length o
 
-pub galloping-none : (ok : ℕ → ℕ → Bool) (last : ℕ) (o : List ℕ) → last < length o → Galloping ok last (set o 0 0) (set o 0 0) 1 0 0
+pub galloping-none : {o : List ℕ} (ok : ℕ → ℕ → Bool) (last : ℕ) (o₀ : List ℕ) → o ≡ set o₀ 0 0 → last < length o₀ → Galloping ok last o o 1 0 0
 unfolding gallopOf gallopProbes
-galloping-none ok last o room = record {
+galloping-none ok last o₀ e room = rw e (record {
   so-far = 0 ∷ [];
   within = omega arith;
   room = rw length-set room;
   list = refl;
   count-is = refl;
   few = omega arith;
-  content = overwrite-snoc [] o 0 (omega arith) ∙ sym (overwrite-set (0 ∷ []) o 0 0 (omega arith));
+  content = overwrite-snoc [] o₀ 0 (omega arith) ∙ sym (overwrite-set (0 ∷ []) o₀ 0 0 (omega arith));
   total = omega arith;
   probes-few = omega arith;
   same = refl;
-}
+})
 
 module _ {ok : ℕ → ℕ → Bool} {last : ℕ} {o out : List ℕ} {count i probes : ℕ} (g : Galloping ok last o out count i probes) where
   pub galloping-more : StepsValid ok → i < last → (s : Search) → s ≡ gallopSearch ok last i

@@ -1,5 +1,6 @@
 -- The reduction gallop (document 003, figure 7), over a link test `ok i j`, with its probe count (document 01, "The four reductions").
 --   probeOf                 a probe from sample i at an offset
+--   halfway                 the offset that a bisection probes
 --   doubling, bisection     the two parts of a search, each with the probes made so far
 --   gallopSearch            the search from sample i: the offset of its stop, and its probes
 --   gallopOf, gallopProbes  gallop's list of the samples 0 .. last, and its probe total
@@ -29,11 +30,15 @@ doubling yes? low c (suc n) =
     let more = doubling yes? (low + low) (c + 1) n in
     cond (yes? (low + low)) more (found low (c + 1))
 
--- while low < high - 1: a probe at (low + high) / 2, which moves low on yes and high on no; at most n probes
+-- rounded down
+abbrev pub halfway : ℕ → ℕ → ℕ
+halfway low high = (low + high) / 2
+
+-- while low < high - 1: a probe halfway, which moves low on yes and high on no; at most n probes
 unfoldable pub bisection : (ℕ → Bool) → ℕ → ℕ → ℕ → ℕ → Search
 bisection yes? low high c zero = found low c
 bisection yes? low high c (suc n) =
-    let mid = (low + high) / 2 in
+    let mid = halfway low high in
     let upper = bisection yes? mid high (c + 1) n in
     let lower = bisection yes? low mid (c + 1) n in
     let more = cond (yes? mid) upper lower in

@@ -1,7 +1,7 @@
 -- What the structs of the C interface stand for: the enums of the public calls.
 --   toleranceOf        the tolerance that a form gives
---   heldOf, verdictOf, keptOf, gallopedOf   an answer as numbers: 0 for success, or the refusal's number and value
---   WalkExport, GallopExport, MinimumExport an export that writes a list has the outcome of the public call
+--   heldOf, verdictOf, keptOf, gallopedOf, writtenOf, contentOf, comparedOf   an answer as numbers: 0 for success, or the refusal's number and value
+--   WalkExport, GallopExport, ..   an export that writes, or whose answer has a content, has the outcome of the public call
 -- Assumes nothing.
 use mathlib.Core.Path.{_≡_}
 use mathlib.Core.Bool.{cond}
@@ -20,12 +20,21 @@ use Rattle.engine.specs.declared.Reduced.{Reduced}
 use Rattle.engine.specs.declared.Reduced.the-variants.{Kept as IsKept, Refused as NotKept}
 use Rattle.engine.specs.declared.Probed.{Probed}
 use Rattle.engine.specs.declared.Probed.the-variants.{Kept as IsGalloped, Refused as NotGalloped}
+use Rattle.engine.specs.declared.Written.{Written}
+use Rattle.engine.specs.declared.Written.the-variants.{Count, Refused as NotWritten}
+use Rattle.engine.specs.Expand.{ExpandOutcome}
+use Rattle.reader.specs.declared.Answer as R
+use Rattle.reader.specs.declared.Answer.the-variants.{Samples, Refused as NotRead}
+use Rattle.reader.specs.declared.Comparison.{Comparison}
+use Rattle.reader.specs.declared.Comparison.the-variants.{Same, Different, Refused as NotCompared}
+use Rattle.reader.specs.Reading.{ReadOutcome, SameOutcome}
 use Rattle.engine.specs.Reduce.{WalkOutcome, GallopOutcome}
 use Rattle.engine.specs.Shortest.{MinimumOutcome}
 use Rattle.kovrelna.specs.declared.Tolerance.{Tolerance}
 use Rattle.kovrelna.specs.declared.Held.{Held}
 use Rattle.kovrelna.specs.declared.Verdict.{Verdict}
-use Rattle.kovrelna.specs.declared.Kept.{Kept}
+use Rattle.kovrelna.specs.declared.Answer.{Answer}
+use Rattle.kovrelna.specs.declared.Content.{Content}
 use Rattle.kovrelna.specs.declared.Galloped.{Galloped}
 
 unfoldable pub toleranceOf : Tolerance → T.Tolerance
@@ -44,7 +53,7 @@ verdictOf Yes = record { number = 0; passed = 1; value = 0 }
 verdictOf (No k) = record { number = 0; passed = 0; value = k }
 verdictOf (Refused x) = record { number = numberOf x; passed = 0; value = returnedOf x }
 
-abbrev pub keptOf : Reduced → Kept
+abbrev pub keptOf : Reduced → Answer
 keptOf (IsKept n) = record { number = 0; value = n }
 keptOf (NotKept x) = record { number = numberOf x; value = returnedOf x }
 
@@ -52,7 +61,7 @@ abbrev pub gallopedOf : Probed → Galloped
 gallopedOf (IsGalloped g) = record { number = 0; value = g .count; probes = g .probes }
 gallopedOf (NotGalloped x) = record { number = numberOf x; value = returnedOf x; probes = 0 }
 
-pub record WalkExport (ts : List ℕ) (vs : List ℤ) (t : Tolerance) (o : List ℕ) (r : Kept) (o′ : List ℕ) : Type 0 where
+pub record WalkExport (ts : List ℕ) (vs : List ℤ) (t : Tolerance) (o : List ℕ) (r : Answer) (o′ : List ℕ) : Type 0 where
   pub answer : Reduced
   pub is : r ≡ keptOf answer
   pub outcome : WalkOutcome ts vs (toleranceOf t) o answer o′
@@ -62,7 +71,35 @@ pub record GallopExport (ts : List ℕ) (vs : List ℤ) (t : Tolerance) (o : Lis
   pub is : r ≡ gallopedOf answer
   pub outcome : GallopOutcome ts vs (toleranceOf t) o answer o′
 
-pub record MinimumExport (ts : List ℕ) (vs : List ℤ) (t : Tolerance) (o : List ℕ) (r : Kept) (o′ : List ℕ) : Type 0 where
+pub record MinimumExport (ts : List ℕ) (vs : List ℤ) (t : Tolerance) (o : List ℕ) (r : Answer) (o′ : List ℕ) : Type 0 where
   pub answer : Reduced
   pub is : r ≡ keptOf answer
   pub outcome : MinimumOutcome ts vs (toleranceOf t) o answer o′
+
+abbrev pub writtenOf : Written → Answer
+writtenOf (Count n) = record { number = 0; value = n }
+writtenOf (NotWritten x) = record { number = numberOf x; value = returnedOf x }
+
+abbrev pub contentOf : R.Answer → Content
+contentOf (Samples n t) = record { number = 0; value = n; p = t .p; q = t .q }
+contentOf (NotRead x) = record { number = numberOf x; value = returnedOf x; p = 0; q = 0 }
+
+abbrev pub comparedOf : Comparison → Verdict
+comparedOf Same = record { number = 0; passed = 1; value = 0 }
+comparedOf Different = record { number = 0; passed = 0; value = 0 }
+comparedOf (NotCompared x) = record { number = numberOf x; passed = 0; value = returnedOf x }
+
+pub record ExpandExport (codes : List ℕ) (o : List ℤ) (r : Answer) (o′ : List ℤ) : Type 0 where
+  pub answer : Written
+  pub is : r ≡ writtenOf answer
+  pub outcome : ExpandOutcome codes o answer o′
+
+pub record ReadExport (b ts : List ℕ) (vs : List ℤ) (r : Content) (ts′ : List ℕ) (vs′ : List ℤ) : Type 0 where
+  pub answer : R.Answer
+  pub is : r ≡ contentOf answer
+  pub outcome : ReadOutcome b ts vs answer ts′ vs′
+
+pub record SameExport (a b : List ℕ) (r : Verdict) : Type 0 where
+  pub answer : Comparison
+  pub is : r ≡ comparedOf answer
+  pub outcome : SameOutcome a b answer

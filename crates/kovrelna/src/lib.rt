@@ -3,7 +3,7 @@ ghost use mathlib.Core.Path.{_≡_};
 ghost use Rattle.tolerance.specs.Meaning.{meaning};
 ghost use Rattle.engine.specs.Hold.{holdingOf};
 ghost use Rattle.engine.specs.Judge.{judgeOf};
-ghost use Rattle.kovrelna.specs.Border.{toleranceOf, heldOf, verdictOf, keptOf, gallopedOf, WalkExport, GallopExport, MinimumExport};
+ghost use Rattle.kovrelna.specs.Border.{toleranceOf, heldOf, verdictOf, keptOf, gallopedOf, writtenOf, contentOf, comparedOf, WalkExport, GallopExport, MinimumExport, ExpandExport, ReadExport, SameExport};
 
 // A tolerance: form 0 is the ratio p/q, form 1 is x counts, form 2 is the noise x times the multiple y. No other form is allowed.
 #[repr(C)]
@@ -32,9 +32,9 @@ pub struct Verdict {
     pub value: u64,
 }
 
-// How many samples were kept under the number 0, or a refusal's number and value.
+// How many samples were kept, or entries or bytes written, under the number 0; or a refusal's number and value.
 #[repr(C)]
-pub struct Kept {
+pub struct Answer {
     pub number: u32,
     pub value: u64,
 }
@@ -45,6 +45,15 @@ pub struct Galloped {
     pub number: u32,
     pub value: u64,
     pub probes: u64,
+}
+
+// The number of a record's samples and its tolerance under the number 0, or a refusal's number and value.
+#[repr(C)]
+pub struct Content {
+    pub number: u32,
+    pub value: u64,
+    pub p: u64,
+    pub q: u64,
 }
 
 // The tolerance that a form gives. The ratio 0/0, which is not allowed, stands for an unknown form.
@@ -109,15 +118,15 @@ fn verdict_of(v: engine::Verdict) -> Verdict
     }
 }
 
-fn kept_of(a: engine::Reduced) -> Kept
+fn kept_of(a: engine::Reduced) -> Answer
     ensures { λ r. ⌜ r ≡ keptOf a ⌝ }
 {
     match a {
-        engine::Reduced::Kept(n) => Kept {
+        engine::Reduced::Kept(n) => Answer {
             number: 0,
             value: n as u64,
         },
-        engine::Reduced::Refused(x) => Kept {
+        engine::Reduced::Refused(x) => Answer {
             number: refusal::number(x),
             value: refusal::returned(x) as u64,
         },
@@ -137,6 +146,62 @@ fn galloped_of(a: engine::Probed) -> Galloped
             number: refusal::number(x),
             value: refusal::returned(x) as u64,
             probes: 0,
+        },
+    }
+}
+
+fn written_of(a: engine::Written) -> Answer
+    ensures { λ r. ⌜ r ≡ writtenOf a ⌝ }
+{
+    match a {
+        engine::Written::Count(n) => Answer {
+            number: 0,
+            value: n as u64,
+        },
+        engine::Written::Refused(x) => Answer {
+            number: refusal::number(x),
+            value: refusal::returned(x) as u64,
+        },
+    }
+}
+
+fn content_of(a: reader::Answer) -> Content
+    ensures { λ r. ⌜ r ≡ contentOf a ⌝ }
+{
+    match a {
+        reader::Answer::Samples(n, t) => Content {
+            number: 0,
+            value: n as u64,
+            p: t.p,
+            q: t.q,
+        },
+        reader::Answer::Refused(x) => Content {
+            number: refusal::number(x),
+            value: refusal::returned(x) as u64,
+            p: 0,
+            q: 0,
+        },
+    }
+}
+
+fn compared_of(a: reader::Comparison) -> Verdict
+    ensures { λ r. ⌜ r ≡ comparedOf a ⌝ }
+{
+    match a {
+        reader::Comparison::Same => Verdict {
+            number: 0,
+            passed: 1,
+            value: 0,
+        },
+        reader::Comparison::Different => Verdict {
+            number: 0,
+            passed: 0,
+            value: 0,
+        },
+        reader::Comparison::Refused(x) => Verdict {
+            number: refusal::number(x),
+            passed: 0,
+            value: refusal::returned(x) as u64,
         },
     }
 }
@@ -169,7 +234,7 @@ pub extern "C" fn kovrelna_walk(
     values: &[i16],
     t: Tolerance,
     out: &mut [u16],
-) -> Kept
+) -> Answer
     ensures { λ r. ⌜ WalkExport (now (ticks .entry)) (now (values .entry)) t (now (out .entry)) r (now (out .exit)) ⌝ }
 {
     kept_of(engine::walk::walk(ticks, values, tolerance_of(t), out))
@@ -195,8 +260,32 @@ pub extern "C" fn kovrelna_minimum(
     values: &[i16],
     t: Tolerance,
     out: &mut [u16],
-) -> Kept
+) -> Answer
     ensures { λ r. ⌜ MinimumExport (now (ticks .entry)) (now (values .entry)) t (now (out .entry)) r (now (out .exit)) ⌝ }
 {
     kept_of(engine::minimum::minimum(ticks, values, tolerance_of(t), out))
+}
+
+// Writes the value of each range code into the first entries of `out`.
+#[no_mangle]
+pub extern "C" fn kovrelna_expand(codes: &[u8], out: &mut [i16]) -> Answer
+    ensures { λ r. ⌜ ExpandExport (now (codes .entry)) (now (out .entry)) r (now (out .exit)) ⌝ }
+{
+    written_of(engine::expand::expand(codes, out))
+}
+
+// Writes the samples of a record into the first entries of both lists.
+#[no_mangle]
+pub extern "C" fn kovrelna_read(bytes: &[u8], ticks: &mut [u32], values: &mut [i16]) -> Content
+    ensures { λ r. ⌜ ReadExport (now (bytes .entry)) (now (ticks .entry)) (now (values .entry)) r (now (ticks .exit)) (now (values .exit)) ⌝ }
+{
+    content_of(engine::read::read(bytes, ticks, values))
+}
+
+// Whether the kept samples of two records agree.
+#[no_mangle]
+pub extern "C" fn kovrelna_same(first: &[u8], second: &[u8]) -> Verdict
+    ensures { λ r. ⌜ SameExport (now (first .entry)) (now (second .entry)) r ⌝ }
+{
+    compared_of(engine::same::same(first, second))
 }

@@ -2,3 +2,5 @@
 pub mod Tests
 pub mod FirstLaws
 pub mod OverwriteLaws
+pub mod PartLaws
+pub mod DecidesLaws

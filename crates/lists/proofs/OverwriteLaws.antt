@@ -5,7 +5,7 @@ use mathlib.Core.List.{List, [], _∷_, _++_, append-assoc}
 use Prim.Native.Nat.{ℕ, _≤_, _<_}
 use native.Mathlib.Numerals.{add-one}
 use native.Mathlib.Omega.{arith}
-use lib.ListN.{length, drop, set, length-append, length-drop}
+use lib.ListN.{length, set, length-append, length-drop}
 use lib.Seq.{drop-cons, set-append-seam, drop-set-lt}
 use Rattle.lists.specs.Overwrite.{overwrite, Wrote}
 

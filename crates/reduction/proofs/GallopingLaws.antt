@@ -3,14 +3,14 @@
 use mathlib.Core.Path.{_≡_, refl, sym, _∙_, subst}
 use mathlib.Core.Bool.{Bool, true, false}
 use mathlib.Core.List.{List}
-use Prim.Native.Nat.{ℕ, _+_, _-_, _*_, _/_, _≤_, _<_}
+use Prim.Native.Nat.{ℕ, _+_, _-_, _*_, _≤_, _<_}
 use native.Mathlib.Omega.{arith}
 use lib.IntN.{ℤ}
 use lib.ListN.{length}
 use Rattle.kept.specs.declared.Search.{Search}
-use Rattle.kept.specs.Gallop.{found, doubling, bisection, searchBy, gallopSearch}
+use Rattle.kept.specs.Gallop.{found, halfway, doubling, bisection, searchBy, gallopSearch}
 use Rattle.kept.proofs.GallopLaws.{probe-within, probe-none, search-bounds}
-use Rattle.kept.proofs.SearchLaws.{moved-yes, stayed-no, at-yes, below-no, Doubling, doubling-none, doubling-more, doubling-ends, Bisecting, bisecting-none, bisecting-yes, bisecting-no, bisecting-ends}
+use Rattle.kept.proofs.SearchLaws.{moved-yes, stayed-no, Doubling, doubling-none, doubling-more, doubling-ends, Bisecting, bisecting-yes, bisecting-no}
 use Rattle.trace.specs.declared.Criterion.{Criterion}
 use Rattle.trace.specs.Trace.{Trace}
 use Rattle.trace.specs.Link.{Bounded, valid}
@@ -64,14 +64,14 @@ module _ {ts : List ℕ} {vs : List ℤ} {c : Criterion} {s : Probing} {d : ℕ}
       pub far-next : Next ts vs c l (from + d)
       far-next = next-at t (p .trace) (p .bounded) (omega (arith, p .further)) inside
 
-      pub probed-invalid : false ≡ valid ts vs c (l .from .sample) (from + d) → Probed ts vs c from s d (record { low = s .low; probes = s .probes + 1; links = s .links })
-      probed-invalid e = probed-fails (sym (valid-at t (from + d) e))
+      pub probed-invalid : {b : Bool} → b ≡ false → b ≡ valid ts vs c (l .from .sample) (from + d) → Probed ts vs c from s d (record { low = s .low; probes = s .probes + 1; links = s .links })
+      probed-invalid q e = probed-fails (sym (valid-at t (from + d) e) ∙ q)
 
-      pub probed-yes : {m : Links} → true ≡ valid ts vs c (l .from .sample) (from + d) → TakenIn ts vs c (l .from .sample) (from + d + 1) m
+      pub probed-yes : {m : Links} {b : Bool} → b ≡ true → b ≡ valid ts vs c (l .from .sample) (from + d) → TakenIn ts vs c (l .from .sample) (from + d + 1) m
           → Probed ts vs c from s d (record { low = d; probes = s .probes + 1; links = m })
-      probed-yes e u = record {
+      probed-yes q e u = record {
         yes = record { pos = omega (arith, p .further); inside = inside; links = taken-at t u };
-        low = rw (answer (sym (valid-at t (from + d) e)));
+        low = rw (answer (sym (valid-at t (from + d) e) ∙ q));
         probes = refl;
       }
 
@@ -104,18 +104,18 @@ pub raising-none : {ts : List ℕ} {vs : List ℤ} {c : Criterion} {i : ℕ} {l 
 raising-none h t = record { yes = record { pos = omega arith; inside = h; links = t }; doubles = doubling-none (omega arith) }
 
 module _ {ts : List ℕ} {vs : List ℤ} {c : Criterion} {i : ℕ} {s r : Probing} (g : Raising ts vs c i s) (h : Probed ts vs c (s .links .from .sample) s (s .low + s .low) r) where
-  after : Probed ts vs c i s (s .low + s .low) r
-  after = probed-at (g .yes) h
+  doubled : Probed ts vs c i s (s .low + s .low) r
+  doubled = probed-at (g .yes) h
 
-  pub raising-more : (r .low ≡ s .low → ⊥) → Raising ts vs c i r × (r .low ≡ s .low + s .low)
-  raising-more n =
-      let m = moved-yes (probeAt ts vs c i (s .low + s .low)) (s .low) (s .low + s .low) (omega (arith, g .yes .pos)) (after .low) n in
-      (record { yes = after .yes; doubles = rw (m .1, after .probes) (doubling-more (g .doubles) (m .0)) }, m .1)
+  pub raising-more : r .low ≡ s .low + s .low → Raising ts vs c i r
+  raising-more e =
+      let q = moved-yes (probeAt ts vs c i (s .low + s .low)) (s .low) (s .low + s .low) (omega (arith, g .yes .pos)) (doubled .low) e in
+      record { yes = doubled .yes; doubles = rw (e, doubled .probes) (doubling-more (g .doubles) q) }
 
-  pub raising-ends : r .low ≡ s .low → (Yes ts vs c i r × (r .probes ≤ r .low)) × (found (r .low) (r .probes) ≡ doubling (probeAt ts vs c i) 1 0 (length ts - 1))
-  raising-ends e =
-      let q = stayed-no (probeAt ts vs c i (s .low + s .low)) (s .low) (s .low + s .low) (omega (arith, g .yes .pos)) (after .low) e in
-      ((after .yes, omega (arith, g .doubles .few, after .probes)), rw (e, after .probes) (doubling-ends (g .doubles) q))
+  pub raising-ends : (r .low ≡ s .low + s .low → ⊥) → (Yes ts vs c i r × (r .probes ≤ r .low)) × (found (r .low) (r .probes) ≡ doubling (probeAt ts vs c i) 1 0 (length ts - 1))
+  raising-ends n =
+      let q = stayed-no (probeAt ts vs c i (s .low + s .low)) (s .low) (s .low + s .low) (omega (arith, g .yes .pos)) (doubled .low) n in
+      ((doubled .yes, omega (arith, g .doubles .few, doubled .probes, q .1)), rw (q .1, doubled .probes) (doubling-ends (g .doubles) (q .0)))
 
 -- the bisection between the yes of `up` and twice its offset has reached the yes of s and the no `high`
 pub record Narrowing (ts : List ℕ) (vs : List ℤ) (c : Criterion) (up s : Probing) (high : ℕ) : Type 0 where
@@ -123,19 +123,19 @@ pub record Narrowing (ts : List ℕ) (vs : List ℤ) (c : Criterion) (up s : Pro
   pub bisects : Bisecting (probeAt ts vs c (up .links .from .sample)) (up .low) (up .probes) (s .low) high (s .probes)
 
 module _ {ts : List ℕ} {vs : List ℤ} {c : Criterion} {up s r : Probing} {high : ℕ} (g : Narrowing ts vs c up s high) (lt : s .low + 1 < high)
-    (h : Probed ts vs c (s .links .from .sample) s ((s .low + high) / 2) r) where
-  probed : Probed ts vs c (up .links .from .sample) s ((s .low + high) / 2) r
-  probed = probed-at (g .yes) h
+    (h : Probed ts vs c (s .links .from .sample) s (halfway (s .low) high) r) where
+  halved : Probed ts vs c (up .links .from .sample) s (halfway (s .low) high) r
+  halved = probed-at (g .yes) h
 
-  pub narrowing-yes : r .low ≡ (s .low + high) / 2 → Narrowing ts vs c up r high
+  pub narrowing-yes : r .low ≡ halfway (s .low) high → Narrowing ts vs c up r high
   narrowing-yes e =
-      let q = at-yes (probeAt ts vs c (up .links .from .sample) ((s .low + high) / 2)) (s .low) ((s .low + high) / 2) (omega arith) (probed .low) e in
-      record { yes = probed .yes; bisects = rw (e, probed .probes) (bisecting-yes (g .bisects) lt q) }
+      let q = moved-yes (probeAt ts vs c (up .links .from .sample) (halfway (s .low) high)) (s .low) (halfway (s .low) high) (omega arith) (halved .low) e in
+      record { yes = halved .yes; bisects = rw (e, halved .probes) (bisecting-yes (g .bisects) lt q) }
 
-  pub narrowing-no : (r .low ≡ (s .low + high) / 2 → ⊥) → Narrowing ts vs c up r ((s .low + high) / 2) × (r .low ≡ s .low)
+  pub narrowing-no : (r .low ≡ halfway (s .low) high → ⊥) → Narrowing ts vs c up r (halfway (s .low) high) × (r .low ≡ s .low)
   narrowing-no n =
-      let q = below-no (probeAt ts vs c (up .links .from .sample) ((s .low + high) / 2)) (s .low) ((s .low + high) / 2) (omega arith) (probed .low) n in
-      (record { yes = probed .yes; bisects = rw (q .1, probed .probes) (bisecting-no (g .bisects) lt (q .0)) }, q .1)
+      let q = stayed-no (probeAt ts vs c (up .links .from .sample) (halfway (s .low) high)) (s .low) (halfway (s .low) high) (omega arith) (halved .low) n in
+      (record { yes = halved .yes; bisects = rw (q .1, halved .probes) (bisecting-no (g .bisects) lt (q .0)) }, q .1)
 
 -- the doubling and then the bisection are the search
 module _ {ts : List ℕ} {vs : List ℤ} {c : Criterion} {i : ℕ} {up : Probing} {r : Search} (y : Yes ts vs c i up)

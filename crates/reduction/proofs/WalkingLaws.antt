@@ -34,21 +34,21 @@ module _ {ts : List ℕ} {vs : List ℤ} {c : Criterion} {w : Walk} (h : Walked 
   walked-few = omega (arith, h .count, walk-open-length (valid ts vs c) (w .at))
 
   -- the test of the next sample
-  test : {b : Bool} → b ≡ valid ts vs c (w .links .from .sample) (w .at + 1) → valid ts vs c (walkStart (valid ts vs c) (w .at)) (suc (w .at)) ≡ b
-  test e = sym (rw add-one at (valid-at (h .links) (w .at + 1) e))
+  test : {r b : Bool} → r ≡ b → r ≡ valid ts vs c (w .links .from .sample) (w .at + 1) → valid ts vs c (walkStart (valid ts vs c) (w .at)) (suc (w .at)) ≡ b
+  test q e = sym (rw add-one at (valid-at (h .links) (w .at + 1) e)) ∙ q
 
-  pub walked-valid : {l : Links} → true ≡ valid ts vs c (w .links .from .sample) (w .at + 1) → TakenIn ts vs c (w .links .from .sample) (w .at + 1 + 1) l
+  pub walked-valid : {l : Links} {r : Bool} → r ≡ true → r ≡ valid ts vs c (w .links .from .sample) (w .at + 1) → TakenIn ts vs c (w .links .from .sample) (w .at + 1 + 1) l
       → Walked ts vs c (record { links = l; at = w .at + 1; count = w .count })
-  walked-valid e t = record {
-    links = rw (add-one (w .at), start-stays (valid ts vs c) (w .at) (test e), ← add-one (w .at)) (taken-at (h .links) t);
-    count = rw (add-one (w .at), open-stays (valid ts vs c) (w .at) (test e)) (h .count);
+  walked-valid q e t = record {
+    links = rw (add-one (w .at), start-stays (valid ts vs c) (w .at) (test q e), ← add-one (w .at)) (taken-at (h .links) t);
+    count = rw (add-one (w .at), open-stays (valid ts vs c) (w .at) (test q e)) (h .count);
   }
 
-  pub walked-invalid : {l : Links} → false ≡ valid ts vs c (w .links .from .sample) (w .at + 1) → TakenIn ts vs c (w .at) (w .at + 1 + 1) l
+  pub walked-invalid : {l : Links} {r : Bool} → r ≡ false → r ≡ valid ts vs c (w .links .from .sample) (w .at + 1) → TakenIn ts vs c (w .at) (w .at + 1 + 1) l
       → Walked ts vs c (record { links = l; at = w .at + 1; count = w .count + 1 })
-  walked-invalid e t = record {
-    links = rw (add-one (w .at), start-moves (valid ts vs c) (w .at) (test e), ← add-one (w .at)) t;
-    count = rw (add-one (w .at), open-grows (valid ts vs c) (w .at) (test e), length-append) (omega (arith, h .count));
+  walked-invalid q e t = record {
+    links = rw (add-one (w .at), start-moves (valid ts vs c) (w .at) (test q e), ← add-one (w .at)) t;
+    count = rw (add-one (w .at), open-grows (valid ts vs c) (w .at) (test q e), length-append) (omega (arith, h .count));
   }
 
 pub steps-next : {ts : List ℕ} {vs : List ℤ} {c : Criterion} {w : Walk} → Steps ts vs c w → Next ts vs c (w .links) (w .at + 1)
@@ -125,9 +125,10 @@ module _ {ts : List ℕ} {vs : List ℤ} {c : Criterion} {o out : List ℕ} {w :
     same = ap length e ∙ overwrite-length (keptSoFar ts vs c w) o (omega (arith, walk-open-length (valid ts vs c) (w .at)));
   }
 
-pub walking-none : {ts : List ℕ} {vs : List ℤ} {c : Criterion} {w : Walk} (o : List ℕ) → 1 ≤ length ts → length ts ≤ length o → Walked ts vs c w → w .at ≡ 0 → Walking ts vs c (set o 0 0) (set o 0 0) w
+pub walking-none : {ts : List ℕ} {vs : List ℤ} {c : Criterion} {w : Walk} {o : List ℕ} (o₀ : List ℕ) → o ≡ set o₀ 0 0 → 1 ≤ length ts → length ts ≤ length o₀ → Walked ts vs c w → w .at ≡ 0 → Walking ts vs c o o w
 unfolding walkOpen
-walking-none o some room h z = walking some (omega arith) (rw length-set room) h (rw z (overwrite-snoc [] o 0 (omega arith) ∙ sym (overwrite-set (0 ∷ []) o 0 0 (omega arith))))
+walking-none o₀ e some room h z =
+    rw e (walking some (omega arith) (rw length-set room) h (rw z (overwrite-snoc [] o₀ 0 (omega arith) ∙ sym (overwrite-set (0 ∷ []) o₀ 0 0 (omega arith)))))
 
 module _ {ts : List ℕ} {vs : List ℤ} {c : Criterion} {o out : List ℕ} {w : Walk} (g : Walking ts vs c o out w) where
   pub walking-steps : {v : Walk} → Ran ts vs c w v → v .count ≡ w .count → Walking ts vs c o out v

@@ -1,5 +1,6 @@
 -- Walk over a trace (document 003, section 2.1, and document 01, "The four reductions").
 --   walkList   walk's list of a trace
+--   keptSoFar  the samples that a walk has kept so far
 --   Walked     the links and the count of a walk are those of the samples up to the one reached
 --   Steps      a walk with a sample after the one reached
 --   Stepped    the walk with one sample more
@@ -20,7 +21,6 @@ use Rattle.reduction.specs.Outgoing.{TakenIn}
 abbrev pub walkList : List ℕ → List ℤ → Criterion → List ℕ
 walkList ts vs c = walkOf (valid ts vs c) (length ts - 1)
 
--- the samples kept so far
 abbrev pub keptSoFar : List ℕ → List ℤ → Criterion → Walk → List ℕ
 keptSoFar ts vs c w = walkOpen (valid ts vs c) (w .at)
 

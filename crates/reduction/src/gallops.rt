@@ -10,6 +10,7 @@ ghost use Rattle.reduction.specs.Galloping.{probeAt, Yes, Probes, Probed
 use crate::Galloped;
 use crate::Links;
 use crate::Probing;
+use crate::entries::store;
 use crate::outgoing::links_past;
 use crate::outgoing::passes;
 use crate::outgoing::reaches;
@@ -42,8 +43,8 @@ fn probe(ticks: &[u32], values: &[i16], c: Criterion, s: Probing, d: usize) -> P
     let probes = s.probes + 1;
     let no = Probing {
         low: s.low,
-        probes: probes,
-        links: links,
+        probes,
+        links,
     };
     if ticks.len() <= end {
         return no;
@@ -57,7 +58,7 @@ fn probe(ticks: &[u32], values: &[i16], c: Criterion, s: Probing, d: usize) -> P
     }
     Probing {
         low: d,
-        probes: probes,
+        probes,
         links: taken(ticks, values, c, far, end),
     }
 }
@@ -74,11 +75,11 @@ fn double(ticks: &[u32], values: &[i16], c: Criterion, i: usize) -> Probing
         links: links_past(ticks, values, c, i),
     };
     loop {
-        let next = probe(ticks, values, c, s, s.low + s.low);
-        if next.low == s.low {
-            return next;
+        let high = s.low + s.low;
+        s = probe(ticks, values, c, s, high);
+        if s.low != high {
+            return s;
         }
-        s = next;
     }
 }
 
@@ -118,7 +119,7 @@ pub fn gallop(ticks: &[u32], values: &[i16], c: Criterion, out: &mut [u16]) -> G
     ensures { λ r. ⌜ Gallops (now (ticks .entry)) (now (values .entry)) c (now (out .entry)) r (now (out .exit)) ⌝ }
 {
     let last = ticks.len() - 1;
-    out[0] = 0;
+    store(out, 0, 0);
     let mut count: usize = 1;
     let mut i: usize = 0;
     let mut probes: usize = 0;
@@ -126,11 +127,8 @@ pub fn gallop(ticks: &[u32], values: &[i16], c: Criterion, out: &mut [u16]) -> G
         let s = search(ticks, values, c, i);
         i += s.low;
         probes += s.probes;
-        out[count] = i as u16;
+        store(out, count, i);
         count += 1;
     }
-    Galloped {
-        count: count,
-        probes: probes,
-    }
+    Galloped { count, probes }
 }

@@ -1,4 +1,4 @@
-// Reductions of a checked trace: the links from one sample (outgoing), walk (walks) and gallop (gallops).
+// Reductions of a checked trace: the links from one sample (outgoing), entries of the list (entries), walk (walks) and gallop (gallops).
 use trace::Cone;
 use trace::Start;
 
@@ -28,6 +28,7 @@ pub struct Galloped {
     pub probes: usize,
 }
 
+pub mod entries;
 pub mod gallops;
 pub mod outgoing;
 pub mod walks;

@@ -27,7 +27,7 @@ pub fn links_at(ticks: &[u32], values: &[i16], c: Criterion, i: usize) -> Links
 {
     let from = start_at(ticks, values, i, c.q);
     Links {
-        from: from,
+        from,
         cone: cone_from(c.p),
     }
 }
@@ -39,10 +39,7 @@ fn cone_of(to: Edge, p: u64) -> Cone
 {
     let low = lower_by(to, p);
     let high = raise_by(to, p);
-    Cone {
-        low: low,
-        high: high,
-    }
+    Cone { low, high }
 }
 
 // The links from sample i, with the next sample taken in.
@@ -53,7 +50,7 @@ pub fn links_past(ticks: &[u32], values: &[i16], c: Criterion, i: usize) -> Link
     let from = start_at(ticks, values, i, c.q);
     let to = edge_to(ticks, values, from, i + 1, c.q);
     Links {
-        from: from,
+        from,
         cone: cone_of(to, c.p),
     }
 }
@@ -86,8 +83,9 @@ pub fn taken(ticks: &[u32], values: &[i16], c: Criterion, links: Links, j: usize
     let from = links.from;
     let cone = links.cone;
     let to = edge_to(ticks, values, from, j, c.q);
+    let narrower = extended(cone, to, c.p);
     Links {
-        from: from,
-        cone: extended(cone, to, c.p),
+        from,
+        cone: narrower,
     }
 }

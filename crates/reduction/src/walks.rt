@@ -7,6 +7,7 @@ ghost use Rattle.trace.specs.Trace.{Trace};
 ghost use Rattle.trace.specs.Link.{Bounded};
 ghost use Rattle.reduction.specs.Walking.{walkList, Walked, Steps, Stepped, Ran};
 use crate::Walk;
+use crate::entries::store;
 use crate::outgoing::links_at;
 use crate::outgoing::links_past;
 use crate::outgoing::reaches;
@@ -35,13 +36,13 @@ pub fn step(ticks: &[u32], values: &[i16], c: Criterion, w: Walk) -> Walk
     if reaches(ticks, values, c, links, at) {
         return Walk {
             links: taken(ticks, values, c, links, at),
-            at: at,
+            at,
             count: w.count,
         };
     }
     Walk {
         links: links_past(ticks, values, c, w.at),
-        at: at,
+        at,
         count: w.count + 1,
     }
 }
@@ -68,13 +69,13 @@ pub fn walk(ticks: &[u32], values: &[i16], c: Criterion, out: &mut [u16]) -> usi
     ensures { λ r. ⌜ Wrote (walkList (now (ticks .entry)) (now (values .entry)) c) (now (out .entry)) r (now (out .exit)) ⌝ }
 {
     let last = ticks.len() - 1;
-    out[0] = 0;
+    store(out, 0, 0);
     let mut w = begin(ticks, values, c);
     while w.at < last {
         let next = run(ticks, values, c, w);
         let count = w.count;
         if next.count != count {
-            out[count] = (next.at - 1) as u16;
+            store(out, count, next.at - 1);
         }
         w = next;
     }
@@ -82,6 +83,6 @@ pub fn walk(ticks: &[u32], values: &[i16], c: Criterion, out: &mut [u16]) -> usi
         return 1;
     }
     let count = w.count;
-    out[count] = last as u16;
+    store(out, count, last);
     count + 1
 }

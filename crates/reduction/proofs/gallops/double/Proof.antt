@@ -19,8 +19,8 @@ links-past-requires c κs = search needs
 loop-holds : tie.Need-loop-holds Inv-loop μ-loop
 loop-holds c = raising-none (c .before .before .pre .2) (c .links-past .ensures)
 
-add-probe : tie.Need-add-probe Inv-loop μ-loop
-add-probe c = search needs
+add-high : tie.Need-add-high Inv-loop μ-loop
+add-high c = search needs
 
 probe-requires : tie.Need-probe-requires Inv-loop μ-loop
 probe-requires c κs =
@@ -30,19 +30,18 @@ probe-requires c κs =
 
 returns : tie.Need-returns Inv-loop μ-loop
 returns c =
-    let at = c .before .before .before in
+    let at = c .before .before in
     raising-ends (at .before .before .loop .inv) (at .probe .ensures) (c .if1 .taken)
 
 loop-less : tie.Need-loop-less Inv-loop μ-loop
 loop-less c =
-    let at = c .before .before .before in
-    let m = raising-more (at .before .before .loop .inv) (at .probe .ensures) (c .if1 .left) in
-    omega (arith, m .1, m .0 .yes, at .before .before .loop .inv .yes)
+    let at = c .before .before in
+    omega (arith, at .before .before .loop .inv .yes)
 
 loop-again : tie.Need-loop-again Inv-loop μ-loop
 loop-again c =
-    let at = c .before .before .before in
-    raising-more (at .before .before .loop .inv) (at .probe .ensures) (c .if1 .left) .0
+    let at = c .before .before in
+    raising-more (at .before .before .loop .inv) (at .probe .ensures) (c .if1 .left)
 
 pub double-spec : {M : Type 1} → statement M
 double-spec =
@@ -52,7 +51,7 @@ double-spec =
     μ-loop
     links-past-requires
     loop-holds
-    add-probe
+    add-high
     probe-requires
     returns
     loop-less

@@ -1,5 +1,4 @@
 -- `reduction::gallops::probe` meets its contract: each way out is a law of the probe. Assumes nothing.
-use mathlib.Core.Path.{sym, _∙_}
 use Prim.Native.Nat.{_+_}
 use native.Mathlib.Omega.{arith}
 use borrow.Author.Needs.{needs}
@@ -51,7 +50,7 @@ reaches-requires c κs = far c
 returns-3 : tie.Need-returns-3
 returns-3 c =
     let at = c .before .before .before .before .before .before in
-    probed-invalid (at .before .before .before .before .pre) (at .if1 .left) (c .before .before .taken-to .ensures) (sym (not-true _ (c .if3 .taken)) ∙ c .before .reaches .ensures)
+    probed-invalid (at .before .before .before .before .pre) (at .if1 .left) (c .before .before .taken-to .ensures) (not-true _ (c .if3 .taken)) (c .before .reaches .ensures)
 
 taken-requires : tie.Need-taken-requires
 taken-requires c κs = far (c .before .before)
@@ -60,7 +59,7 @@ returns-4 : tie.Need-returns-4
 returns-4 c =
     let at = c .before .before .before .before .before .before .before in
     let pre = at .before .before .before .before .pre in
-    probed-yes pre (at .if1 .left) (c .before .before .before .taken-to .ensures) (sym (not-false _ (c .before .if3 .left)) ∙ c .before .before .reaches .ensures) (c .taken .ensures)
+    probed-yes pre (at .if1 .left) (c .before .before .before .taken-to .ensures) (not-false _ (c .before .if3 .left)) (c .before .before .reaches .ensures) (c .taken .ensures)
 
 pub probe-spec : {M : Type 1} → statement M
 probe-spec =

@@ -1,5 +1,5 @@
 -- `reduction::walks::step` meets its contract: the two ways are those of the definition. Assumes nothing.
-use mathlib.Core.Path.{refl, sym, _∙_}
+use mathlib.Core.Path.{refl}
 use native.Mathlib.Omega.{arith}
 use borrow.Author.Needs.{needs}
 use Rattle.reduction.proofs.WalkingLaws.{steps-next, walked-few, walked-valid, walked-invalid}
@@ -20,7 +20,7 @@ returns c =
     let at = c .before .before in
     record {
       at = refl;
-      walked = walked-valid (at .before .before .before .before .pre .walked) (sym (c .before .if1 .taken) ∙ at .reaches .ensures) (c .taken .ensures);
+      walked = walked-valid (at .before .before .before .before .pre .walked) (c .before .if1 .taken) (at .reaches .ensures) (c .taken .ensures);
     }
 
 links-past-requires : tie.Need-links-past-requires
@@ -36,7 +36,7 @@ returns-2 c =
     let at = c .before .before .before in
     record {
       at = refl;
-      walked = walked-invalid (at .before .before .before .before .pre .walked) (sym (c .before .before .if1 .left) ∙ at .reaches .ensures) (c .before .links-past .ensures);
+      walked = walked-invalid (at .before .before .before .before .pre .walked) (c .before .before .if1 .left) (at .reaches .ensures) (c .before .links-past .ensures);
     }
 
 pub step-spec : {M : Type 1} → statement M

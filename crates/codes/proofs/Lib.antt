@@ -1,0 +1,2 @@
+-- The laws of the crate `codes`.
+pub mod TableLaws

@@ -1,0 +1,8 @@
+-- The laws of the crate `format`.
+pub mod NumberLaws
+pub mod CommandLaws
+pub mod RuleLaws
+pub mod ParseEncode
+pub mod EncodeParse
+pub mod SameLaws
+pub mod Figures

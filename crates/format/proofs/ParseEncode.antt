@@ -1,0 +1,122 @@
+-- What is written is read back: `parse (encode x)` is x for every legal content x.
+-- Assumes nothing.
+use mathlib.Core.Path.{_≡_, refl, sym, ap, _∙_}
+use mathlib.Core.Bool.{Bool, true, false, not}
+use mathlib.Core.List.{List, [], _∷_}
+use Prim.Native.Nat.{ℕ, zero, suc, _+_, _-_, _≤_, _<_}
+use native.Mathlib.Nat.{add-zero}
+use native.Mathlib.Omega.{arith}
+use borrow.Author.Tests.{le-leb, eq-eqb, lt-ltb}
+use lib.Dec.{leb}
+use lib.IntN.{ℤ}
+use lib.ListN.{length, drop, length-drop}
+use lib.Seq.{drop-drop}
+use lib.Signed.{mag}
+use Rattle.lists.proofs.Tests.{by-test}
+use Rattle.ratio.specs.declared.Ratio.{Ratio}
+use Rattle.trace.specs.Level.{level}
+use Rattle.trace.proofs.Level.{level-short}
+use Rattle.format.specs.Number.{valueOf}
+use Rattle.format.specs.Command.{sizeOf, choose, commandOf, commandOnto}
+use Rattle.format.specs.Format.{Content, Legal, within, short, shortStep, longStep, endStep, stepOf, Samples, samples, onto, steps, Parsed, says, parse, stepTo, stepsOnto, samplesOnto, encode}
+use Rattle.format.specs.declared.Cursor.{Cursor}
+use Rattle.format.specs.declared.Command.{Command}
+use Rattle.format.specs.declared.Command.the-variants.{Tolerance, First, Short, Long, End}
+use Rattle.format.specs.declared.Step.the-variants.{Sample}
+use Rattle.format.proofs.NumberLaws.{value-level}
+use Rattle.format.proofs.CommandLaws.{command-read, command-rest, command-length}
+use Rattle.format.proofs.RuleLaws.{short-le, le-within, held-allowed, Follows, legal-follows}
+
+-- the cursor after a step of k bytes
+abbrev next : Cursor → ℕ → ℕ → ℕ → Cursor
+next c k t l = record { at = c .at + k; first = c .first; tick = t; level = l; count = c .count + 1 }
+
+-- where a step leads, and what is left after it
+record Reaches (b : List ℕ) (c : Cursor) (t l : ℕ) (xs : List ℕ) : Type 0 where
+  size : ℕ
+  step : stepOf b c ≡ Sample (next c size t l)
+  rest : drop (c .at + size) b ≡ xs
+
+-- the rest of a record whose part from a place on is a command and then xs
+after : (b : List ℕ) (i : ℕ) (m : Command) (xs : List ℕ) → drop i b ≡ commandOnto m xs → drop (i + sizeOf m) b ≡ xs
+after b i m xs e = sym (drop-drop (sizeOf m) i b) ∙ ap (drop (sizeOf m)) e ∙ command-rest m xs
+
+module _ (b : List ℕ) (c : Cursor) (t l : ℕ) (xs : List ℕ) (rise : c .tick < t) (long : t - c .tick ≤ 1048575) (small : l ≤ 65535) (ok : within (c .first) t l ≡ true) (room : c .count < 4096) where
+  reaches-short : short (c .level) (t - c .tick) l ≡ true → drop (c .at) b ≡ commandOnto (Short (t - c .tick) (l + 128 - c .level)) xs → Reaches b c t l xs
+  unfolding shortStep
+  reaches-short s e =
+      let f = short-le (c .level) (t - c .tick) l s in
+      let a : ℕ = t - c .tick in
+      let d : ℕ = l + 128 - c .level in
+      let x : c .tick + a ≡ t = omega arith in
+      let y : c .level + d - 128 ≡ l = omega arith in
+      let h₁ : leb 1 a ≡ true = le-leb 1 a (omega arith) in
+      let h₂ : leb 128 (c .level + d) ≡ true = le-leb 128 (c .level + d) (omega arith) in
+      record {
+        size = 3;
+        step = rw (e, command-read xs (Short a d) (omega arith), x, y, h₁, h₂, ok, lt-ltb _ _ room);
+        rest = after b (c .at) (Short a d) xs e;
+      }
+
+  reaches-long : short (c .level) (t - c .tick) l ≡ false → drop (c .at) b ≡ commandOnto (Long (t - c .tick) l) xs → Reaches b c t l xs
+  unfolding longStep
+  reaches-long s e =
+      let a : ℕ = t - c .tick in
+      let x : c .tick + a ≡ t = omega arith in
+      let h₁ : leb 1 a ≡ true = le-leb 1 a (omega arith) in
+      record {
+        size = 6;
+        step = rw (e, command-read xs (Long a l) (omega arith), x, h₁, s, ok, lt-ltb _ _ room);
+        rest = after b (c .at) (Long a l) xs e;
+      }
+
+  reaches : drop (c .at) b ≡ commandOnto (stepTo (c .tick) (c .level) t l) xs → Reaches b c t l xs
+  reaches e = by-test (short (c .level) (t - c .tick) l) (λ s. reaches-short s (rw s at e)) (λ s. reaches-long s (rw s at e))
+
+-- ---- the steps, and the whole record
+
+module _ (b : List ℕ) where
+  steps-read : (n : ℕ) (c : Cursor) (ts : List ℕ) (vs : List ℤ) → c .first ≤ c .tick → Follows (c .first) (c .tick) ts vs → length ts < n → c .count + length ts ≤ 4096
+      → drop (c .at) b ≡ stepsOnto (c .tick) (c .level) ts vs (commandOnto (End (c .count + length ts)) [])
+      → steps b n c ≡ samples ts vs
+  unfolding steps stepsOnto endStep
+  steps-read zero c ts vs begun f n m e = absurd (omega arith)
+  steps-read (suc n) c [] [] begun f h m e =
+      let k : c .at + 3 ≡ length b = omega (arith, ap length e ∙ command-length (End (c .count + 0)) [], length-drop (c .at) b) in
+      rw (e, command-read [] (End (c .count + 0)) (omega arith), add-zero, eq-eqb (c .count) (c .count) refl, eq-eqb (c .at + 3) (length b) k)
+  steps-read (suc n) c [] (v ∷ vs) begun f h m e = absurd f
+  steps-read (suc n) c (t ∷ ts) [] begun f h m e = absurd f
+  steps-read (suc n) c (t ∷ ts) (v ∷ vs) begun f h m e =
+      let s : level v ≤ 65535 = level-short v (f .3) in
+      let r = reaches b c t (level v) _ (f .0) (omega arith) s (le-within (c .first) t (level v) (f .1) (f .2) s) (omega arith) e in
+      let x : c .count + suc (length ts) ≡ c .count + 1 + length ts = omega arith in
+      let d : Cursor = next c (r .size) t (level v) in
+      let ih : steps b n d ≡ samples ts vs = steps-read n d ts vs (omega arith) (f .4) (omega arith) (omega arith) (r .rest ∙ ap (λ (m : ℕ). stepsOnto t (level v) ts vs (commandOnto (End m) [])) x) in
+      rw (r .step, ih, value-level v (f .3))
+
+module _ (r : Ratio) (t : ℕ) (ts : List ℕ) (v : ℤ) (vs : List ℤ) (h : Legal (record { tolerance = r; ticks = t ∷ ts; values = v ∷ vs })) where
+  whole : parse (encode (record { tolerance = r; ticks = t ∷ ts; values = v ∷ vs })) ≡ says (record { tolerance = r; ticks = t ∷ ts; values = v ∷ vs })
+  unfolding parse encode samplesOnto
+  whole =
+      let x : Content = record { tolerance = r; ticks = t ∷ ts; values = v ∷ vs } in
+      let b : List ℕ = encode x in
+      let xs : List ℕ = stepsOnto t (level v) ts vs (commandOnto (End (length (t ∷ ts))) []) in
+      let ys : List ℕ = commandOnto (First t (level v)) xs in
+      let c : Cursor = record { at = 16; first = t; tick = t; level = level v; count = 1 } in
+      let y : 1 + length ts ≡ suc (length ts) = omega arith in
+      let l : level v ≤ 65535 = level-short v (h .value-range 0) in
+      let ht : t ≤ 4294967295 = h .tick-range 0 in
+      let e₁ : drop 9 b ≡ ys = command-rest (Tolerance r) ys in
+      let e₂ : drop 16 b ≡ xs = sym (drop-drop 7 9 b) ∙ ap (drop 7) e₁ ∙ command-rest (First t (level v)) xs in
+      let s : steps b 4096 c ≡ samples ts vs =
+      steps-read b 4096 c ts vs (omega arith) (legal-follows h) (omega (arith, h .trace .few)) (omega (arith, h .trace .few)) (e₂ ∙ ap (λ (m : ℕ). stepsOnto t (level v) ts vs (commandOnto (End m) [])) (sym y)) in
+      rw (command-read ys (Tolerance r) (omega (arith, h .held)), held-allowed r (h .held), e₁, command-read xs (First t (level v)) (omega arith), s, value-level v (h .value-range 0))
+
+-- every legal content is read as it was written
+pub parse-encode : (x : Content) → Legal x → parse (encode x) ≡ says x
+parse-encode x = go (x .tolerance) (x .ticks) (x .values)
+  where
+    go : (r : Ratio) (ts : List ℕ) (vs : List ℤ) → Legal (record { tolerance = r; ticks = ts; values = vs }) → parse (encode (record { tolerance = r; ticks = ts; values = vs })) ≡ says (record { tolerance = r; ticks = ts; values = vs })
+    go r [] vs h = absurd (omega (arith, h .trace .some))
+    go r (t ∷ ts) [] h = absurd (omega (arith, h .trace .same))
+    go r (t ∷ ts) (v ∷ vs) h = whole r t ts v vs h

@@ -1,0 +1,54 @@
+-- The commands of a record (document 01, "The record", the table of commands).
+--   sizeOf        the bytes of a command
+--   commandOnto   a command as it is written, before other bytes
+--   commandOf     the command that bytes start with: Invalid if it is cut off or none of the table's
+--   Operands      the ranges of a command's operands
+-- Laws are in CommandLaws. Assumes nothing.
+use mathlib.Core.Bool.{Bool, true, false, _&&_}
+use mathlib.Core.List.{List, _∷_}
+use Prim.Native.Nat.{ℕ, _≤_}
+use lib.Dec.{leb, eqb}
+use lib.ListN.{length, getD}
+use Rattle.format.specs.Number.{field, bytesOnto, flip16, flip8}
+use Rattle.format.specs.declared.Command.{Command}
+use Rattle.format.specs.declared.Command.the-variants.{Tolerance, First, Short, Long, End, Invalid}
+
+abbrev pub sizeOf : Command → ℕ
+sizeOf (Tolerance r) = 9
+sizeOf (First t l) = 7
+sizeOf (Short a d) = 3
+sizeOf (Long a l) = 6
+sizeOf (End n) = 3
+sizeOf Invalid = 0
+
+abbrev pub commandOnto : Command → List ℕ → List ℕ
+commandOnto (Tolerance r) xs = 0x54 ∷ bytesOnto 5 (r .p) (bytesOnto 3 (r .q) xs)
+commandOnto (First t l) xs = 0x41 ∷ bytesOnto 4 t (bytesOnto 2 (flip16 l) xs)
+commandOnto (Short a d) xs = 0x53 ∷ bytesOnto 1 a (bytesOnto 1 (flip8 d) xs)
+commandOnto (Long a l) xs = 0x4C ∷ bytesOnto 3 a (bytesOnto 2 (flip16 l) xs)
+commandOnto (End n) xs = 0x45 ∷ bytesOnto 2 n xs
+commandOnto Invalid xs = xs
+
+abbrev pub choose : {A : Type 0} → Bool → A → A → A
+choose true a b = a
+choose false a b = b
+
+-- s starts with a whole command of the kind c, of k bytes
+abbrev pub opens : ℕ → ℕ → List ℕ → Bool
+opens c k s = eqb (getD s 0 0) c && leb k (length s)
+
+unfoldable pub commandOf : List ℕ → Command
+commandOf s =
+    choose (opens 0x54 9 s) (Tolerance (record { p = field s 1 5; q = field s 6 3 }))
+    (choose (opens 0x41 7 s) (First (field s 1 4) (flip16 (field s 5 2)))
+    (choose (opens 0x53 3 s) (Short (field s 1 1) (flip8 (field s 2 1)))
+    (choose (opens 0x4C 6 s) (Long (field s 1 3) (flip16 (field s 4 2)))
+    (choose (opens 0x45 3 s) (End (field s 1 2)) Invalid))))
+
+abbrev pub Operands : Command → Type 0
+Operands (Tolerance r) = (r .p ≤ 1099511627775) × (r .q ≤ 16777215)
+Operands (First t l) = (t ≤ 4294967295) × (l ≤ 65535)
+Operands (Short a d) = (a ≤ 255) × (d ≤ 255)
+Operands (Long a l) = (a ≤ 16777215) × (l ≤ 65535)
+Operands (End n) = n ≤ 65535
+Operands Invalid = ⊥

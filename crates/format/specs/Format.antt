@@ -1,0 +1,196 @@
+-- The format of a record (document 01, "The record"): what a record says, and the record that says it.
+--   Content, Legal        a tolerance and samples; what can be said
+--   allowed, within, short  the rules
+--   stepOf                what the command at a cursor does
+--   Samples, steps        the samples that the commands from a cursor on give, or the fault's byte
+--   Parsed, parse         what a record says, or the fault's byte
+--   encode                the record of a content
+--   Accepted              what holds of an accepted record and its content
+--   SameRecord            two records are the same: their kept samples agree, tolerance disregarded
+-- A fault lies at the first byte of the first command that breaks a rule or is cut off, at the first byte after a whole end command, or at
+-- the record's end where a command is missing.
+-- Laws are in ParseEncode, EncodeParse and SameLaws; figures are in Figures. Assumes nothing.
+use mathlib.Core.Path.{_≡_}
+use mathlib.Core.Bool.{Bool, not, _&&_}
+use mathlib.Core.List.{List, [], _∷_}
+use Prim.Native.Nat.{ℕ, zero, suc, _+_, _-_, _*_, _≤_, _<_}
+use lib.Dec.{leb, eqb, ltb}
+use lib.IntN.{ℤ}
+use lib.ListN.{length, drop}
+use lib.Signed.{mag}
+use Rattle.ratio.specs.declared.Ratio.{Ratio}
+use Rattle.ratio.specs.Gcd.{gcd}
+use Rattle.trace.specs.Trace.{tick, value, Trace}
+use Rattle.trace.specs.Level.{level}
+use Rattle.format.specs.Number.{valueOf}
+use Rattle.format.specs.Command.{choose, commandOf, commandOnto}
+use Rattle.format.specs.declared.Cursor.{Cursor}
+use Rattle.format.specs.declared.Command.{Command}
+use Rattle.format.specs.declared.Command.the-variants.{Tolerance, First, Short, Long, End, Invalid}
+use Rattle.format.specs.declared.Step.{Step}
+use Rattle.format.specs.declared.Step.the-variants.{Sample, End as Ended, Fault}
+use Rattle.format.specs.declared.Header.{Header}
+use Rattle.format.specs.declared.Header.the-variants.{Start, Fault as NoHeader}
+
+-- ---- what a record says
+
+pub record Content : Type 0 where
+  pub tolerance : Ratio
+  pub ticks : List ℕ
+  pub values : List ℤ
+
+-- a tolerance as it is held: allowed, and reduced
+pub record Held (r : Ratio) : Type 0 where
+  pub positive : 1 ≤ r .q
+  pub q-bound : r .q ≤ 1048575
+  pub p-bound : r .p ≤ 65535 * r .q
+  pub coprime : gcd (r .p) (r .q) ≡ 1
+
+-- a held tolerance and the samples of a trace, of 32-bit ticks and 16-bit values
+pub record Legal (x : Content) : Type 0 where
+  pub held : Held (x .tolerance)
+  pub trace : Trace (x .ticks) (x .values)
+  pub tick-range : (k : ℕ) → tick (x .ticks) k ≤ 4294967295
+  pub value-range : (k : ℕ) → mag (value (x .values) k) < 32768
+
+-- ---- the rules
+
+unfoldable pub allowed : Ratio → Bool
+allowed r = leb 1 (r .q) && leb (r .q) 1048575 && leb (r .p) (65535 * r .q) && eqb (gcd (r .p) (r .q)) 1
+
+-- a sample after the first one's tick: the tick is 32 bits, the span at most 1,048,575, the value 16 bits
+abbrev pub within : ℕ → ℕ → ℕ → Bool
+within first tick level = leb tick 4294967295 && leb tick (first + 1048575) && leb level 65535
+
+-- a step from one level to the next is short: an advance of at most 255, and a change from -128 to 127
+abbrev pub short : ℕ → ℕ → ℕ → Bool
+short level advance next = leb advance 255 && leb level (next + 128) && leb next (level + 127)
+
+-- ---- a step
+
+-- the sample that a step leads to may follow
+abbrev pub follows : Cursor → ℕ → ℕ → Bool
+follows c tick level = within (c .first) tick level && ltb (c .count) 4096
+
+-- a step of k bytes to the next sample, if it obeys the rules
+abbrev pub moved : Bool → ℕ → Cursor → ℕ → ℕ → Step
+moved ok k c tick level =
+    choose ok (Sample (record { at = c .at + k; first = c .first; tick = tick; level = level; count = c .count + 1 })) (Fault (c .at))
+
+-- a short step: an advance from 1, and a change of d - 128
+unfoldable pub shortStep : Cursor → ℕ → ℕ → Step
+shortStep c a d =
+    moved (leb 1 a && leb 128 (c .level + d) && follows c (c .tick + a) (c .level + d - 128)) 3 c (c .tick + a) (c .level + d - 128)
+
+-- a long step, which no short one could take the place of
+unfoldable pub longStep : Cursor → ℕ → ℕ → Step
+longStep c a level = moved (leb 1 a && not (short (c .level) a level) && follows c (c .tick + a) level) 6 c (c .tick + a) level
+
+-- the end of a record of n bytes: it gives the number of samples, and nothing follows
+unfoldable pub endStep : ℕ → Cursor → ℕ → Step
+endStep n c m = choose (eqb m (c .count)) (choose (eqb (c .at + 3) n) Ended (Fault (c .at + 3))) (Fault (c .at))
+
+-- what a command does at a cursor of a record of n bytes
+abbrev pub obey : ℕ → Cursor → Command → Step
+obey n c (Short a d) = shortStep c a d
+obey n c (Long a level) = longStep c a level
+obey n c (End m) = endStep n c m
+obey n c (Tolerance r) = Fault (c .at)
+obey n c (First t l) = Fault (c .at)
+obey n c Invalid = Fault (c .at)
+
+abbrev pub stepOf : List ℕ → Cursor → Step
+stepOf b c = obey (length b) c (commandOf (drop (c .at) b))
+
+-- ---- the whole record
+
+pub data Samples : Type 0 where
+  fault : ℕ → Samples
+  samples : List ℕ → List ℤ → Samples
+
+-- the sample that a cursor stands after, and then the others
+abbrev pub onto : Cursor → Samples → Samples
+onto c (fault k) = fault k
+onto c (samples ts vs) = samples (c .tick ∷ ts) (valueOf (c .level) ∷ vs)
+
+abbrev pub follow : Step → (Cursor → Samples) → Samples
+follow (Sample c) go = onto c (go c)
+follow Ended go = samples [] []
+follow (Fault k) go = fault k
+
+-- at most n commands
+unfoldable pub steps : List ℕ → ℕ → Cursor → Samples
+steps b zero c = fault (c .at)
+steps b (suc n) c = follow (stepOf b c) (λ d. steps b n d)
+
+-- with the first sample, which the cursor stands after
+abbrev pub samplesFrom : List ℕ → Cursor → Samples
+samplesFrom b c = onto c (steps b 4096 c)
+
+-- the tolerance, and then the first sample
+abbrev pub firstOf : Ratio → Command → Header
+firstOf r (First t l) = Start r (record { at = 16; first = t; tick = t; level = l; count = 1 })
+firstOf r (Tolerance _) = NoHeader 9
+firstOf r (Short _ _) = NoHeader 9
+firstOf r (Long _ _) = NoHeader 9
+firstOf r (End _) = NoHeader 9
+firstOf r Invalid = NoHeader 9
+
+abbrev pub toleranceOf : Command → Command → Header
+toleranceOf (Tolerance r) m = choose (allowed r) (firstOf r m) (NoHeader 0)
+toleranceOf (First _ _) m = NoHeader 0
+toleranceOf (Short _ _) m = NoHeader 0
+toleranceOf (Long _ _) m = NoHeader 0
+toleranceOf (End _) m = NoHeader 0
+toleranceOf Invalid m = NoHeader 0
+
+abbrev pub headerOf : List ℕ → Header
+headerOf b = toleranceOf (commandOf b) (commandOf (drop 9 b))
+
+pub data Parsed : Type 0 where
+  faulty : ℕ → Parsed
+  says : Content → Parsed
+
+abbrev pub attach : Ratio → Samples → Parsed
+attach r (fault k) = faulty k
+attach r (samples ts vs) = says (record { tolerance = r; ticks = ts; values = vs })
+
+abbrev pub began : List ℕ → Header → Parsed
+began b (Start r c) = attach r (samplesFrom b c)
+began b (NoHeader k) = faulty k
+
+unfoldable pub parse : List ℕ → Parsed
+parse b = began b (headerOf b)
+
+-- ---- writing
+
+-- the step from a tick and a level to the next: short exactly if it can be
+abbrev pub stepTo : ℕ → ℕ → ℕ → ℕ → Command
+stepTo t l t′ l′ = choose (short l (t′ - t) l′) (Short (t′ - t) (l′ + 128 - l)) (Long (t′ - t) l′)
+
+-- the steps from a tick and a level to each next sample, and then xs
+unfoldable pub stepsOnto : ℕ → ℕ → List ℕ → List ℤ → List ℕ → List ℕ
+stepsOnto t l [] vs xs = xs
+stepsOnto t l (t′ ∷ ts) [] xs = xs
+stepsOnto t l (t′ ∷ ts) (v′ ∷ vs) xs = commandOnto (stepTo t l t′ (level v′)) (stepsOnto t′ (level v′) ts vs xs)
+
+-- the samples' commands: the first sample, the steps and the end
+unfoldable pub samplesOnto : List ℕ → List ℤ → List ℕ
+samplesOnto [] vs = []
+samplesOnto (t ∷ ts) [] = []
+samplesOnto (t ∷ ts) (v ∷ vs) = commandOnto (First t (level v)) (stepsOnto t (level v) ts vs (commandOnto (End (length (t ∷ ts))) []))
+
+unfoldable pub encode : Content → List ℕ
+encode x = commandOnto (Tolerance (x .tolerance)) (samplesOnto (x .ticks) (x .values))
+
+-- the record b says x: it is the record of x, which can be said
+pub record Accepted (b : List ℕ) (x : Content) : Type 0 where
+  pub parsed : parse b ≡ says x
+  pub bytes : b ≡ encode x
+  pub legal : Legal x
+
+-- ---- comparison
+
+pub record SameRecord (x y : Content) : Type 0 where
+  pub ticks : x .ticks ≡ y .ticks
+  pub values : x .values ≡ y .values

@@ -1,0 +1,4 @@
+-- The definitions of the crate `format`.
+pub mod Number
+pub mod Command
+pub mod Format

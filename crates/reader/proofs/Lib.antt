@@ -1,0 +1,3 @@
+-- The laws of the crate `reader`.
+pub mod PassLaws
+pub mod ReadingLaws

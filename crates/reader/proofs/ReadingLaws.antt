@@ -1,0 +1,160 @@
+-- Laws of the outcomes: what the header, a record's verdict and the bytes after the tolerance say.
+-- Assumes nothing.
+use mathlib.Core.Path.{_≡_, refl, sym, ap, _∙_, subst}
+use mathlib.Core.Bool.{Bool, true, false, _&&_}
+use mathlib.Core.List.{List, [], _∷_}
+use Prim.Native.Nat.{ℕ, _+_, _-_, _≤_, _<_}
+use native.Mathlib.Omega.{arith}
+use borrow.Author.Tests.{le-leb}
+use lib.Dec.{leb}
+use lib.IntN.{ℤ}
+use lib.ListN.{length, take, drop, length-drop}
+use lib.Seq.{take-append-seam}
+use Rattle.lists.specs.Decides.{Decides}
+use Rattle.lists.specs.Overwrite.{overwrite, Wrote}
+use Rattle.lists.proofs.PartLaws.{part-from}
+use Rattle.ratio.specs.declared.Ratio.{Ratio}
+use Rattle.refusal.specs.declared.Refusal.the-variants.{Record, SecondRecord, Room}
+use Rattle.refusal.specs.declared.Checked.the-variants.{Fine, Refused as Declined}
+use Rattle.trace.specs.Trace.{Trace}
+use Rattle.format.specs.declared.Cursor.{Cursor}
+use Rattle.format.specs.declared.Command.{Command}
+use Rattle.format.specs.declared.Command.the-variants.{Tolerance, First, Short, Long, End, Invalid}
+use Rattle.format.specs.declared.Header.{Header}
+use Rattle.format.specs.declared.Header.the-variants.{Start, Fault as NoHeader}
+use Rattle.format.specs.Number.{Bytes}
+use Rattle.format.specs.Command.{choose, commandOf}
+use Rattle.format.specs.Format.{Content, Accepted, SameRecord, allowed, Samples, fault, samples, samplesFrom, firstOf, toleranceOf, headerOf, Parsed, faulty, says, attach, began, parse, samplesOnto, encode}
+use Rattle.format.proofs.NumberLaws.{bytes-drop}
+use Rattle.format.proofs.CommandLaws.{Starts, Read, read, command-length}
+use Rattle.format.proofs.EncodeParse.{encode-parse}
+use Rattle.format.proofs.SameLaws.{same-tails}
+use Rattle.reader.specs.Reading.{readRows, sameRows, Said, CheckOutcome, ReadBack, Compared, SameOutcome, verdictOf, samplesOf, Begun, Fitting, Filled}
+use Rattle.reader.specs.declared.Verdict.{Verdict}
+
+-- ---- the header
+
+pub parse-start : (b : List ℕ) {r : Ratio} {c : Cursor} → headerOf b ≡ Start r c → parse b ≡ attach r (samplesFrom b c)
+unfolding parse
+parse-start b e = ap (began b) e
+
+pub parse-fault : (b : List ℕ) {k : ℕ} → headerOf b ≡ NoHeader k → parse b ≡ faulty k
+unfolding parse
+parse-fault b e = ap (began b) e
+
+BegunBy : ℕ → Header → Type 0
+BegunBy n (Start r c) = Begun n c
+BegunBy n (NoHeader k) = Unit {0}
+
+begun-first : (b : List ℕ) (r : Ratio) → Starts b (Tolerance r) → (m : Command) → Read (drop 9 b) m → BegunBy (length b) (firstOf r m)
+unfolding BegunBy
+begun-first b r v (First t l) w =
+    let o = w .operands in
+    record {
+      ready = record { at = omega (arith, v .whole, w .whole, length-drop 9 b); begun = omega arith; tick = o .0; level = o .1; count = omega arith };
+      one = refl;
+    }
+begun-first b r v (Tolerance r′) w = tt
+begun-first b r v (Short a d) w = tt
+begun-first b r v (Long a l) w = tt
+begun-first b r v (End m) w = tt
+begun-first b r v Invalid w = tt
+
+begun : {b : List ℕ} → Bytes b → (m : Command) → Read b m → BegunBy (length b) (toleranceOf m (commandOf (drop 9 b)))
+unfolding BegunBy
+begun {b} by (Tolerance r) v = go (allowed r)
+  where
+    go : (a : Bool) → BegunBy (length b) (choose a (firstOf r (commandOf (drop 9 b))) (NoHeader 0))
+    go true = begun-first b r v (commandOf (drop 9 b)) (read (bytes-drop 9 by))
+    go false = tt
+begun by (First t l) v = tt
+begun by (Short a d) v = tt
+begun by (Long a l) v = tt
+begun by (End m) v = tt
+begun by Invalid v = tt
+
+-- the cursor after the first sample
+pub header-begun : {b : List ℕ} → Bytes b → {r : Ratio} {c : Cursor} → headerOf b ≡ Start r c → Begun (length b) c
+unfolding BegunBy
+header-begun {b} by e = subst (BegunBy (length b)) e (begun by (commandOf b) (read by))
+
+-- ---- check
+
+pub verdict : {b : List ℕ} → Bytes b → {v : Verdict} → v ≡ verdictOf (parse b) → CheckOutcome b v
+verdict {b} by e = subst (CheckOutcome b) (sym e) (go (parse b) refl)
+  where
+    go : (p : Parsed) → parse b ≡ p → CheckOutcome b (verdictOf p)
+    go (faulty k) e = e
+    go (says x) e = record { content = x; accepted = encode-parse by e; count = refl; tolerance = refl }
+
+-- ---- read
+
+samples-attach : (r : Ratio) (s : Samples) → samplesOf (attach r s) ≡ s
+samples-attach r (fault k) = refl
+samples-attach r (samples ts vs) = refl
+
+pub parse-samples : (b : List ℕ) {r : Ratio} {c : Cursor} → headerOf b ≡ Start r c → samplesOf (parse b) ≡ samplesFrom b c
+parse-samples b {r} {c} e = ap samplesOf (parse-start b e) ∙ samples-attach r (samplesFrom b c)
+
+module _ {b : List ℕ} {n : ℕ} {r : Ratio} (s : Said b n r) where
+  pub no-room : (k m : ℕ) → (leb n k && leb n m) ≡ false → readRows b k m ≡ Declined (Room n)
+  no-room k m e = rw (s .accepted .parsed, ← s .count, e)
+
+  module _ (ts : List ℕ) (vs : List ℤ) (h : n ≤ length ts) (k : n ≤ length vs) where
+    pub room : Fitting (samplesOf (parse b)) (length ts) (length vs)
+    room = rw (s .accepted .parsed) (omega (arith, s .count), omega (arith, s .count))
+
+    pub read-back : {ts′ : List ℕ} {vs′ : List ℤ} → Filled (samplesOf (parse b)) ts vs ts′ vs′ → ReadBack b ts vs n r ts′ vs′
+    read-back f =
+        let w = rw (s .accepted .parsed) at f in
+        record {
+          rows = rw (s .accepted .parsed, ← s .count, le-leb n (length ts) h, le-leb n (length vs) k);
+          content = s .content;
+          accepted = s .accepted;
+          tolerance = s .tolerance;
+          ticks = record { count = s .count; content = w .0 };
+          values = record { count = s .count ∙ sym (s .accepted .legal .trace .same); content = w .1 };
+        }
+
+pub read-fault : (b : List ℕ) {k : ℕ} (m n : ℕ) → parse b ≡ faulty k → readRows b m n ≡ Declined (Record k)
+read-fault b m n e = rw e
+
+-- the entries that were written are a trace
+pub read-trace : {b ts : List ℕ} {vs : List ℤ} {n : ℕ} {r : Ratio} {ts′ : List ℕ} {vs′ : List ℤ} → ReadBack b ts vs n r ts′ vs′ → Trace (take n ts′) (take n vs′)
+read-trace {ts = ts} {vs = vs} {n = n} h =
+    let x = h .content in
+    let a : take n (overwrite (x .ticks) ts) ≡ x .ticks = rw (h .ticks .count) (take-append-seam (x .ticks) (drop (length (x .ticks)) ts)) in
+    let b : take n (overwrite (x .values) vs) ≡ x .values = rw (h .values .count) (take-append-seam (x .values) (drop (length (x .values)) vs)) in
+    rw (h .ticks .content, h .values .content, a, b) (h .accepted .legal .trace)
+
+-- ---- same
+
+pub enough : {b : List ℕ} {n : ℕ} {r : Ratio} → Said b n r → 9 ≤ length b
+unfolding encode
+enough s = let x = s .content in omega (arith, ap length (s .accepted .bytes) ∙ command-length (Tolerance (x .tolerance)) (samplesOnto (x .ticks) (x .values)))
+
+module _ {a b : List ℕ} {n m : ℕ} {r q : Ratio} (s : Said a n r) (t : Said b m q) {y : Bool}
+    (d : Decides (take (length a - 9) (drop 9 a) ≡ take (length b - 9) (drop 9 b)) y) where
+  pub same-yes : y ≡ true → Compared a b SameRecord
+  same-yes e = record {
+    first = s .content;
+    second = t .content;
+    first-accepted = s .accepted;
+    second-accepted = t .accepted;
+    holds = same-tails (s .accepted) (t .accepted) .0 (sym (part-from a 9) ∙ d .holds e ∙ part-from b 9);
+  }
+
+  pub same-no : y ≡ false → Compared a b (λ x y. SameRecord x y → ⊥)
+  same-no e = record {
+    first = s .content;
+    second = t .content;
+    first-accepted = s .accepted;
+    second-accepted = t .accepted;
+    holds = λ h. d .fails e (part-from a 9 ∙ same-tails (s .accepted) (t .accepted) .1 h ∙ sym (part-from b 9));
+  }
+
+pub first-fault : (a b : List ℕ) {k : ℕ} → parse a ≡ faulty k → sameRows a b ≡ Declined (Record k)
+first-fault a b e = rw e
+
+pub second-fault : {a : List ℕ} {n : ℕ} {r : Ratio} → Said a n r → (b : List ℕ) {k : ℕ} → parse b ≡ faulty k → sameRows a b ≡ Declined (SecondRecord k)
+second-fault s b e = rw (s .accepted .parsed, e)

@@ -1,0 +1,130 @@
+-- Reading and comparing records (document 01, "The record" and "When the engine declines"): each call's complete outcome.
+--   recordRow, readRows, sameRows            rows 8, 9 and 10: a faulty record, a second one, output too short
+--   CheckOutcome, ReadOutcome, SameOutcome   what is answered, and what lent lists then hold
+--   verdictOf                                a record's verdict
+--   Ready, Begun                             a cursor within a record; one after the first sample
+--   Entry, Fitting, Filled                   lists with an entry for a sample; for all samples; samples written over them
+-- Assumes nothing.
+use mathlib.Core.Path.{_≡_}
+use mathlib.Core.Bool.{_&&_}
+use mathlib.Core.List.{List}
+use Prim.Native.Nat.{ℕ, _≤_}
+use lib.Dec.{leb}
+use lib.IntN.{ℤ}
+use lib.ListN.{length}
+use Rattle.lists.specs.Overwrite.{overwrite, Wrote}
+use Rattle.ratio.specs.declared.Ratio.{Ratio}
+use Rattle.refusal.specs.declared.Refusal.{Refusal}
+use Rattle.refusal.specs.declared.Refusal.the-variants.{Record, SecondRecord, Room}
+use Rattle.refusal.specs.declared.Checked.{Checked}
+use Rattle.refusal.specs.declared.Checked.the-variants.{Fine, Refused as Declined}
+use Rattle.refusal.specs.Table.{row, _thenCheck_}
+use Rattle.format.specs.declared.Cursor.{Cursor}
+use Rattle.format.specs.Format.{Content, Samples, fault, samples, Parsed, faulty, says, parse, Accepted, SameRecord}
+use Rattle.reader.specs.declared.Verdict.{Verdict}
+use Rattle.reader.specs.declared.Verdict.the-variants.{Samples as Gives, Fault}
+use Rattle.reader.specs.declared.Answer.{Answer}
+use Rattle.reader.specs.declared.Answer.the-variants.{Samples as Given, Refused}
+use Rattle.reader.specs.declared.Comparison.{Comparison}
+use Rattle.reader.specs.declared.Comparison.the-variants.{Same, Different, Refused as NotCompared}
+
+-- ---- rows
+
+-- 8, 9: a faulty record, at the fault's byte
+abbrev pub recordRow : (ℕ → Refusal) → Parsed → Checked
+recordRow cause (faulty k) = Declined (cause k)
+recordRow cause (says x) = Fine
+
+-- 10: lists of m and n entries, which need one for each sample
+abbrev pub roomRow : ℕ → ℕ → Parsed → Checked
+roomRow m n (faulty k) = Fine
+roomRow m n (says x) = row (leb (length (x .ticks)) m && leb (length (x .ticks)) n) (Room (length (x .ticks)))
+
+abbrev pub readRows : List ℕ → ℕ → ℕ → Checked
+readRows b m n = recordRow Record (parse b) thenCheck roomRow m n (parse b)
+
+abbrev pub sameRows : List ℕ → List ℕ → Checked
+sameRows a b = recordRow Record (parse a) thenCheck recordRow SecondRecord (parse b)
+
+-- ---- outcomes
+
+-- the record b gives n samples at the tolerance r
+pub record Said (b : List ℕ) (n : ℕ) (r : Ratio) : Type 0 where
+  pub content : Content
+  pub accepted : Accepted b content
+  pub count : n ≡ length (content .ticks)
+  pub tolerance : r ≡ content .tolerance
+
+abbrev pub CheckOutcome : List ℕ → Verdict → Type 0
+CheckOutcome b (Gives n r) = Said b n r
+CheckOutcome b (Fault k) = parse b ≡ faulty k
+
+-- n samples of the record b, at the tolerance r, were written over the front of the lent lists
+pub record ReadBack (b : List ℕ) (ts : List ℕ) (vs : List ℤ) (n : ℕ) (r : Ratio) (ts′ : List ℕ) (vs′ : List ℤ) : Type 0 where
+  pub rows : readRows b (length ts) (length vs) ≡ Fine
+  pub content : Content
+  pub accepted : Accepted b content
+  pub tolerance : r ≡ content .tolerance
+  pub ticks : Wrote (content .ticks) ts n ts′
+  pub values : Wrote (content .values) vs n vs′
+
+-- a row applied, and the lent lists are as they were
+pub record ReadDeclined (b : List ℕ) (ts : List ℕ) (vs : List ℤ) (e : Refusal) (ts′ : List ℕ) (vs′ : List ℤ) : Type 0 where
+  pub rows : readRows b (length ts) (length vs) ≡ Declined e
+  pub ticks : ts′ ≡ ts
+  pub values : vs′ ≡ vs
+
+abbrev pub ReadOutcome : List ℕ → List ℕ → List ℤ → Answer → List ℕ → List ℤ → Type 0
+ReadOutcome b ts vs (Given n r) ts′ vs′ = ReadBack b ts vs n r ts′ vs′
+ReadOutcome b ts vs (Refused e) ts′ vs′ = ReadDeclined b ts vs e ts′ vs′
+
+-- both records are accepted, and P holds of their contents
+pub record Compared (a b : List ℕ) (P : Content → Content → Type 0) : Type 0 where
+  pub first : Content
+  pub second : Content
+  pub first-accepted : Accepted a first
+  pub second-accepted : Accepted b second
+  pub holds : P first second
+
+abbrev pub SameOutcome : List ℕ → List ℕ → Comparison → Type 0
+SameOutcome a b Same = Compared a b SameRecord
+SameOutcome a b Different = Compared a b (λ x y. SameRecord x y → ⊥)
+SameOutcome a b (NotCompared e) = sameRows a b ≡ Declined e
+
+-- ---- what the passes go by
+
+abbrev pub verdictOf : Parsed → Verdict
+verdictOf (faulty k) = Fault k
+verdictOf (says x) = Gives (length (x .ticks)) (x .tolerance)
+
+abbrev pub samplesOf : Parsed → Samples
+samplesOf (faulty k) = fault k
+samplesOf (says x) = samples (x .ticks) (x .values)
+
+-- a cursor within a record of n bytes
+pub record Ready (n : ℕ) (c : Cursor) : Type 0 where
+  pub at : c .at ≤ n
+  pub begun : c .first ≤ c .tick
+  pub tick : c .tick ≤ 4294967295
+  pub level : c .level ≤ 65535
+  pub count : c .count ≤ 4096
+
+pub record Begun (n : ℕ) (c : Cursor) : Type 0 where
+  pub ready : Ready n c
+  pub one : c .count ≡ 1
+
+-- lists of m and n entries have one for the sample at the cursor
+pub record Entry (c : Cursor) (m n : ℕ) : Type 0 where
+  pub some : 1 ≤ c .count
+  pub ticks : c .count ≤ m
+  pub values : c .count ≤ n
+  pub tick : c .tick ≤ 4294967295
+  pub level : c .level ≤ 65535
+
+abbrev pub Fitting : Samples → ℕ → ℕ → Type 0
+Fitting (fault k) m n = ⊥
+Fitting (samples ts vs) m n = (length ts ≤ m) × (length ts ≤ n)
+
+abbrev pub Filled : Samples → List ℕ → List ℤ → List ℕ → List ℤ → Type 0
+Filled (fault k) ts vs ts′ vs′ = (ts′ ≡ ts) × (vs′ ≡ vs)
+Filled (samples t v) ts vs ts′ vs′ = (ts′ ≡ overwrite t ts) × (vs′ ≡ overwrite v vs)
