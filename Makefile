@@ -35,7 +35,7 @@ test-c:
 	@if command -v $(CXX) >/dev/null; then \
 	$(CXX) -x c++ -std=c++11 $(C_FLAGS) bindings/c/test.c -x none $(ARCHIVE) -o target/test-c++ && target/test-c++; fi
 
-# Time the reductions beside plain C and compare what they keep; count instructions where valgrind is present.
+# Time the calls beside plain C and compare what the reductions keep; count instructions where valgrind is present.
 bench: lib
 	@$(CC) -std=c99 $(C_FLAGS) $(BENCH_FLAGS) -DFLAGS='"$(CC) $(BENCH_FLAGS)"' bench/bench.c bench/peers.c $(ARCHIVE) -o target/bench
 	@target/bench

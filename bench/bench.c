@@ -1,4 +1,5 @@
-/* Times the library's reductions beside the peers in plain C, and counts what they keep.
+/* Times the library's reductions, writer and reader beside the peers in plain C, and counts what
+ * the reductions keep.
  *
  * bench: prints a table of times for each call, and the kept numbers.
  * bench kept: prints the kept numbers.
@@ -25,13 +26,13 @@ static void fail(const char *what) {
   exit(1);
 }
 
-typedef kovrelna_kept kept_call(const uint32_t *, size_t, const int16_t *, size_t,
-                                kovrelna_tolerance, uint16_t *, size_t);
+typedef kovrelna_answer kept_call(const uint32_t *, size_t, const int16_t *, size_t,
+                                  kovrelna_tolerance, uint16_t *, size_t);
 
 static reduced library_kept(kept_call *call, const uint32_t *ticks, const int16_t *values, size_t n,
                             int64_t p, int64_t q, uint16_t *out) {
   kovrelna_tolerance tolerance = kovrelna_ratio((uint64_t)p, (uint64_t)q);
-  kovrelna_kept kept = call(ticks, n, values, n, tolerance, out, n);
+  kovrelna_answer kept = call(ticks, n, values, n, tolerance, out, n);
   reduced answer = {(size_t)kept.value, 0};
   if (kept.number != 0) fail("the library refused a trace");
   return answer;
@@ -142,14 +143,18 @@ static int order(const void *a, const void *b) {
   return (x > y) - (x < y);
 }
 
-/* The median of the times of x, each divided by the time of y in the same repetition if there is
- * one. */
-static double median(const row *r, int x, int y) {
+/* The median of the times x, each divided by the time y of the same repetition if there is one. */
+static double median_of(const double *x, const double *y, int repetitions) {
   double list[REPETITIONS];
-  int k, repetitions = REDUCER[x].repetitions;
-  for (k = 0; k < repetitions; k++) list[k] = r->times[x][k] / (y < 0 ? 1.0 : r->times[y][k]);
+  int k;
+  for (k = 0; k < repetitions; k++) list[k] = x[k] / (y == NULL ? 1.0 : y[k]);
   qsort(list, (size_t)repetitions, sizeof(double), order);
   return list[repetitions / 2];
+}
+
+/* The median for reducer x, in the same way relative to reducer y if there is one. */
+static double median(const row *r, int x, int y) {
+  return median_of(r->times[x], y < 0 ? NULL : r->times[y], REDUCER[x].repetitions);
 }
 
 static uint16_t lists[REDUCERS][SAMPLES];
@@ -186,6 +191,112 @@ static void measure(row *r, size_t kind, const int64_t *tolerance) {
                       kovrelna_ratio((uint64_t)tolerance[0], (uint64_t)tolerance[1]))
            .passed)
     fail("the list of Douglas-Peucker is not within the tolerance");
+}
+
+/* ---- Records ---- */
+
+/* The longest record has 24,589 bytes. */
+enum { BYTES = 24589, RECORD_CALLS = 20 };
+
+/* A kept list of a trace and its record. */
+typedef struct kept_record {
+  const int16_t *values;
+  uint16_t list[SAMPLES];
+  size_t kept, length;
+  uint8_t bytes[BYTES];
+  uint32_t read_ticks[SAMPLES];
+  int16_t read_values[SAMPLES];
+} kept_record;
+
+/* Records are written with this tolerance, p/q. */
+enum { RECORD_P = 15, RECORD_Q = 2 };
+
+static size_t library_write(kept_record *r) {
+  kovrelna_answer answer =
+      kovrelna_write(ticks, SAMPLES, r->values, SAMPLES, r->list, r->kept,
+                     kovrelna_ratio(RECORD_P, RECORD_Q), r->bytes, BYTES, 0);
+  return answer.number == 0 ? (size_t)answer.value : 0;
+}
+
+static size_t plain_write(kept_record *r) {
+  return write_c(ticks, r->values, SAMPLES, r->list, r->kept, RECORD_P, RECORD_Q, r->bytes, BYTES);
+}
+
+static size_t library_read(kept_record *r) {
+  kovrelna_content content =
+      kovrelna_read(r->bytes, r->length, r->read_ticks, SAMPLES, r->read_values, SAMPLES);
+  return content.number == 0 ? (size_t)content.value : 0;
+}
+
+static size_t plain_read(kept_record *r) {
+  return read_c(r->bytes, r->length, r->read_ticks, r->read_values, SAMPLES);
+}
+
+enum { WRITE, WRITE_C, READ, READ_C, RECORDERS };
+
+static const struct {
+  const char *name;
+  size_t (*call)(kept_record *);
+} RECORDER[RECORDERS] = {{"kovrelna_write", library_write},
+                         {"write_c", plain_write},
+                         {"kovrelna_read", library_read},
+                         {"read_c", plain_read}};
+
+static double record_times[RECORDERS][REPETITIONS]; /* microseconds a call */
+
+/* The record of all samples or of walk's list, written by this writer. */
+static void make_record(kept_record *r, size_t kind, int all, size_t (*write)(kept_record *)) {
+  size_t k;
+  r->values = values[kind];
+  r->kept = SAMPLES;
+  if (!all) r->kept = walk_c(ticks, r->values, SAMPLES, RECORD_P, RECORD_Q, r->list).kept;
+  for (k = 0; all && k < SAMPLES; k++) r->list[k] = (uint16_t)k;
+  r->length = write(r);
+}
+
+/* Whether the samples read are those of the list. */
+static int is_read(const kept_record *r) {
+  size_t k;
+  for (k = 0; k < r->kept; k++)
+    if (r->read_ticks[k] != ticks[r->list[k]] || r->read_values[k] != r->values[r->list[k]])
+      return 0;
+  return 1;
+}
+
+static void print_records(void) {
+  static kept_record r;
+  static uint8_t bytes[BYTES];
+  int repetition, x, k, all;
+  size_t kind;
+  printf("\nRecords of walk's list and of all samples at tolerance 7.50. Microseconds a call.\n"
+         "         samples   bytes     write       C   ratio      read       C   ratio\n");
+  for (kind = 0; kind < COUNT(KINDS); kind++) {
+    for (all = 0; all <= 1; all++) {
+      make_record(&r, kind, all, plain_write);
+      memcpy(bytes, r.bytes, r.length);
+      for (repetition = 0; repetition < REPETITIONS; repetition++) {
+        for (x = 0; x < RECORDERS; x++) {
+          int writes = x == WRITE || x == WRITE_C;
+          size_t answer = 0;
+          double start;
+          if (writes) memset(r.bytes, 0, BYTES);
+          memset(r.read_ticks, 0, sizeof(r.read_ticks));
+          start = now();
+          for (k = 0; k < RECORD_CALLS; k++) answer = RECORDER[x].call(&r);
+          record_times[x][repetition] = 1e-3 * (now() - start) / RECORD_CALLS;
+          if (answer != (writes ? r.length : r.kept) || memcmp(r.bytes, bytes, r.length) != 0 ||
+              !(writes || is_read(&r)))
+            fail("a record is not written or read as the peer does");
+        }
+      }
+      printf("%-8s %7zu %7zu", KINDS[kind], r.kept, r.length);
+      for (x = 0; x < RECORDERS; x += 2)
+        printf(" %9.2f %7.2f %7.2f", median_of(record_times[x], NULL, REPETITIONS),
+               median_of(record_times[x + 1], NULL, REPETITIONS),
+               median_of(record_times[x], record_times[x + 1], REPETITIONS));
+      puts("");
+    }
+  }
 }
 
 /* ---- Tables ---- */
@@ -253,10 +364,17 @@ int main(int argc, char **argv) {
   int x;
   make_traces();
   if (argc == 4 && strcmp(argv[1], "once") == 0) {
-    for (kind = 0; kind < COUNT(KINDS); kind++)
+    static kept_record record;
+    for (kind = 0; kind < COUNT(KINDS); kind++) {
+      if (strcmp(argv[2], KINDS[kind]) != 0) continue;
       for (x = 0; x < REDUCERS; x++)
-        if (strcmp(argv[2], KINDS[kind]) == 0 && strcmp(argv[3], REDUCER[x].name) == 0)
-          call(x, kind, TOLERANCES[1]);
+        if (strcmp(argv[3], REDUCER[x].name) == 0) call(x, kind, TOLERANCES[1]);
+      for (x = 0; x < RECORDERS; x++) {
+        if (strcmp(argv[3], RECORDER[x].name) != 0) continue;
+        make_record(&record, kind, 1, x == WRITE_C ? library_write : plain_write);
+        RECORDER[x].call(&record);
+      }
+    }
     return 0;
   }
   if (argc == 2 && strcmp(argv[1], "kept") == 0) {
@@ -267,6 +385,7 @@ int main(int argc, char **argv) {
     for (t = 0; t < COUNT(TOLERANCES); t++)
       measure(&rows[kind * COUNT(TOLERANCES) + t], kind, TOLERANCES[t]);
   print_times();
+  print_records();
   puts("");
   print_kept();
   return 0;

@@ -198,3 +198,128 @@ reduced douglas_peucker_c(const uint32_t *ticks, const int16_t *values, size_t n
     if (keep[k]) out[answer.kept++] = (uint16_t)k;
   return answer;
 }
+
+static int is_list(const uint16_t *list, size_t kept, size_t n) {
+  size_t k;
+  if (kept == 0 || list[0] != 0 || list[kept - 1] != n - 1) return 0;
+  for (k = 1; k < kept; k++)
+    if (list[k] <= list[k - 1]) return 0;
+  return 1;
+}
+
+static int is_valid(const uint32_t *ticks, const int16_t *values, size_t i, size_t j, int64_t p,
+                    int64_t q) {
+  int64_t run = ticks[j] - (int64_t)ticks[i], change = values[j] - values[i];
+  size_t k;
+  for (k = i + 1; k < j; k++) {
+    int64_t distance = (values[k] - values[i]) * run - change * (ticks[k] - (int64_t)ticks[i]);
+    if (q * distance > p * run || q * distance < -p * run) return 0;
+  }
+  return 1;
+}
+
+static int is_short(int64_t advance, int64_t change) {
+  return advance <= 255 && change >= -128 && change <= 127;
+}
+
+/* Bytes of each command. */
+enum { TOLERANCE = 9, FIRST = 7, SHORT = 3, LONG = 6, END = 3 };
+
+static uint8_t *put(uint8_t *at, uint64_t number, int bytes) {
+  while (bytes-- > 0) *at++ = (uint8_t)(number >> (8 * bytes));
+  return at;
+}
+
+static uint64_t get(const uint8_t *at, int bytes) {
+  uint64_t number = 0;
+  while (bytes-- > 0) number = number << 8 | *at++;
+  return number;
+}
+
+size_t write_c(const uint32_t *ticks, const int16_t *values, size_t n, const uint16_t *list,
+               size_t kept, int64_t p, int64_t q, uint8_t *buffer, size_t size) {
+  size_t length = TOLERANCE + FIRST + END, k;
+  uint8_t *at = buffer;
+  if (!is_trace(ticks, n) || !is_list(list, kept, n)) return 0;
+  for (k = 1; k < kept; k++) {
+    size_t i = list[k - 1], j = list[k];
+    if (!is_valid(ticks, values, i, j, p, q)) return 0;
+    length += is_short(ticks[j] - (int64_t)ticks[i], values[j] - values[i]) ? SHORT : LONG;
+  }
+  if (size < length) return 0;
+  *at++ = 0x54;
+  at = put(at, (uint64_t)p, 5);
+  at = put(at, (uint64_t)q, 3);
+  *at++ = 0x41;
+  at = put(at, ticks[0], 4);
+  at = put(at, (uint16_t)values[0], 2);
+  for (k = 1; k < kept; k++) {
+    size_t i = list[k - 1], j = list[k];
+    int64_t advance = ticks[j] - (int64_t)ticks[i], change = values[j] - values[i];
+    if (is_short(advance, change)) {
+      *at++ = 0x53;
+      *at++ = (uint8_t)advance;
+      *at++ = (uint8_t)change;
+    } else {
+      *at++ = 0x4C;
+      at = put(at, (uint64_t)advance, 3);
+      at = put(at, (uint16_t)values[j], 2);
+    }
+  }
+  *at++ = 0x45;
+  put(at, kept, 2);
+  return length;
+}
+
+static int is_reduced(uint64_t p, uint64_t q) {
+  if (q < 1 || q > SPAN || p > 65535 * q) return 0;
+  while (q != 0) {
+    uint64_t rest = p % q;
+    p = q;
+    q = rest;
+  }
+  return p == 1;
+}
+
+/* Moves the sample by a whole step; returns the next command. */
+static const uint8_t *take_step(const uint8_t *at, int64_t *tick, int64_t *value) {
+  if (at[0] == 0x53) {
+    *tick += at[1];
+    *value += (int8_t)at[2];
+    return at + SHORT;
+  }
+  *tick += (int64_t)get(at + 1, 3);
+  *value = (int16_t)get(at + 4, 2);
+  return at + LONG;
+}
+
+size_t read_c(const uint8_t *record, size_t length, uint32_t *ticks, int16_t *values, size_t room) {
+  const uint8_t *at, *steps, *end = record + length;
+  size_t samples = 1, k;
+  int64_t first, tick, value;
+  if (length < TOLERANCE + FIRST + END || record[0] != 0x54 || record[TOLERANCE] != 0x41) return 0;
+  if (!is_reduced(get(record + 1, 5), get(record + 6, 3))) return 0;
+  at = steps = record + TOLERANCE + FIRST;
+  first = tick = (int64_t)get(record + TOLERANCE + 1, 4);
+  value = (int16_t)get(record + TOLERANCE + 5, 2);
+  while ((end - at >= SHORT && at[0] == 0x53) || (end - at >= LONG && at[0] == 0x4C)) {
+    int64_t from = tick, before = value;
+    int is_short_step = at[0] == 0x53;
+    at = take_step(at, &tick, &value);
+    if (tick == from || is_short(tick - from, value - before) != is_short_step ||
+        tick - first > SPAN || tick > UINT32_MAX || value != (int16_t)value || samples == SAMPLES)
+      return 0;
+    samples++;
+  }
+  if (end - at != END || at[0] != 0x45 || get(at + 1, 2) != samples || room < samples) return 0;
+  tick = first;
+  value = (int16_t)get(record + TOLERANCE + 5, 2);
+  ticks[0] = (uint32_t)tick;
+  values[0] = (int16_t)value;
+  for (k = 1; k < samples; k++) {
+    steps = take_step(steps, &tick, &value);
+    ticks[k] = (uint32_t)tick;
+    values[k] = (int16_t)value;
+  }
+  return samples;
+}

@@ -1,5 +1,6 @@
-/* Reductions in plain C, to compare with. A peer checks the trace as the library does, takes an
- * allowed tolerance p/q and an output of n entries, and writes the kept list. */
+/* Reductions, the writer and the reader in plain C, to compare with. A peer that takes a trace
+ * checks it as the library does, and takes an allowed tolerance p/q in lowest terms. A reduction
+ * takes an output of n entries and writes the kept list. */
 #ifndef PEERS_H
 #define PEERS_H
 
@@ -33,5 +34,14 @@ reduced minimum_c_nostop(const uint32_t *ticks, const int16_t *values, size_t n,
  * not valid. */
 reduced douglas_peucker_c(const uint32_t *ticks, const int16_t *values, size_t n, int64_t p,
                           int64_t q, uint16_t *out);
+
+/* Writes the record of the kept list. Returns its length, 0 if the trace, the list or a link is
+ * refused or the buffer has no room. */
+size_t write_c(const uint32_t *ticks, const int16_t *values, size_t n, const uint16_t *list,
+               size_t kept, int64_t p, int64_t q, uint8_t *buffer, size_t size);
+
+/* Checks the record, then reads its samples. Returns their number, 0 if the record is faulty or an
+ * output has no room. */
+size_t read_c(const uint8_t *record, size_t length, uint32_t *ticks, int16_t *values, size_t room);
 
 #endif

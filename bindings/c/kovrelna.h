@@ -1,6 +1,6 @@
 /* Kovrelna: reduced traces. For C and C++; link with libkovrelna.a (x86-64, System V ABI).
  *
- * Contents, in order: refusals; tolerances; lists; reductions.
+ * Contents, in order: refusals; tolerances; lists; reductions; range codes; records.
  *
  * A trace is two lists of equal length: ticks and values (ADC counts). It has 1 to 4,096 samples,
  * numbered from 0. Ticks rise strictly; the last minus the first is at most 1,048,575.
@@ -39,7 +39,7 @@ extern "C" {
  * list and buffer as it was.
  */
 enum kovrelna_refusal {
-  /* No samples, too many, or ticks and values differ in length. Value: 0. */
+  /* No samples or codes, too many, or ticks and values differ in length. Value: 0. */
   KOVRELNA_REFUSED_LENGTH = 1,
   /* A tick is not above the one before. Value: the first such sample. */
   KOVRELNA_REFUSED_TICK = 2,
@@ -62,6 +62,12 @@ enum kovrelna_refusal {
   /* The output is too short. Value: the entries or bytes needed. */
   KOVRELNA_REFUSED_ROOM = 10
 };
+
+/* number 0: value is what the call says. Otherwise: the refusal's number and value. */
+typedef struct kovrelna_answer {
+  uint32_t number;
+  uint64_t value;
+} kovrelna_answer;
 
 /* ---- Tolerances ---- */
 
@@ -121,8 +127,7 @@ kovrelna_held kovrelna_hold(kovrelna_tolerance tolerance);
 
 /* ---- Lists ---- */
 
-/* number 0: if every link is valid, passed is 1 and value is 0; if not, passed is 0 and value is the
- * position of the first invalid link.
+/* number 0: passed is 1 for yes, 0 for no, and value is what the call says.
  * Otherwise: the refusal's number and value; passed is 0. */
 typedef struct kovrelna_verdict {
   uint32_t number;
@@ -130,7 +135,8 @@ typedef struct kovrelna_verdict {
   uint64_t value;
 } kovrelna_verdict;
 
-/* Whether every link of the proposed list is valid on this trace. Refusals: 1, 2, 3, 4, 6. */
+/* Whether every link of the proposed list is valid on this trace. The value with no is the position
+ * of the first invalid link, with yes 0. Refusals: 1, 2, 3, 4, 6. */
 kovrelna_verdict kovrelna_judge(const uint32_t *ticks, size_t ticks_len,
                                 const int16_t *values, size_t values_len,
                                 const uint16_t *list, size_t list_len,
@@ -138,22 +144,17 @@ kovrelna_verdict kovrelna_judge(const uint32_t *ticks, size_t ticks_len,
 
 /* ---- Reductions ----
  *
- * Each finds a kept list of the trace with every link valid. Refusals: 1, 2, 3, 4, 10. The output
- * needs as many entries as the trace has samples, however many are kept; 10 returns that number.
+ * Each finds a kept list of the trace with every link valid. The value is the kept number, and the
+ * first that many entries of out are the kept list; the entries after them are as they were.
+ *
+ * Refusals: 1, 2, 3, 4, 10. The output needs as many entries as the trace has samples, however many
+ * are kept; 10 returns that number.
  *
  * The lists of walk and gallop have at most as many samples as any kept list whose links are all
  * valid at half the tolerance.
  */
 
-/* number 0: value is the kept number, and the first that many entries of out are the kept list; the
- * entries after them are as they were.
- * Otherwise: the refusal's number and value; out is as it was. */
-typedef struct kovrelna_kept {
-  uint32_t number;
-  uint64_t value;
-} kovrelna_kept;
-
-/* The same, with the probe total; probes is 0 with a refusal. */
+/* An answer, with the probe total; probes is 0 with a refusal. */
 typedef struct kovrelna_galloped {
   uint32_t number;
   uint64_t value;
@@ -162,10 +163,10 @@ typedef struct kovrelna_galloped {
 
 /* From sample i, beginning with 0, tests the links to i+1, i+2, ... and keeps the sample before the
  * first invalid one, or the last sample if none is invalid; goes on from there. */
-kovrelna_kept kovrelna_walk(const uint32_t *ticks, size_t ticks_len,
-                            const int16_t *values, size_t values_len,
-                            kovrelna_tolerance tolerance,
-                            uint16_t *out, size_t out_len);
+kovrelna_answer kovrelna_walk(const uint32_t *ticks, size_t ticks_len,
+                              const int16_t *values, size_t values_len,
+                              kovrelna_tolerance tolerance,
+                              uint16_t *out, size_t out_len);
 
 /* From sample i, beginning with 0, probes the links to i+2, i+4, i+8, ... until one is invalid. Low
  * is the last valid offset, or 1; high is the invalid one. While low < high - 1, probes the offset
@@ -179,10 +180,72 @@ kovrelna_galloped kovrelna_gallop(const uint32_t *ticks, size_t ticks_len,
 
 /* The kept list of valid links with fewest samples. Of several, the one whose second sample is
  * latest, then its third, and so on. */
-kovrelna_kept kovrelna_minimum(const uint32_t *ticks, size_t ticks_len,
+kovrelna_answer kovrelna_minimum(const uint32_t *ticks, size_t ticks_len,
+                                 const int16_t *values, size_t values_len,
+                                 kovrelna_tolerance tolerance,
+                                 uint16_t *out, size_t out_len);
+
+/* ---- Range codes ----
+ *
+ * A code is one byte, 32 e + m with m below 32; its value is 2^e times (m + 32), minus 32. Every
+ * code is legal.
+ */
+
+/* Writes the value of each code. The value of the answer is the number of values written, one for
+ * each code; the entries of out after them are as they were. Refusals: 1 if there are no codes or
+ * more than 4,096; 10 with the number of values. */
+kovrelna_answer kovrelna_expand(const uint8_t *codes, size_t codes_len,
+                                int16_t *out, size_t out_len);
+
+/* ---- Records ----
+ *
+ * A record holds a tolerance and the kept samples of a trace. It consists of commands of one byte,
+ * here hexadecimal, with fixed operands, high byte first, signed ones in two's complement:
+ *
+ * 54  tolerance: p (5 bytes), q (3)
+ * 41  first sample: tick (4), value (2)
+ * 53  short step: advance (1, from 1), change of value (1, signed)
+ * 4C  long step: advance (3, from 1), new value (2)
+ * 45  end: the number of samples given (2)
+ *
+ * They come in the order 54, 41, any steps, 45, and nothing more. The tolerance is allowed and in
+ * lowest terms. A step is short exactly if its advance is at most 255 and its change from -128 to
+ * 127. The samples obey the limits of a trace. So a record has at most 24,589 bytes.
+ *
+ * A fault lies at the first byte of the first command that breaks a rule or is cut off, at the first
+ * byte after a whole 45 command, or at the record's end where a command is missing.
+ */
+
+/* Writes the record of the listed samples and the tolerance into the buffer, from the byte at
+ * `place` on. The value is the record's length; the bytes before and after the record are as they
+ * were. Refusals: 1, 2, 3, 4, 6, 7, 10. 10 returns the record's length; from a place past the end of
+ * the buffer there is no room. */
+kovrelna_answer kovrelna_write(const uint32_t *ticks, size_t ticks_len,
                                const int16_t *values, size_t values_len,
+                               const uint16_t *list, size_t list_len,
                                kovrelna_tolerance tolerance,
-                               uint16_t *out, size_t out_len);
+                               uint8_t *buffer, size_t buffer_len, size_t place);
+
+/* number 0: value is the number of samples and p/q is the record's tolerance.
+ * Otherwise: the refusal's number and value; p and q are 0. */
+typedef struct kovrelna_content {
+  uint32_t number;
+  uint64_t value;
+  uint64_t p;
+  uint64_t q;
+} kovrelna_content;
+
+/* Reads a record: its samples fill the first entries of ticks and of values; the entries after them
+ * are as they were. Refusals: 8; 10 with the number of samples, as each output needs an entry for
+ * each. */
+kovrelna_content kovrelna_read(const uint8_t *record, size_t record_len,
+                               uint32_t *ticks, size_t ticks_len,
+                               int16_t *values, size_t values_len);
+
+/* Whether two records have the same samples, whatever their tolerances. The value is 0. Refusals: 8
+ * for the first record, then 9 for the second. */
+kovrelna_verdict kovrelna_same(const uint8_t *first, size_t first_len,
+                               const uint8_t *second, size_t second_len);
 
 #ifdef __cplusplus
 }

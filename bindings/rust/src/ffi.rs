@@ -1,6 +1,12 @@
 //! The C interface, call by call, as safe functions. `kovrelna.h` describes the structs.
 
 #[repr(C)]
+pub struct Answer {
+    pub number: u32,
+    pub value: u64,
+}
+
+#[repr(C)]
 pub struct Tolerance {
     pub form: u64,
     pub p: u64,
@@ -25,16 +31,18 @@ pub struct Verdict {
 }
 
 #[repr(C)]
-pub struct Kept {
-    pub number: u32,
-    pub value: u64,
-}
-
-#[repr(C)]
 pub struct Galloped {
     pub number: u32,
     pub value: u64,
     pub probes: u64,
+}
+
+#[repr(C)]
+pub struct Content {
+    pub number: u32,
+    pub value: u64,
+    pub p: u64,
+    pub q: u64,
 }
 
 extern "C" {
@@ -56,7 +64,7 @@ extern "C" {
         tolerance: Tolerance,
         out: *mut u16,
         out_len: usize,
-    ) -> Kept;
+    ) -> Answer;
     fn kovrelna_gallop(
         ticks: *const u32,
         ticks_len: usize,
@@ -74,8 +82,40 @@ extern "C" {
         tolerance: Tolerance,
         out: *mut u16,
         out_len: usize,
-    ) -> Kept;
+    ) -> Answer;
+    fn kovrelna_expand(codes: *const u8, codes_len: usize, out: *mut i16, out_len: usize)
+        -> Answer;
+    fn kovrelna_write(
+        ticks: *const u32,
+        ticks_len: usize,
+        values: *const i16,
+        values_len: usize,
+        list: *const u16,
+        list_len: usize,
+        tolerance: Tolerance,
+        buffer: *mut u8,
+        buffer_len: usize,
+        place: usize,
+    ) -> Answer;
+    fn kovrelna_read(
+        record: *const u8,
+        record_len: usize,
+        ticks: *mut u32,
+        ticks_len: usize,
+        values: *mut i16,
+        values_len: usize,
+    ) -> Content;
+    fn kovrelna_same(
+        first: *const u8,
+        first_len: usize,
+        second: *const u8,
+        second_len: usize,
+    ) -> Verdict;
 }
+
+// Each pointer and length passed below are those of one slice, which is aligned, valid for reads and
+// borrowed for the whole call. An output is borrowed mutably, so it is valid for writes and overlaps
+// no other slice. The calls write only to outputs and accept every content.
 
 pub fn hold(tolerance: Tolerance) -> Held {
     // SAFETY: the call takes a number struct by value and accepts every content.
@@ -83,8 +123,7 @@ pub fn hold(tolerance: Tolerance) -> Held {
 }
 
 pub fn judge(ticks: &[u32], values: &[i16], list: &[u16], tolerance: Tolerance) -> Verdict {
-    // SAFETY: each pointer and length are those of one slice, which is aligned, valid for reads and
-    // borrowed for the whole call. The call only reads them and accepts every content.
+    // SAFETY: as above; there is no output.
     unsafe {
         kovrelna_judge(
             ticks.as_ptr(),
@@ -98,28 +137,19 @@ pub fn judge(ticks: &[u32], values: &[i16], list: &[u16], tolerance: Tolerance) 
     }
 }
 
-/// A reduction as it is declared above.
-type Reduction<Answer> = unsafe extern "C" fn(
-    *const u32,
-    usize,
-    *const i16,
-    usize,
-    Tolerance,
-    *mut u16,
-    usize,
-) -> Answer;
+/// A reduction as it is declared above, with its answer.
+type Reduction<A> =
+    unsafe extern "C" fn(*const u32, usize, *const i16, usize, Tolerance, *mut u16, usize) -> A;
 
 /// Lends the slices to a reduction. `reduction` is one of those declared above.
-fn reduce<Answer>(
-    reduction: Reduction<Answer>,
+fn reduce<A>(
+    reduction: Reduction<A>,
     ticks: &[u32],
     values: &[i16],
     tolerance: Tolerance,
     out: &mut [u16],
-) -> Answer {
-    // SAFETY: each pointer and length are those of one slice, which is aligned, valid for reads and
-    // borrowed for the whole call. `out` is borrowed mutably, so it is valid for writes and overlaps
-    // no other. The call writes only there and accepts every content.
+) -> A {
+    // SAFETY: as above; the output is `out`.
     unsafe {
         reduction(
             ticks.as_ptr(),
@@ -133,7 +163,7 @@ fn reduce<Answer>(
     }
 }
 
-pub fn walk(ticks: &[u32], values: &[i16], tolerance: Tolerance, out: &mut [u16]) -> Kept {
+pub fn walk(ticks: &[u32], values: &[i16], tolerance: Tolerance, out: &mut [u16]) -> Answer {
     reduce(kovrelna_walk, ticks, values, tolerance, out)
 }
 
@@ -141,6 +171,55 @@ pub fn gallop(ticks: &[u32], values: &[i16], tolerance: Tolerance, out: &mut [u1
     reduce(kovrelna_gallop, ticks, values, tolerance, out)
 }
 
-pub fn minimum(ticks: &[u32], values: &[i16], tolerance: Tolerance, out: &mut [u16]) -> Kept {
+pub fn minimum(ticks: &[u32], values: &[i16], tolerance: Tolerance, out: &mut [u16]) -> Answer {
     reduce(kovrelna_minimum, ticks, values, tolerance, out)
+}
+
+pub fn expand(codes: &[u8], out: &mut [i16]) -> Answer {
+    // SAFETY: as above; the output is `out`.
+    unsafe { kovrelna_expand(codes.as_ptr(), codes.len(), out.as_mut_ptr(), out.len()) }
+}
+
+pub fn write(
+    ticks: &[u32],
+    values: &[i16],
+    list: &[u16],
+    tolerance: Tolerance,
+    buffer: &mut [u8],
+    place: usize,
+) -> Answer {
+    // SAFETY: as above; the output is `buffer`.
+    unsafe {
+        kovrelna_write(
+            ticks.as_ptr(),
+            ticks.len(),
+            values.as_ptr(),
+            values.len(),
+            list.as_ptr(),
+            list.len(),
+            tolerance,
+            buffer.as_mut_ptr(),
+            buffer.len(),
+            place,
+        )
+    }
+}
+
+pub fn read(record: &[u8], ticks: &mut [u32], values: &mut [i16]) -> Content {
+    // SAFETY: as above; the outputs are `ticks` and `values`.
+    unsafe {
+        kovrelna_read(
+            record.as_ptr(),
+            record.len(),
+            ticks.as_mut_ptr(),
+            ticks.len(),
+            values.as_mut_ptr(),
+            values.len(),
+        )
+    }
+}
+
+pub fn same(first: &[u8], second: &[u8]) -> Verdict {
+    // SAFETY: as above; there is no output.
+    unsafe { kovrelna_same(first.as_ptr(), first.len(), second.as_ptr(), second.len()) }
 }

@@ -3,6 +3,8 @@
 //! - [`Tolerance`], [`Ratio`], [`hold`]: a tolerance, and the reduced ratio it is held as.
 //! - [`Verdict`], [`judge`]: whether every link of a proposed list is valid.
 //! - [`walk`], [`Galloped`], [`gallop`], [`minimum`]: kept lists with every link valid.
+//! - [`expand`]: the values of range codes.
+//! - [`write()`], [`Content`], [`read`], [`same`]: records of kept samples.
 //! - [`Refusal`]: why a call declined.
 //!
 //! A trace is two slices of equal length: ticks and values (ADC counts). It has 1 to 4,096 samples,
@@ -41,7 +43,7 @@ use std::fmt;
 /// the first that fits; a refused call leaves every slice as it was.
 #[derive(Clone, Copy, Debug, PartialEq, Eq, Hash)]
 pub enum Refusal {
-    /// 1: no samples, too many, or ticks and values differ in length.
+    /// 1: no samples or codes, too many, or ticks and values differ in length.
     Length,
     /// 2: the first sample whose tick is not above the one before.
     Tick(usize),
@@ -116,11 +118,22 @@ impl Refusal {
     }
 }
 
+impl ffi::Answer {
+    /// The value, or the refusal.
+    fn value(self) -> Result<usize, Refusal> {
+        Refusal::check(self.number, self.value)?;
+        Ok(self.value as usize)
+    }
+}
+
 impl fmt::Display for Refusal {
     fn fmt(&self, f: &mut fmt::Formatter) -> fmt::Result {
         match self {
             Refusal::Length => {
-                write!(f, "no samples, too many, or not as many values as ticks")
+                write!(
+                    f,
+                    "no samples or codes, too many, or not as many values as ticks"
+                )
             }
             Refusal::Tick(sample) => {
                 write!(f, "the tick of sample {sample} is not above the one before")
@@ -277,13 +290,7 @@ pub fn walk(
     tolerance: Tolerance,
     out: &mut [u16],
 ) -> Result<usize, Refusal> {
-    kept(ffi::walk(ticks, values, tolerance.into(), out))
-}
-
-/// The kept number, or the refusal.
-fn kept(answer: ffi::Kept) -> Result<usize, Refusal> {
-    Refusal::check(answer.number, answer.value)?;
-    Ok(answer.value as usize)
+    ffi::walk(ticks, values, tolerance.into(), out).value()
 }
 
 /// What [`gallop`] returns.
@@ -350,5 +357,136 @@ pub fn minimum(
     tolerance: Tolerance,
     out: &mut [u16],
 ) -> Result<usize, Refusal> {
-    kept(ffi::minimum(ticks, values, tolerance.into(), out))
+    ffi::minimum(ticks, values, tolerance.into(), out).value()
+}
+
+/// Writes the value of each range code: a code is 32 e + m with m below 32, and its value is 2^e times
+/// (m + 32), minus 32. Every code is legal.
+///
+/// Returns the number of values written, one for each code; the entries of `out` after them are as
+/// they were. Refusals: [`Refusal::Length`] if there are no codes or more than 4,096,
+/// [`Refusal::Room`].
+///
+/// ```
+/// use kovrelna::{expand, Refusal};
+///
+/// let mut out = [9; 6];
+/// assert_eq!(expand(&[31, 32, 63, 64, 255], &mut out), Ok(5));
+/// assert_eq!(out, [31, 32, 94, 96, 8032, 9]);
+/// assert_eq!(expand(&[7, 7, 7], &mut out[..2]), Err(Refusal::Room(3)));
+/// ```
+pub fn expand(codes: &[u8], out: &mut [i16]) -> Result<usize, Refusal> {
+    ffi::expand(codes, out).value()
+}
+
+/// Writes the record of the listed samples and the tolerance into the buffer, beginning with the byte
+/// at `place`.
+///
+/// A record consists of commands of one byte, here hexadecimal, with fixed operands, high byte first,
+/// signed ones in two's complement:
+///
+/// | Byte | Operands |
+/// |---|---|
+/// | 54 | tolerance: p (5 bytes), q (3) |
+/// | 41 | first sample: tick (4), value (2) |
+/// | 53 | short step: advance (1, from 1), change of value (1, signed) |
+/// | 4C | long step: advance (3, from 1), new value (2) |
+/// | 45 | end: the number of samples given (2) |
+///
+/// They come in the order 54, 41, any steps, 45, and nothing more. The tolerance is in lowest terms.
+/// A step is short exactly if its advance is at most 255 and its change from -128 to 127. A record has
+/// at most 24,589 bytes.
+///
+/// Returns the record's length; the bytes before and after the record are as they were. Refusals:
+/// [`Refusal::Length`], [`Refusal::Tick`], [`Refusal::Span`], [`Refusal::Tolerance`],
+/// [`Refusal::List`], [`Refusal::Link`], and [`Refusal::Room`] with the record's length; from a place
+/// past the end of the buffer there is no room.
+///
+/// ```
+/// use kovrelna::{write, Refusal, Tolerance};
+///
+/// let (ticks, values) = ([0, 1, 3], [0, 1, 1]);
+/// let tolerance = Tolerance::Ratio { p: 4, q: 6 };
+/// let mut buffer = [9; 25];
+/// assert_eq!(write(&ticks, &values, &[0, 2], tolerance, &mut buffer, 2), Ok(22));
+/// assert_eq!(buffer[..11], [9, 9, 0x54, 0, 0, 0, 0, 2, 0, 0, 3]);
+/// assert_eq!(buffer[11..18], [0x41, 0, 0, 0, 0, 0, 0]);
+/// assert_eq!(buffer[18..], [0x53, 3, 1, 0x45, 0, 2, 9]);
+/// let answer = write(&ticks, &values, &[0, 2], tolerance, &mut buffer, 4);
+/// assert_eq!(answer, Err(Refusal::Room(22)));
+/// ```
+pub fn write(
+    ticks: &[u32],
+    values: &[i16],
+    list: &[u16],
+    tolerance: Tolerance,
+    buffer: &mut [u8],
+    place: usize,
+) -> Result<usize, Refusal> {
+    ffi::write(ticks, values, list, tolerance.into(), buffer, place).value()
+}
+
+/// What [`read`] returns.
+#[derive(Clone, Copy, Debug, PartialEq, Eq, Hash)]
+pub struct Content {
+    /// The number of samples.
+    pub samples: usize,
+    /// The record's tolerance.
+    pub tolerance: Ratio,
+}
+
+/// Reads a record, as [`write()`] describes it: its samples fill the first entries of `ticks` and of
+/// `values`; the entries after them are as they were.
+///
+/// Refusals: [`Refusal::Record`], and [`Refusal::Room`] with the number of samples, as each output
+/// needs an entry for each. A fault lies at the first byte of the first command that breaks a rule or
+/// is cut off, at the first byte after a whole 45 command, or at the record's end where a command is
+/// missing.
+///
+/// ```
+/// use kovrelna::{read, Content, Ratio, Refusal};
+///
+/// let record = [
+///     0x54, 0, 0, 0, 0, 2, 0, 0, 3, // tolerance 2/3
+///     0x41, 0, 0, 0, 0, 0, 0, // tick 0, value 0
+///     0x53, 3, 1, // 3 ticks on, 1 up
+///     0x45, 0, 2, // two samples
+/// ];
+/// let (mut ticks, mut values) = ([9; 3], [9; 2]);
+/// let tolerance = Ratio { p: 2, q: 3 };
+/// assert_eq!(read(&record, &mut ticks, &mut values), Ok(Content { samples: 2, tolerance }));
+/// assert_eq!((ticks, values), ([0, 3, 9], [0, 1]));
+/// assert_eq!(read(&record[..18], &mut ticks, &mut values), Err(Refusal::Record(16)));
+/// assert_eq!(read(&record, &mut ticks, &mut values[..1]), Err(Refusal::Room(2)));
+/// ```
+pub fn read(record: &[u8], ticks: &mut [u32], values: &mut [i16]) -> Result<Content, Refusal> {
+    let content = ffi::read(record, ticks, values);
+    Refusal::check(content.number, content.value)?;
+    Ok(Content {
+        samples: content.value as usize,
+        tolerance: Ratio {
+            p: content.p,
+            q: content.q,
+        },
+    })
+}
+
+/// Whether two records have the same samples, whatever their tolerances. Refusals:
+/// [`Refusal::Record`] for the first, then [`Refusal::SecondRecord`] for the second.
+///
+/// ```
+/// use kovrelna::{same, write, Refusal, Tolerance};
+///
+/// let mut records = [[0; 22]; 2];
+/// for (record, counts) in records.iter_mut().zip([1.0, 2.5]) {
+///     write(&[0, 1, 3], &[0, 1, 1], &[0, 2], Tolerance::Counts(counts), record, 0)?;
+/// }
+/// assert_eq!(same(&records[0], &records[1]), Ok(true));
+/// assert_eq!(same(&records[0], &records[1][..21]), Err(Refusal::SecondRecord(19)));
+/// # Ok::<(), Refusal>(())
+/// ```
+pub fn same(first: &[u8], second: &[u8]) -> Result<bool, Refusal> {
+    let verdict = ffi::same(first, second);
+    Refusal::check(verdict.number, verdict.value)?;
+    Ok(verdict.passed != 0)
 }

@@ -4,3 +4,4 @@ pub mod PrepareLaws
 pub mod JudgeLaws
 pub mod ReduceLaws
 pub mod ExpandLaws
+pub mod WriteLaws

@@ -5,3 +5,4 @@ pub mod Judge
 pub mod Reduce
 pub mod Shortest
 pub mod Expand
+pub mod Write

@@ -50,3 +50,4 @@ mod prepare;
 pub mod read;
 pub mod same;
 pub mod walk;
+pub mod write;

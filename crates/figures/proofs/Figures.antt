@@ -17,6 +17,10 @@ use Rattle.refusal.specs.declared.Checked.the-variants.{Fine, Refused}
 use Rattle.tolerance.specs.declared.Tolerance.the-variants.{Ratio}
 use Rattle.trace.specs.Trace.{traceRows}
 use Rattle.trace.specs.Link.{deviation, within, allFrom, valid, criterion, greatest, farthest, linkError}
+use Rattle.codes.specs.Code.{codeValue, codeValues}
+use Rattle.format.specs.Number.{bytesOnto}
+use Rattle.format.specs.Format.{stepsOnto, samplesOnto, encode}
+use Rattle.writer.specs.Writing.{selected}
 use Rattle.proposed.specs.Proposed.{badAt, listRow, firstInvalid}
 use Rattle.engine.specs.declared.Verdict.the-variants.{Yes, No}
 use Rattle.engine.specs.Prepare.{commonRows, criterionOf}
@@ -131,3 +135,16 @@ span-too-long = refl
 tick-not-above : traceRows 4096 (5 ∷ 5 ∷ []) flat ≡ Refused (Tick 1)
 unfolding traceRows first firstOf
 tick-not-above = refl
+
+-- ---- that trace, list 0 2, tolerance 2/3: its record
+
+slope-record : encode (selected (over 2 3) slopeTicks slopeValues (0 ∷ 2 ∷ []))
+    ≡ 0x54 ∷ 0 ∷ 0 ∷ 0 ∷ 0 ∷ 2 ∷ 0 ∷ 0 ∷ 3 ∷ 0x41 ∷ 0 ∷ 0 ∷ 0 ∷ 0 ∷ 0 ∷ 0 ∷ 0x53 ∷ 3 ∷ 1 ∷ 0x45 ∷ 0 ∷ 2 ∷ []
+unfolding encode samplesOnto stepsOnto bytesOnto
+slope-record = refl
+
+-- ---- codes 31, 32, 63, 64, 255 give 31, 32, 94, 96, 8032
+
+codes-values : codeValues (31 ∷ 32 ∷ 63 ∷ 64 ∷ 255 ∷ []) ≡ pos 31 ∷ pos 32 ∷ pos 94 ∷ pos 96 ∷ pos 8032 ∷ []
+unfolding codeValue
+codes-values = refl

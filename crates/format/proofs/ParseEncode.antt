@@ -112,6 +112,11 @@ module _ (r : Ratio) (t : ℕ) (ts : List ℕ) (v : ℤ) (vs : List ℤ) (h : Le
       steps-read b 4096 c ts vs (omega arith) (legal-follows h) (omega (arith, h .trace .few)) (omega (arith, h .trace .few)) (e₂ ∙ ap (λ (m : ℕ). stepsOnto t (level v) ts vs (commandOnto (End m) [])) (sym y)) in
       rw (command-read ys (Tolerance r) (omega (arith, h .held)), held-allowed r (h .held), e₁, command-read xs (First t (level v)) (omega arith), s, value-level v (h .value-range 0))
 
+-- a record has at least its tolerance's bytes
+pub record-long : (x : Content) → 9 ≤ length (encode x)
+unfolding encode
+record-long x = omega (arith, command-length (Tolerance (x .tolerance)) (samplesOnto (x .ticks) (x .values)))
+
 -- every legal content is read as it was written
 pub parse-encode : (x : Content) → Legal x → parse (encode x) ≡ says x
 parse-encode x = go (x .tolerance) (x .ticks) (x .values)

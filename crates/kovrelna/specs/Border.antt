@@ -23,6 +23,7 @@ use Rattle.engine.specs.declared.Probed.the-variants.{Kept as IsGalloped, Refus
 use Rattle.engine.specs.declared.Written.{Written}
 use Rattle.engine.specs.declared.Written.the-variants.{Count, Refused as NotWritten}
 use Rattle.engine.specs.Expand.{ExpandOutcome}
+use Rattle.engine.specs.Write.{WriteOutcome}
 use Rattle.reader.specs.declared.Answer as R
 use Rattle.reader.specs.declared.Answer.the-variants.{Samples, Refused as NotRead}
 use Rattle.reader.specs.declared.Comparison.{Comparison}
@@ -93,6 +94,11 @@ pub record ExpandExport (codes : List ℕ) (o : List ℤ) (r : Answer) (o′ : L
   pub answer : Written
   pub is : r ≡ writtenOf answer
   pub outcome : ExpandOutcome codes o answer o′
+
+pub record WriteExport (ts : List ℕ) (vs : List ℤ) (l : List ℕ) (t : Tolerance) (o : List ℕ) (place : ℕ) (r : Answer) (o′ : List ℕ) : Type 0 where
+  pub answer : Written
+  pub is : r ≡ writtenOf answer
+  pub outcome : WriteOutcome ts vs l (toleranceOf t) o place answer o′
 
 pub record ReadExport (b ts : List ℕ) (vs : List ℤ) (r : Content) (ts′ : List ℕ) (vs′ : List ℤ) : Type 0 where
   pub answer : R.Answer

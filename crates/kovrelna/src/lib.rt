@@ -3,7 +3,7 @@ ghost use mathlib.Core.Path.{_≡_};
 ghost use Rattle.tolerance.specs.Meaning.{meaning};
 ghost use Rattle.engine.specs.Hold.{holdingOf};
 ghost use Rattle.engine.specs.Judge.{judgeOf};
-ghost use Rattle.kovrelna.specs.Border.{toleranceOf, heldOf, verdictOf, keptOf, gallopedOf, writtenOf, contentOf, comparedOf, WalkExport, GallopExport, MinimumExport, ExpandExport, ReadExport, SameExport};
+ghost use Rattle.kovrelna.specs.Border.{toleranceOf, heldOf, verdictOf, keptOf, gallopedOf, writtenOf, contentOf, comparedOf, WalkExport, GallopExport, MinimumExport, ExpandExport, WriteExport, ReadExport, SameExport};
 
 // A tolerance: form 0 is the ratio p/q, form 1 is x counts, form 2 is the noise x times the multiple y. No other form is allowed.
 #[repr(C)]
@@ -272,6 +272,21 @@ pub extern "C" fn kovrelna_expand(codes: &[u8], out: &mut [i16]) -> Answer
     ensures { λ r. ⌜ ExpandExport (now (codes .entry)) (now (out .entry)) r (now (out .exit)) ⌝ }
 {
     written_of(engine::expand::expand(codes, out))
+}
+
+// Writes the record of the list's samples and the tolerance into the buffer from a place on.
+#[no_mangle]
+pub extern "C" fn kovrelna_write(
+    ticks: &[u32],
+    values: &[i16],
+    list: &[u16],
+    t: Tolerance,
+    buffer: &mut [u8],
+    place: usize,
+) -> Answer
+    ensures { λ r. ⌜ WriteExport (now (ticks .entry)) (now (values .entry)) (now (list .entry)) t (now (buffer .entry)) place r (now (buffer .exit)) ⌝ }
+{
+    written_of(engine::write::write(ticks, values, list, tolerance_of(t), buffer, place))
 }
 
 // Writes the samples of a record into the first entries of both lists.

@@ -4,6 +4,7 @@
 --   overwrite-part, overwrite-overwrite  a list after another, a list over another
 --   part-from, part-length               the part of a list from a place on, as it is lent
 --   put-back, written-part               the whole after the part came back
+--   written-from, written-within         a list written from a place on: the whole, and what stands there
 -- Assumes nothing.
 use mathlib.Core.Path.{_≡_, refl, sym, ap, _∙_}
 use mathlib.Core.List.{List, [], _∷_, _++_, append-assoc, append-nil}
@@ -12,9 +13,10 @@ use native.Mathlib.Nat.{not-suc-le-zero}
 use native.Mathlib.Numerals.{add-one}
 use native.Mathlib.Omega.{arith}
 use lib.ListN.{length, take, drop, set, getD, length-append, length-drop, drop-of-length-le}
-use lib.Seq.{take-suc, take-all, take-at, drop-at, drop-drop, drop-append-add, length-take-le}
+use lib.Seq.{take-suc, take-all, take-at, drop-at, drop-drop, drop-append-add, length-take-le, take-append-seam}
 use borrow.Rule.Slice.PartMut.{putMid, postOf}
 use Rattle.lists.specs.Overwrite.{overwrite}
+use Rattle.lists.specs.Part.{overwriteFrom}
 use Rattle.lists.proofs.OverwriteLaws.{overwrite-snoc}
 
 module _ {A : Type 0} where
@@ -59,3 +61,11 @@ module _ {A : Type 0} where
       → putMid i (length d - i) d ys ≡ overwrite (w ++ l) o
   written-part d o w l ys i ed ew ey =
       put-back d ys i ∙ ap (λ (x : List A). take i d ++ x) (ey ∙ ap (overwrite l) (part-from d i)) ∙ rw ed (overwrite-part w l o i ew)
+
+  -- l was written over the part from i on
+  pub written-from : (d l ys : List A) (i : ℕ) → ys ≡ overwrite l (take (length d - i) (drop i d)) → putMid i (length d - i) d ys ≡ overwriteFrom i l d
+  written-from d l ys i e = put-back d ys i ∙ ap (λ (x : List A). take i d ++ x) (e ∙ ap (overwrite l) (part-from d i))
+
+  pub written-within : (l o : List A) (i : ℕ) → i ≤ length o → take (length l) (drop i (overwriteFrom i l o)) ≡ l
+  written-within l o i h =
+      ap (take (length l)) (drop-at (take i o) (overwrite l (drop i o)) i (length-take-le i o h)) ∙ take-append-seam l (drop (length l) (drop i o))

@@ -24,9 +24,10 @@ use Rattle.format.specs.declared.Header.{Header}
 use Rattle.format.specs.declared.Header.the-variants.{Start, Fault as NoHeader}
 use Rattle.format.specs.Number.{Bytes}
 use Rattle.format.specs.Command.{choose, commandOf}
-use Rattle.format.specs.Format.{Content, Accepted, SameRecord, allowed, Samples, fault, samples, samplesFrom, firstOf, toleranceOf, headerOf, Parsed, faulty, says, attach, began, parse, samplesOnto, encode}
+use Rattle.format.specs.Format.{Content, Accepted, SameRecord, allowed, Samples, fault, samples, samplesFrom, firstOf, toleranceOf, headerOf, Parsed, faulty, says, attach, began, parse}
 use Rattle.format.proofs.NumberLaws.{bytes-drop}
-use Rattle.format.proofs.CommandLaws.{Starts, Read, read, command-length}
+use Rattle.format.proofs.CommandLaws.{Starts, Read, read}
+use Rattle.format.proofs.ParseEncode.{record-long}
 use Rattle.format.proofs.EncodeParse.{encode-parse}
 use Rattle.format.proofs.SameLaws.{same-tails}
 use Rattle.reader.specs.Reading.{readRows, sameRows, Said, CheckOutcome, ReadBack, Compared, SameOutcome, verdictOf, samplesOf, Begun, Fitting, Filled}
@@ -130,8 +131,7 @@ read-trace {ts = ts} {vs = vs} {n = n} h =
 -- ---- same
 
 pub enough : {b : List ℕ} {n : ℕ} {r : Ratio} → Said b n r → 9 ≤ length b
-unfolding encode
-enough s = let x = s .content in omega (arith, ap length (s .accepted .bytes) ∙ command-length (Tolerance (x .tolerance)) (samplesOnto (x .ticks) (x .values)))
+enough s = omega (arith, ap length (s .accepted .bytes), record-long (s .content))
 
 module _ {a b : List ℕ} {n m : ℕ} {r q : Ratio} (s : Said a n r) (t : Said b m q) {y : Bool}
     (d : Decides (take (length a - 9) (drop 9 a) ≡ take (length b - 9) (drop 9 b)) y) where

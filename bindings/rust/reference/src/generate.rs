@@ -1,11 +1,13 @@
-//! Repeatable random traces and lists, chosen to find mistakes.
+//! Repeatable random traces, lists and contents of records, chosen to find mistakes.
 //!
 //! - [`Random`]: numbers from a seed.
 //! - [`Trace`], [`Kind`], [`trace`]: traces within the limits, of several kinds.
 //! - [`kept_list`], [`damaged`]: kept lists, and lists with one or more faults.
 //! - [`just_below`]: the tolerance nearest below a link's error.
+//! - [`content`]: contents of records.
 
-use crate::{Fraction, DENOMINATOR, SPAN};
+use crate::record::Content;
+use crate::{Fraction, DENOMINATOR, SPAN, TOLERANCE};
 
 /// A generator (splitmix64): the same seed gives the same numbers.
 pub struct Random(u64);
@@ -101,7 +103,12 @@ fn ticks(samples: usize, random: &mut Random) -> Vec<u32> {
     if samples > 1 && step == longest {
         offsets[samples - 1] = SPAN;
     }
-    let latest = u32::MAX - offsets[samples - 1];
+    begun(&offsets, random)
+}
+
+/// Ticks with these offsets, which begin at 0, anywhere, or so that the last is the greatest u32.
+fn begun(offsets: &[u32], random: &mut Random) -> Vec<u32> {
+    let latest = u32::MAX - offsets[offsets.len() - 1];
     let anywhere = random.below(u64::from(latest) + 1) as u32;
     let first = random.choose(&[0, anywhere, latest]);
     offsets.iter().map(|offset| first + offset).collect()
@@ -183,6 +190,37 @@ pub fn just_below(Fraction { p, q }: Fraction) -> Fraction {
     }
 }
 
+/// The content of a record with so many samples: steps at the limits of short ones and others, up to
+/// exactly the greatest span; ticks as those of a trace; any tolerance.
+pub fn content(samples: usize, random: &mut Random) -> Content {
+    let (low, high) = (i64::from(i16::MIN), i64::from(i16::MAX));
+    let any = random.within(low, high);
+    let mut value = random.choose(&[low, 0, any, high]);
+    let (mut offsets, mut values) = (vec![0], vec![value as i16]);
+    for k in 1..samples {
+        // Later steps need a tick each.
+        let most = SPAN - offsets[k - 1] - (samples - 1 - k) as u32;
+        let any = 1 + random.below(most.into()) as u32;
+        let advance = random.choose(&[1, 2, 3, 254, 255, 256, any, most]);
+        offsets.push(offsets[k - 1] + advance.min(most));
+        let any = random.within(low, high) - value;
+        let change = random.choose(&[0, 1, -1, 126, 127, 128, -127, -128, -129, any]);
+        if (low..=high).contains(&(value + change)) {
+            value += change;
+        }
+        values.push(value as i16);
+    }
+    let q = random.choose(&[1, 6, 1_000, DENOMINATOR]);
+    let q = 1 + i128::from(random.below(q as u64));
+    let most = random.choose(&[0, 1, 1_000, TOLERANCE]) * q;
+    let any = i128::from(random.below(most as u64 + 1));
+    let p = random.choose(&[any, most]);
+    Content {
+        tolerance: Fraction { p, q }.lowest(),
+        samples: begun(&offsets, random).into_iter().zip(values).collect(),
+    }
+}
+
 /// The x from 0 to q - 1 with p x = 1 modulo q.
 fn inverse(p: i128, q: i128) -> i128 {
     let (mut r, mut x) = ((q, p.rem_euclid(q)), (0, 1));
@@ -208,6 +246,16 @@ mod tests {
                 assert_eq!(trace_refusal(&ticks, &values), None, "{kind:?} {samples}");
                 assert_eq!(list_refusal(samples, &kept_list(samples, random)), None);
             }
+        }
+    }
+
+    #[test]
+    fn contents_are_within_the_limits() {
+        let random = &mut Random::new(6);
+        for samples in (1..=64).chain([4_095, 4_096]) {
+            let (ticks, values) = content(samples, random).trace();
+            assert_eq!(trace_refusal(&ticks, &values), None, "{samples}");
+            assert_eq!(values.len(), samples);
         }
     }
 

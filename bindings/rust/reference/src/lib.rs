@@ -3,15 +3,18 @@
 //!
 //! - [`Fraction`]: exact fractions, compared by cross multiplication.
 //! - [`deviation`], [`link_error`], [`link_valid`], [`valid_ends`]: links of a trace.
+//! - [`list_error`]: the error of a kept list.
 //! - [`Form`], [`held`]: the three forms of a tolerance.
 //! - [`trace_refusal`], [`list_refusal`]: rows 1 to 3 and row 6 of the table of refusals.
 //! - [`judge`]: the call.
 //! - [`Method`], [`Reduced`], [`reduce`]: the calls walk, gallop and minimum.
 //! - [`kept_lists`]: every kept list.
 //! - [`fewest`]: how short a kept list within a fraction can be.
-//! - [`generate`]: repeatable random traces and lists.
+//! - [`record`]: range codes and records.
+//! - [`generate`]: repeatable random traces, lists and contents of records.
 
 pub mod generate;
+pub mod record;
 
 use std::cmp::Reverse;
 
@@ -81,6 +84,18 @@ pub fn link_error(ticks: &[u32], values: &[i16], i: usize, j: usize) -> Fraction
         }
     }
     error.lowest()
+}
+
+/// The error of the list's worst link, 0 where there is none.
+pub fn list_error(ticks: &[u32], values: &[i16], list: &[u16]) -> Fraction {
+    let mut worst = Fraction { p: 0, q: 1 };
+    for link in list.windows(2) {
+        let error = link_error(ticks, values, link[0].into(), link[1].into());
+        if !error.at_most(worst) {
+            worst = error;
+        }
+    }
+    worst
 }
 
 /// Whether the link's error is at most the tolerance: whether each deviation is.
@@ -402,6 +417,9 @@ mod tests {
         assert_eq!(link_error(&EVEN, &zigzag, 0, 2), fraction(3, 1));
         assert_eq!(link_error(&EVEN, &zigzag, 0, 3), fraction(2, 1));
         assert_eq!(link_error(&EVEN, &zigzag, 0, 4), fraction(3, 1));
+        assert_eq!(list_error(&EVEN, &zigzag, &[0, 3, 4]), fraction(2, 1));
+        assert_eq!(list_error(&EVEN, &zigzag, &[0, 1, 4]), fraction(2, 1));
+        assert_eq!(list_error(&EVEN, &zigzag, &[0, 2, 4]), fraction(3, 1));
         let (ticks, values) = ([0, 1, 3], [0, 1, 1]);
         assert_eq!(deviation(&ticks, &values, 0, 2, 1), fraction(2, 3));
         assert!(link_valid(&ticks, &values, 0, 2, fraction(4, 6)));

@@ -1,6 +1,7 @@
-use crate::{hold, judge, noise, ratio, reduce};
+use crate::{expand, hold, judge, noise, ratio, read, reduce, write};
 use kovrelna::Tolerance;
-use kovrelna_reference::{Method, Reduced};
+use kovrelna_reference::record::{end, first, long, short, tolerance, Content};
+use kovrelna_reference::{Fraction, Method, Reduced};
 
 const EVEN: [u32; 5] = [0, 1, 2, 3, 4];
 const ZIGZAG: [i16; 5] = [0, 3, 0, 3, 0];
@@ -108,5 +109,49 @@ fn ticks() {
     ] {
         let answer = judge(&ticks, &[0, 0], &[0, 1], ratio(0, 1));
         assert_eq!(answer, expected, "{ticks:?}");
+    }
+}
+
+#[test]
+fn record() {
+    let record = vec![
+        0x54, 0x00, 0x00, 0x00, 0x00, 0x02, 0x00, 0x00, 0x03, 0x41, 0x00, 0x00, 0x00, 0x00, 0x00,
+        0x00, 0x53, 0x03, 0x01, 0x45, 0x00, 0x02,
+    ];
+    for tolerance in [ratio(2, 3), ratio(4, 6)] {
+        let written = write(&[0, 1, 3], &[0, 1, 1], &[0, 2], tolerance, 22, 0);
+        assert_eq!(written.as_ref(), Ok(&record));
+    }
+    let content = Content {
+        tolerance: Fraction { p: 2, q: 3 },
+        samples: vec![(0, 0), (3, 1)],
+    };
+    assert_eq!(read(&record, 2, 2), Ok(content));
+}
+
+#[test]
+fn codes() {
+    let values = vec![31, 32, 94, 96, 8_032];
+    assert_eq!(expand(&[31, 32, 63, 64, 255], 5), Ok(values));
+}
+
+/// Steps 255/+127 and 255/-128 are short; 256/0 and 1/+128 long.
+#[test]
+fn steps() {
+    for (advance, change, step) in [
+        (255, 127, short(255, 127)),
+        (255, -128, short(255, -128)),
+        (256, 0, long(256, 40)),
+        (1, 128, long(1, 168)),
+    ] {
+        let record = [tolerance(0, 1), first(9, 40), step, end(2)].concat();
+        let (ticks, values) = ([9, 9 + advance], [40, 40 + change]);
+        let written = write(&ticks, &values, &[0, 1], ratio(0, 1), record.len(), 0);
+        assert_eq!(written.as_ref(), Ok(&record), "{advance} {change}");
+        let content = read(&record, 2, 2).unwrap();
+        assert_eq!(
+            content.samples,
+            [(ticks[0], values[0]), (ticks[1], values[1])]
+        );
     }
 }

@@ -1,19 +1,24 @@
 //! The library compared with the slow reference.
 //!
-//! - `figures`: document 01's figures on links, lists, reductions and tolerances.
+//! - `figures`: document 01's figures.
 //! - `refusals`: every row of the table that a call has, its value and its place in the order.
 //! - `hold`: tolerances in all forms.
 //! - `judge`: lists on random and adversarial traces.
 //! - `reduce`: walk, gallop and minimum on random and adversarial traces.
+//! - `codes`: range codes.
+//! - `records`: records written, read, damaged and compared.
 
+mod codes;
 mod figures;
 mod hold;
 mod judge;
+mod records;
 mod reduce;
 mod refusals;
 
 use kovrelna::{Refusal, Tolerance, Verdict};
 use kovrelna_reference::generate::Random;
+use kovrelna_reference::record::{self, Content};
 use kovrelna_reference::{Form, Fraction, Method, Reduced, Row};
 use std::hint::black_box;
 
@@ -80,8 +85,8 @@ struct Guarded<T> {
 /// How many guard elements there are on either side.
 const GUARD: usize = 3;
 
-/// The two kinds of guard elements beside ticks, values and lists.
-const GUARDS: [(u32, i16, u16); 2] = [(0, 0, 0), (u32::MAX, i16::MIN, u16::MAX)];
+/// The two kinds of guard elements beside ticks, values, lists and bytes.
+const GUARDS: [(u32, i16, u16, u8); 2] = [(0, 0, 0, 0), (u32::MAX, i16::MIN, u16::MAX, u8::MAX)];
 
 impl<T: Copy + PartialEq> Guarded<T> {
     fn new(slice: &[T], guard: T) -> Self {
@@ -99,9 +104,9 @@ impl<T: Copy + PartialEq> Guarded<T> {
         &mut black_box(&mut self.all)[GUARD..end]
     }
 
-    /// The slice should begin with this list after the call.
-    fn expect(&mut self, list: &[T]) {
-        self.after[GUARD..][..list.len()].copy_from_slice(list);
+    /// The slice should have this list at this place after the call.
+    fn expect(&mut self, place: usize, list: &[T]) {
+        self.after[GUARD + place..][..list.len()].copy_from_slice(list);
     }
 
     fn as_expected(&self) -> bool {
@@ -172,7 +177,7 @@ fn reduce(
         match &expected {
             Ok(Reduced { list, probes }) => {
                 assert_eq!(answer, Ok((list.len(), *probes)), "{}", input());
-                out.expect(list);
+                out.expect(0, list);
                 assert_eq!(out.slice()[..list.len()], *list, "{}", input());
             }
             Err(expected) => assert_eq!(answer.map_err(row), Err(*expected), "{}", input()),
@@ -182,6 +187,125 @@ fn reduce(
             "an input, an entry behind the list or an element beside a slice was changed\n{}",
             input()
         );
+    }
+    expected
+}
+
+/// Calls `expand` with an output of `room` entries between two kinds of guard elements, compares with
+/// the reference, sees that no other element changed, and returns the values or the refusal's row.
+fn expand(codes: &[u8], room: usize) -> Result<Vec<i16>, Row> {
+    let expected = record::expand(codes, room);
+    for guards in GUARDS {
+        let codes = Guarded::new(codes, guards.3);
+        // No code has a value below 0.
+        let before: Vec<i16> = (0..room).map(|k| k as i16 | i16::MIN).collect();
+        let mut out = Guarded::new(&before, guards.1);
+        let answer = kovrelna::expand(codes.slice(), out.slice_mut()).map_err(row);
+        let written = expected.as_ref().map(Vec::len).map_err(|row| *row);
+        assert_eq!(answer, written, "{:?} room {room}", codes.slice());
+        out.expect(0, expected.as_deref().unwrap_or(&[]));
+        assert!(
+            codes.as_expected() && out.as_expected(),
+            "a value is wrong, or another element was changed\n{:?} {:?} room {room}",
+            codes.slice(),
+            out.slice()
+        );
+    }
+    expected
+}
+
+/// Calls `write` with a buffer of `size` bytes between two kinds of guard elements, compares with the
+/// reference, sees that the record is at its place and that no other element changed, and returns the
+/// record or the refusal's row.
+fn write(
+    ticks: &[u32],
+    values: &[i16],
+    list: &[u16],
+    tolerance: Tolerance,
+    size: usize,
+    place: usize,
+) -> Result<Vec<u8>, Row> {
+    let expected = record::write(ticks, values, list, form(tolerance), size, place);
+    for guards in GUARDS {
+        let ticks = Guarded::new(ticks, guards.0);
+        let values = Guarded::new(values, guards.1);
+        let list = Guarded::new(list, guards.2);
+        let before: Vec<u8> = (0..size).map(|k| k as u8 ^ 0xa5 ^ guards.3).collect();
+        let mut buffer = Guarded::new(&before, guards.3);
+        let (t, v, l) = (ticks.slice(), values.slice(), list.slice());
+        let answer = kovrelna::write(t, v, l, tolerance, buffer.slice_mut(), place).map_err(row);
+        let input =
+            || format!("ticks, values, list: {t:?} {v:?} {l:?}\n{tolerance:?} {place} of {size}");
+        let written = expected.as_ref().map(Vec::len).map_err(|row| *row);
+        assert_eq!(answer, written, "{}", input());
+        if let Ok(record) = &expected {
+            buffer.expect(place, record);
+            let found = &buffer.slice()[place..][..record.len()];
+            assert_eq!(found, record, "{}", input());
+        }
+        assert!(
+            ticks.as_expected()
+                && values.as_expected()
+                && list.as_expected()
+                && buffer.as_expected(),
+            "an input, a byte beside the record or an element beside a slice was changed\n{}",
+            input()
+        );
+    }
+    expected
+}
+
+/// Calls `read` with outputs of so many entries between two kinds of guard elements, compares with
+/// the reference, sees that the outputs begin with the samples and that no other element changed, and
+/// returns the content or the refusal's row.
+fn read(record: &[u8], ticks_room: usize, values_room: usize) -> Result<Content, Row> {
+    let expected = record::read(record, ticks_room, values_room);
+    for guards in GUARDS {
+        let record = Guarded::new(record, guards.3);
+        let before: Vec<u32> = (0..ticks_room as u32)
+            .map(|k| k ^ 0x5a5a_5a5a ^ guards.0)
+            .collect();
+        let mut ticks = Guarded::new(&before, guards.0);
+        let before: Vec<i16> = (0..values_room as i16)
+            .map(|k| k ^ 0x5a5a ^ guards.1)
+            .collect();
+        let mut values = Guarded::new(&before, guards.1);
+        let answer = kovrelna::read(record.slice(), ticks.slice_mut(), values.slice_mut())
+            .map(|read| (read.samples, read.tolerance.p, read.tolerance.q))
+            .map_err(row);
+        let input = || format!("{:02x?} {ticks_room} {values_room}", record.slice());
+        let content = match &expected {
+            Ok(content) => {
+                let (t, v) = content.trace();
+                ticks.expect(0, &t);
+                values.expect(0, &v);
+                let Fraction { p, q } = content.tolerance;
+                Ok((t.len(), p as u64, q as u64))
+            }
+            Err(row) => Err(*row),
+        };
+        assert_eq!(answer, content, "{}", input());
+        assert!(
+            record.as_expected() && ticks.as_expected() && values.as_expected(),
+            "a sample is wrong, or another element was changed\n{:?} {:?}\n{}",
+            ticks.slice(),
+            values.slice(),
+            input()
+        );
+    }
+    expected
+}
+
+/// Calls `same` between two kinds of guard elements, compares with the reference, sees that no
+/// element changed, and returns the answer or the refusal's row.
+fn same(one: &[u8], other: &[u8]) -> Result<bool, Row> {
+    let expected = record::same(one, other);
+    for guards in GUARDS {
+        let (one, other) = (Guarded::new(one, guards.3), Guarded::new(other, guards.3));
+        let answer = kovrelna::same(one.slice(), other.slice()).map_err(row);
+        let records = || format!("{:02x?}\n{:02x?}", one.slice(), other.slice());
+        assert_eq!(answer, expected, "{}", records());
+        assert!(one.as_expected() && other.as_expected(), "{}", records());
     }
     expected
 }

@@ -1,7 +1,20 @@
-use crate::{judge, noise, ratio, reduce};
+use crate::{judge, noise, ratio, read, reduce, same, write};
 use kovrelna::{Refusal, Tolerance};
 use kovrelna_reference::generate::{damaged, kept_list, trace, Random, Trace, KINDS};
+use kovrelna_reference::record::{end, first, short, tolerance};
 use kovrelna_reference::{Row, METHODS};
+
+/// The row with which every call that takes a trace refuses this one: the same for all, if any. The
+/// list is a kept list with valid links, and every output has room.
+fn refused(ticks: &[u32], values: &[i16], list: &[u16], tolerance: Tolerance) -> Option<Row> {
+    let row = judge(ticks, values, list, tolerance).err();
+    for method in METHODS {
+        let reduced = reduce(method, ticks, values, tolerance, ticks.len());
+        assert_eq!(reduced.err(), row, "{method:?}");
+    }
+    assert_eq!(write(ticks, values, list, tolerance, 100, 0).err(), row);
+    row
+}
 
 #[test]
 fn the_table() {
@@ -36,19 +49,15 @@ fn lengths() {
         list.dedup();
         for values in lengths {
             let allowed = samples == values && (1..=4_096).contains(&samples);
-            let expected = if allowed { Ok(None) } else { Err((1, 0)) };
             let values = vec![7; values];
-            let answer = judge(&ticks, &values, &list, ratio(0, 1));
-            assert_eq!(answer, expected, "{samples} {}", values.len());
-            for method in METHODS {
-                let answer = reduce(method, &ticks, &values, ratio(0, 1), samples);
-                let expected = expected.map(|_| list.clone());
-                assert_eq!(answer.map(|reduced| reduced.list), expected);
-            }
+            let row = refused(&ticks, &values, &list, ratio(0, 1));
+            let expected = (!allowed).then_some((1, 0));
+            assert_eq!(row, expected, "{samples} {}", values.len());
             if !allowed {
                 // Later rows fail too.
                 let (ticks, none) = (vec![5; samples], ratio(0, 0));
                 assert_eq!(judge(&ticks, &values, &[], none), Err((1, 0)));
+                assert_eq!(write(&ticks, &values, &[], none, 0, 9), Err((1, 0)));
                 for method in METHODS {
                     assert_eq!(reduce(method, &ticks, &values, none, 0), Err((1, 0)));
                 }
@@ -82,12 +91,8 @@ fn ticks() {
         (&[0, 1, 1, 2_000_000], Some((2, 2))),
     ];
     for (ticks, row) in cases {
-        let answer = judge(ticks, &[0; 4], &[0, 3], ratio(0, 1));
-        assert_eq!(answer, row.map_or(Ok(None), Err), "{ticks:?}");
-        for method in METHODS {
-            let answer = reduce(method, ticks, &[0; 4], ratio(0, 1), 4);
-            assert_eq!(answer.err(), row, "{method:?} {ticks:?}");
-        }
+        let answer = refused(ticks, &[0; 4], &[0, 3], ratio(0, 1));
+        assert_eq!(answer, row, "{ticks:?}");
     }
 }
 
@@ -110,12 +115,8 @@ fn tolerances() {
         (noise(0.0, -0.125), false),
     ] {
         let row = (!allowed).then_some((4, 0));
-        let answer = judge(&[0, 1, 2], &[0; 3], &[0, 2], tolerance);
-        assert_eq!(answer, row.map_or(Ok(None), Err), "{tolerance:?}");
-        for method in METHODS {
-            let answer = reduce(method, &[0, 1, 2], &[0; 3], tolerance, 3);
-            assert_eq!(answer.err(), row, "{method:?} {tolerance:?}");
-        }
+        let answer = refused(&[0, 1, 2], &[0; 3], &[0, 2], tolerance);
+        assert_eq!(answer, row, "{tolerance:?}");
     }
 }
 
@@ -159,13 +160,16 @@ fn lists() {
     ];
     let ticks = [0, 1, 2, 3, 4, 5];
     for (list, position) in cases {
-        let expected = position.map_or(Ok(None), |position| Err((6, position)));
-        let answer = judge(&ticks, &[0; 6], list, ratio(0, 1));
-        assert_eq!(answer, expected, "{list:?}");
-        if expected.is_err() {
-            // Invalid links before the bad entry do not matter.
-            let answer = judge(&ticks, &[0, 9, 0, 8, 1, 9], list, ratio(0, 1));
-            assert_eq!(answer, expected, "{list:?}");
+        let row = position.map(|position| (6, position));
+        let answers = |values: &[i16; 6], size| {
+            let judged = judge(&ticks, values, list, ratio(0, 1)).err();
+            let written = write(&ticks, values, list, ratio(0, 1), size, 0).err();
+            [judged, written]
+        };
+        assert_eq!(answers(&[0; 6], 50), [row; 2], "{list:?}");
+        if row.is_some() {
+            // Invalid links before the bad entry do not matter, nor does the room.
+            assert_eq!(answers(&[0, 9, 0, 8, 1, 9], 0), [row; 2], "{list:?}");
         }
     }
 }
@@ -193,6 +197,25 @@ fn lists_of_the_shortest_and_longest_traces() {
     ] {
         let answer = judge(&ticks, &values, &every[..length], ratio(0, 1));
         assert_eq!(answer, expected, "{length}");
+    }
+}
+
+/// Of several invalid links the writer names the first.
+#[test]
+fn links() {
+    let (ticks, values): (Vec<u32>, Vec<i16>) = (0..9).zip([0, 1, 0, 2, 0, 3, 0, 4, 0]).unzip();
+    for (p, link) in [
+        (0, Some(0)),
+        (1, Some(1)),
+        (2, Some(2)),
+        (3, Some(3)),
+        (4, None),
+    ] {
+        let row = link.map(|link| (7, link));
+        for (size, room) in [(31, None), (30, Some((10, 31))), (0, Some((10, 31)))] {
+            let answer = write(&ticks, &values, &[0, 2, 4, 6, 8], ratio(p, 1), size, 0);
+            assert_eq!(answer.err(), row.or(room), "{p} {size}");
+        }
     }
 }
 
@@ -235,14 +258,44 @@ fn the_first_row_answers() {
                 assert_eq!(answer.err(), first.or(row), "faults {faults:b} {room}");
             }
         }
+        // The writer's later rows, in every set.
+        for later in 0..8usize {
+            let list = [&[0, 7][..], &[0, 0, 7]][later & 1];
+            let mut values = values.clone();
+            values[3] = [0, 9][later >> 1 & 1];
+            let size = [22, 21][later >> 2 & 1];
+            let row = [(6, 1), (7, 0), (10, 22)].get(later.trailing_zeros() as usize);
+            let answer = write(&ticks, &values, list, tolerance, size, 0);
+            let expected = first.or(row.copied());
+            assert_eq!(answer.err(), expected, "faults {faults:b} {later:b}");
+        }
     }
+}
+
+/// Rows 8 and 10 of read, 8 and 9 of same, alone and together.
+#[test]
+fn records() {
+    let record = [tolerance(1, 2), first(7, 7), short(1, 1), end(2)].concat();
+    let cut = &record[..18];
+    for (ticks, values) in [(2, 2), (1, 2), (2, 1), (0, 0), (9, 0)] {
+        let row = (ticks < 2 || values < 2).then_some((10, 2));
+        assert_eq!(read(&record, ticks, values).err(), row, "{ticks} {values}");
+        assert_eq!(read(cut, ticks, values).err(), Some((8, 16)));
+    }
+    assert_eq!(same(&record, &record), Ok(true));
+    assert_eq!(same(cut, &record), Err((8, 16)));
+    assert_eq!(same(&record, cut), Err((9, 16)));
+    assert_eq!(same(cut, &record[..20]), Err((8, 16)));
+    assert_eq!(same(&record[..20], cut), Err((8, 19)));
+    assert_eq!(same(&[], &[]), Err((8, 0)));
+    assert_eq!(same(&record, &[]), Err((9, 0)));
 }
 
 #[test]
 fn random_faults() {
     let random = &mut Random::new(3);
-    // How often judge answers with each row, and how often the reductions; 0 for none.
-    let mut seen = [[0; 11]; 2];
+    // How often judge, the reductions and write answer with each row; 0 for none.
+    let mut seen = [[0; 11]; 3];
     for _ in 0..20_000 {
         let samples = random.within(1, 12) as usize;
         let Trace { mut ticks, values } = trace(random.choose(&KINDS), samples, random);
@@ -271,9 +324,16 @@ fn random_faults() {
             let reduced = reduce(method, &ticks, &values, tolerance, room);
             seen[1][number(reduced.err())] += 1;
         }
+        let size = 6 * room + 13;
+        let written = write(&ticks, &values, &list, tolerance, size, at);
+        seen[2][number(written.err())] += 1;
     }
-    for row in [0, 1, 2, 3, 4] {
-        assert!(seen.iter().all(|seen| seen[row] > 500), "{seen:?}");
+    let rows: [&[usize]; 3] = [
+        &[0, 1, 2, 3, 4, 6],
+        &[0, 1, 2, 3, 4, 10],
+        &[0, 1, 2, 3, 4, 6, 7, 10],
+    ];
+    for (seen, rows) in seen.iter().zip(rows) {
+        assert!(rows.iter().all(|&row| seen[row] > 500), "{seen:?}");
     }
-    assert!(seen[0][6] > 500 && seen[1][10] > 500, "{seen:?}");
 }

@@ -1,0 +1,281 @@
+//! Range codes and records.
+//!
+//! - [`code_value`], [`expand`]: range codes.
+//! - [`Content`], [`encode`], [`decode`]: a record's content, its bytes, and its fault.
+//! - [`tolerance`], [`first`], [`short`], [`long`], [`end`]: the commands.
+//! - [`write()`], [`read`], [`same`]: the calls.
+
+use crate::{held, judge, Form, Fraction, Row, SAMPLES, SPAN};
+
+/// The value of a range code.
+pub fn code_value(code: u8) -> i16 {
+    let (e, m) = (code / 32, i16::from(code % 32));
+    2i16.pow(e.into()) * (m + 32) - 32
+}
+
+/// The first row that fits, or the value of each code. The output has `room` entries.
+pub fn expand(codes: &[u8], room: usize) -> Result<Vec<i16>, Row> {
+    if codes.is_empty() || codes.len() > SAMPLES {
+        return Err((1, 0));
+    }
+    if room < codes.len() {
+        return Err((10, codes.len() as u64));
+    }
+    Ok(codes.iter().map(|&code| code_value(code)).collect())
+}
+
+/// A record's content.
+#[derive(Clone, Debug, PartialEq, Eq)]
+pub struct Content {
+    pub tolerance: Fraction,
+    /// Each with its tick and its value.
+    pub samples: Vec<(u32, i16)>,
+}
+
+impl Content {
+    /// The ticks and the values.
+    pub fn trace(&self) -> (Vec<u32>, Vec<i16>) {
+        self.samples.iter().copied().unzip()
+    }
+}
+
+/// A command with its operands, each a number and its bytes: high byte first, two's complement.
+fn command(byte: u8, operands: &[(i128, usize)]) -> Vec<u8> {
+    let mut command = vec![byte];
+    for &(number, bytes) in operands {
+        command.extend(&number.to_be_bytes()[16 - bytes..]);
+    }
+    command
+}
+
+pub fn tolerance(p: u64, q: u64) -> Vec<u8> {
+    command(0x54, &[(p.into(), 5), (q.into(), 3)])
+}
+
+pub fn first(tick: u32, value: i16) -> Vec<u8> {
+    command(0x41, &[(tick.into(), 4), (value.into(), 2)])
+}
+
+pub fn short(advance: u8, change: i8) -> Vec<u8> {
+    command(0x53, &[(advance.into(), 1), (change.into(), 1)])
+}
+
+pub fn long(advance: u32, value: i16) -> Vec<u8> {
+    command(0x4c, &[(advance.into(), 3), (value.into(), 2)])
+}
+
+pub fn end(samples: u16) -> Vec<u8> {
+    command(0x45, &[(samples.into(), 2)])
+}
+
+/// Whether a step with this advance and this change of value is short.
+fn is_short(advance: i128, change: i128) -> bool {
+    advance <= 255 && (-128..=127).contains(&change)
+}
+
+/// The record with this content, which obeys the rules.
+pub fn encode(content: &Content) -> Vec<u8> {
+    let Fraction { p, q } = content.tolerance;
+    let (tick, value) = content.samples[0];
+    let mut record = [tolerance(p as u64, q as u64), first(tick, value)].concat();
+    for step in content.samples.windows(2) {
+        let [(from, before), (to, after)] = [step[0], step[1]];
+        let (advance, change) = (to - from, i128::from(after) - i128::from(before));
+        record.extend(if is_short(advance.into(), change) {
+            short(advance as u8, change as i8)
+        } else {
+            long(advance, after)
+        });
+    }
+    record.extend(end(content.samples.len() as u16));
+    record
+}
+
+/// The number in these bytes, high byte first.
+fn number(bytes: &[u8]) -> i128 {
+    bytes.iter().fold(0, |n, &byte| 256 * n + i128::from(byte))
+}
+
+/// The number in these bytes, high byte first, in two's complement.
+fn signed(bytes: &[u8]) -> i128 {
+    let (n, size) = (number(bytes), 256i128.pow(bytes.len() as u32));
+    if n < size / 2 {
+        n
+    } else {
+        n - size
+    }
+}
+
+/// The record's content, or the fault's byte.
+pub fn decode(record: &[u8]) -> Result<Content, usize> {
+    let mut tolerance = None;
+    let mut samples: Vec<(u32, i16)> = Vec::new();
+    let mut at = 0;
+    loop {
+        // At the record's end a command is missing.
+        let (&command, operands) = record[at..].split_first().ok_or(at)?;
+        let bytes = match command {
+            0x54 if tolerance.is_none() => 8,
+            0x41 if tolerance.is_some() && samples.is_empty() => 6,
+            0x53 if !samples.is_empty() => 2,
+            0x4c if !samples.is_empty() => 5,
+            0x45 if !samples.is_empty() => 2,
+            _ => return Err(at),
+        };
+        let operands = operands.get(..bytes).ok_or(at)?;
+        let next = at + 1 + bytes;
+        match command {
+            0x54 => {
+                let (p, q) = (number(&operands[..5]), number(&operands[5..]));
+                // It is allowed, and lowest terms do not change it.
+                let allowed = held(Form::Ratio(p as u64, q as u64));
+                tolerance = Some(
+                    allowed
+                        .filter(|&held| held == Fraction { p, q })
+                        .ok_or(at)?,
+                );
+            }
+            0x41 => samples.push((number(&operands[..4]) as u32, signed(&operands[4..]) as i16)),
+            0x45 => {
+                if number(operands) != samples.len() as i128 {
+                    return Err(at);
+                }
+                let tolerance = tolerance.ok_or(at)?;
+                return match next == record.len() {
+                    true => Ok(Content { tolerance, samples }),
+                    false => Err(next),
+                };
+            }
+            _ => {
+                let (tick, value) = samples[samples.len() - 1];
+                let (advance, value, change) = if command == 0x53 {
+                    let change = signed(&operands[1..]);
+                    (number(&operands[..1]), i128::from(value) + change, change)
+                } else {
+                    let new = signed(&operands[3..]);
+                    (number(&operands[..3]), new, new - i128::from(value))
+                };
+                let tick = u32::try_from(i128::from(tick) + advance).map_err(|_| at)?;
+                let value = i16::try_from(value).map_err(|_| at)?;
+                if advance < 1
+                    || is_short(advance, change) != (command == 0x53)
+                    || tick - samples[0].0 > SPAN
+                    || samples.len() == SAMPLES
+                {
+                    return Err(at);
+                }
+                samples.push((tick, value));
+            }
+        }
+        at = next;
+    }
+}
+
+/// The first row that fits, or the record. The buffer has `size` bytes.
+pub fn write(
+    ticks: &[u32],
+    values: &[i16],
+    list: &[u16],
+    form: Form,
+    size: usize,
+    place: usize,
+) -> Result<Vec<u8>, Row> {
+    if let Some(link) = judge(ticks, values, list, form)? {
+        return Err((7, link as u64));
+    }
+    let kept = |&k: &u16| (ticks[usize::from(k)], values[usize::from(k)]);
+    let record = encode(&Content {
+        tolerance: held(form).ok_or((4, 0))?,
+        samples: list.iter().map(kept).collect(),
+    });
+    // A place past the end counts as an empty part.
+    let room = size.saturating_sub(place);
+    if room < record.len() {
+        return Err((10, record.len() as u64));
+    }
+    Ok(record)
+}
+
+/// The first row that fits, or the content. The outputs have so many entries.
+pub fn read(record: &[u8], ticks: usize, values: usize) -> Result<Content, Row> {
+    let content = decode(record).map_err(|fault| (8, fault as u64))?;
+    let samples = content.samples.len();
+    if ticks < samples || values < samples {
+        return Err((10, samples as u64));
+    }
+    Ok(content)
+}
+
+/// The first row that fits, or whether the kept samples agree.
+pub fn same(one: &[u8], other: &[u8]) -> Result<bool, Row> {
+    let one = decode(one).map_err(|fault| (8, fault as u64))?;
+    let other = decode(other).map_err(|fault| (9, fault as u64))?;
+    Ok(one.samples == other.samples)
+}
+
+#[cfg(test)]
+mod tests {
+    use super::*;
+    use crate::generate::{content, Random};
+
+    #[test]
+    fn codes() {
+        let codes = [0, 31, 32, 63, 64, 255];
+        let values = vec![0, 31, 32, 94, 96, 8_032];
+        assert_eq!(expand(&codes, 6), Ok(values));
+        assert_eq!(expand(&codes, 5), Err((10, 6)));
+        assert_eq!(expand(&[], 0), Err((1, 0)));
+    }
+
+    #[test]
+    fn figure() {
+        let record = [
+            0x54, 0, 0, 0, 0, 2, 0, 0, 3, 0x41, 0, 0, 0, 0, 0, 0, 0x53, 3, 1, 0x45, 0, 2,
+        ];
+        let written = write(&[0, 1, 3], &[0, 1, 1], &[0, 2], Form::Ratio(4, 6), 22, 0);
+        assert_eq!(written.as_deref(), Ok(&record[..]));
+        let content = Content {
+            tolerance: Fraction { p: 2, q: 3 },
+            samples: vec![(0, 0), (3, 1)],
+        };
+        assert_eq!(decode(&record), Ok(content));
+    }
+
+    /// What is encoded is decoded again, and of changed bytes those are accepted that encode what they
+    /// say. Up to a fault the record can go on: with the missing commands it has no fault.
+    #[test]
+    fn there_and_back() {
+        let random = &mut Random::new(5);
+        let mut seen = [0; 2];
+        for _ in 0..3_000 {
+            let samples = random.within(1, 12) as usize;
+            let content = content(samples, random);
+            let mut record = encode(&content);
+            assert_eq!(decode(&record), Ok(content));
+            let at = random.below(record.len() as u64) as usize;
+            record[at] = random.bits() as u8;
+            record.truncate(random.choose(&[at, record.len(), record.len()]));
+            match decode(&record) {
+                Ok(content) => {
+                    assert_eq!(encode(&content), record);
+                    seen[0] += 1;
+                }
+                Err(fault) => {
+                    let mut record = record[..fault].to_vec();
+                    if fault < 9 {
+                        record.extend(tolerance(0, 1));
+                    }
+                    if fault < 16 {
+                        record.extend(first(0, 0));
+                    }
+                    let ended = decode(&record).is_ok();
+                    assert!(
+                        ended || (1..=12).any(|n| decode(&[&record[..], &end(n)].concat()).is_ok())
+                    );
+                    seen[1] += 1;
+                }
+            }
+        }
+        assert!(seen.iter().all(|&count| count > 300), "{seen:?}");
+    }
+}

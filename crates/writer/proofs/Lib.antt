@@ -1,0 +1,3 @@
+-- The laws of the crate `writer`.
+pub mod SelectedLaws
+pub mod WritingLaws

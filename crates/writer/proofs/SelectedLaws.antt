@@ -1,0 +1,106 @@
+-- Laws of selected samples: those that a kept list selects of a trace are themselves a trace.
+-- Assumes nothing.
+use mathlib.Core.Path.{_≡_, sym, ap, _∙_}
+use mathlib.Core.List.{List, [], _∷_}
+use Prim.Native.Nat.{ℕ, zero, suc, _+_, _-_, _*_, _≤_, _<_}
+use native.Mathlib.Nat.{one-mul}
+use native.Mathlib.Numerals.{add-one}
+use native.Mathlib.Omega.{arith}
+use lib.IntN.{ℤ, pos}
+use lib.ListN.{length, getD}
+use lib.Signed.{mag}
+use Rattle.lists.proofs.SelectLaws.{select-length, select-at, select-all}
+use Rattle.ratio.specs.declared.Ratio.{Ratio}
+use Rattle.kept.specs.Kept.{KeptList}
+use Rattle.kept.proofs.KeptLaws.{kept-length, kept-links, links-at}
+use Rattle.trace.specs.declared.Start.{Start}
+use Rattle.trace.specs.Trace.{tick, value, Rising, Trace}
+use Rattle.trace.specs.Level.{level, LevelOf}
+use Rattle.trace.specs.Edge.{StartAt}
+use Rattle.trace.proofs.Ticks.{later, span-bound}
+use Rattle.trace.proofs.Level.{short}
+use Rattle.format.specs.Format.{Held, Legal}
+use Rattle.writer.specs.Writing.{Kept, keptTicks, keptValues, selected, SampleAt, SampleOk, StepBetween}
+use Rattle.writer.specs.declared.Sample.{Sample}
+
+-- ---- a kept list
+
+kept-some : (last : ℕ) (l : List ℕ) → KeptList last l → 1 ≤ length l
+kept-some last [] k = absurd (k .spans)
+kept-some last (i ∷ s) k = omega arith
+
+kept-first : (last : ℕ) (l : List ℕ) → KeptList last l → getD l 0 0 ≡ 0
+kept-first last [] k = absurd (k .spans)
+kept-first last (i ∷ s) k = k .spans .0
+
+-- each entry is a sample
+kept-inside : (last : ℕ) (l : List ℕ) → KeptList last l → (k : ℕ) → k < length l → getD l k 0 ≤ last
+kept-inside last l kept zero h = omega (arith, kept-first last l kept)
+kept-inside last l kept (suc k) h = links-at (λ i j. (i < j) × (j ≤ last)) l (kept-links last l kept) k h .1
+
+module _ {ts : List ℕ} {vs : List ℤ} {l : List ℕ} (kept : Kept ts vs l) where
+  pub list-some : 1 ≤ length l
+  list-some = kept-some (length ts - 1) l (kept .list)
+
+  pub list-few : length l ≤ 4096
+  list-few = omega (arith, kept-length (length ts - 1) l (kept .list), kept .trace .few, kept .trace .some)
+
+  pub entry-inside : (k : ℕ) → k < length l → getD l k 0 < length ts
+  entry-inside k h = omega (arith, kept-inside (length ts - 1) l (kept .list) k h, kept .trace .some)
+
+  -- ---- the kept samples
+
+  rises : (k : ℕ) → suc k < length l → tick (keptTicks ts l) k < tick (keptTicks ts l) (suc k)
+  rises k h =
+      let e = links-at (λ i j. (i < j) × (j ≤ length ts - 1)) l (kept-links (length ts - 1) l (kept .list)) k h in
+      rw (select-at 0 ts l k (omega arith), select-at 0 ts l (suc k) h) (later (kept .trace .rising) (getD l (suc k) 0) (e .0) (entry-inside (suc k) h))
+
+  span : tick (keptTicks ts l) (length l - 1) ≤ tick (keptTicks ts l) 0 + 1048575
+  span =
+      let n = list-some in
+      let z : tick ts (getD l 0 0) ≡ tick ts 0 = ap (tick ts) (kept-first (length ts - 1) l (kept .list)) in
+      rw (select-at 0 ts l (length l - 1) (omega arith), select-at 0 ts l 0 (omega arith), z)
+      (omega (arith, span-bound (kept .trace) 0 (getD l (length l - 1) 0) (omega arith) (entry-inside (length l - 1) (omega arith))))
+
+  pub selected-trace : Trace (keptTicks ts l) (keptValues vs l)
+  selected-trace = record {
+    same = select-length (pos 0) vs l ∙ sym (select-length 0 ts l);
+    some = rw (select-length 0 ts l) list-some;
+    few = rw (select-length 0 ts l) list-few;
+    rising = record { rises = λ k h. rises k (rw (select-length 0 ts l) at h) };
+    span = rw (select-length 0 ts l) span;
+  }
+
+  pub selected-legal : (r : Ratio) → Held r → ((k : ℕ) → tick ts k ≤ 4294967295) → ((k : ℕ) → mag (value (keptValues vs l) k) < 32768) → Legal (selected r ts vs l)
+  selected-legal r h a b = record {
+    held = h;
+    trace = selected-trace;
+    tick-range = select-all 0 ts (λ (t : ℕ). t ≤ 4294967295) (omega arith) a l;
+    value-range = b;
+  }
+
+  -- the kept sample at position i, from the sample of the trace
+  pub sample-is : (i : ℕ) → i < length l → {s : Start} → StartAt ts vs 1 (getD l i 0) s → SampleAt ts vs l i (record { tick = s .tick; level = s .base })
+  sample-is i h {s} a = record {
+    tick-is = a .tick ∙ sym (select-at 0 ts l i h);
+    level-is = rw (select-at (pos 0) vs l i h) (record { is = a .base ∙ one-mul (level (value vs (getD l i 0))); range = a .range });
+  }
+
+  module _ {i : ℕ} {a b : Sample} (h : i + 1 < length l) (p : SampleAt ts vs l i a) (q : SampleAt ts vs l (i + 1) b) where
+    pub step-between : StepBetween a b
+    step-between =
+        let t = selected-trace in
+        let n = select-length 0 ts l in
+        let r : tick (keptTicks ts l) i < tick (keptTicks ts l) (i + 1) = rw add-one (rises i (omega arith)) in
+        record {
+          rise = omega (arith, r, p .tick-is, q .tick-is);
+          span = omega (arith, span-bound t i (i + 1) (omega arith) (omega (arith, n)), p .tick-is, q .tick-is);
+          from = short (p .level-is);
+          to = short (q .level-is);
+        }
+
+  pub sample-ok : ((k : ℕ) → tick ts k ≤ 4294967295) → {i : ℕ} {s : Sample} → SampleAt ts vs l i s → SampleOk s
+  sample-ok a {i} p = record {
+    tick-bound = omega (arith, p .tick-is, select-all 0 ts (λ (t : ℕ). t ≤ 4294967295) (omega arith) a l i);
+    level-bound = short (p .level-is);
+  }

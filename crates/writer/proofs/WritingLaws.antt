@@ -1,0 +1,198 @@
+-- Laws of the record in parts: its start, a step for each next sample, and the end; counted and written one after the other.
+--   Counted     the bytes up to the kept sample at position i are counted
+--   Putting     they are written, and the sample is at hand
+-- Assumes nothing.
+use mathlib.Core.Path.{_≡_, refl, sym, ap, _∙_, subst}
+use mathlib.Core.Bool.{true}
+use mathlib.Core.List.{List, [], _∷_, _++_, append-assoc}
+use mathlib.Core.Logic.{⊎-elim}
+use Prim.Native.Nat.{ℕ, suc, _+_, _-_, _*_, _≤_, _<_}
+use native.Mathlib.Nat.{not-suc-le-zero}
+use native.Mathlib.Numerals.{add-one}
+use native.Mathlib.Omega.{arith}
+use native.Mathlib.Decide.{decLe}
+use borrow.Author.Count.{below-more}
+use borrow.Author.Tests.{le-leb, lt-leb}
+use borrow.Rule.Slice.PartMut.{putMid}
+use lib.IntN.{ℤ, pos}
+use lib.ListN.{length, take, drop, getD, length-append, length-drop, drop-of-length-le, List·getD-eq-default}
+use lib.Seq.{drop-cons}
+use lib.Signed.{mag}
+use Rattle.lists.specs.Overwrite.{overwrite}
+use Rattle.lists.specs.Part.{overwriteFrom}
+use Rattle.lists.proofs.OverwriteLaws.{overwrite-length}
+use Rattle.lists.proofs.PartLaws.{part-length, written-part, written-from, written-within}
+use Rattle.lists.proofs.SelectLaws.{select-length}
+use Rattle.ratio.specs.declared.Ratio.{Ratio}
+use Rattle.refusal.specs.declared.Refusal.the-variants.{Room}
+use Rattle.refusal.specs.declared.Checked.the-variants.{Fine, Refused as Declined}
+use Rattle.trace.specs.Trace.{tick, value}
+use Rattle.trace.specs.Level.{level, LevelOf}
+use Rattle.format.specs.declared.Command.{Command}
+use Rattle.format.specs.declared.Command.the-variants.{Tolerance, First, End}
+use Rattle.format.specs.Command.{sizeOf, commandOnto}
+use Rattle.format.specs.Format.{Content, Legal, Accepted, stepTo, stepsOnto, samplesOnto, encode}
+use Rattle.format.proofs.CommandLaws.{command-append, command-length}
+use Rattle.format.proofs.ParseEncode.{parse-encode}
+use Rattle.writer.specs.declared.Sample.{Sample}
+use Rattle.writer.specs.declared.Move.{Move}
+use Rattle.writer.specs.Writing.{Kept, keptTicks, keptValues, selected, writeRow, WrittenAt, SampleAt, stepAt, MoveFrom, startOf, restOf, LengthOf}
+use Rattle.writer.proofs.SelectedLaws.{list-some, selected-trace}
+
+-- ---- a record's parts
+
+module _ (ts : List ℕ) (vs : List ℤ) (same : length vs ≡ length ts) where
+  rest-step : (i : ℕ) → i + 1 < length ts → restOf ts vs i ≡ commandOnto (stepAt ts vs i) [] ++ restOf ts vs (i + 1)
+  unfolding restOf stepsOnto
+  rest-step i h =
+      let a : suc i < length ts = omega arith in
+      let b : suc i < length vs = omega arith in
+      rw (add-one i, drop-cons ts (suc i) 0 a, drop-cons vs (suc i) (pos 0) b) (command-append (stepTo (tick ts i) (level (value vs i)) (tick ts (suc i)) (level (value vs (suc i)))) (restOf ts vs (suc i)))
+
+  rest-end : (i : ℕ) → length ts ≤ i + 1 → restOf ts vs i ≡ commandOnto (End (length ts)) []
+  unfolding restOf stepsOnto
+  rest-end i h = rw (drop-of-length-le ts {i = suc i} (omega arith))
+
+encode-parts : (r : Ratio) (ts : List ℕ) (vs : List ℤ) → length vs ≡ length ts → 1 ≤ length ts
+    → encode (record { tolerance = r; ticks = ts; values = vs }) ≡ startOf r (record { tick = tick ts 0; level = level (value vs 0) }) ++ restOf ts vs 0
+unfolding encode samplesOnto restOf
+encode-parts r [] vs e h = absurd (not-suc-le-zero h)
+encode-parts r (t ∷ ts) [] e h = absurd (omega arith)
+encode-parts r (t ∷ ts) (v ∷ vs) e h =
+    command-append (Tolerance r) _ ∙ ap (λ (x : List ℕ). commandOnto (Tolerance r) [] ++ x) (command-append (First t (level v)) _)
+    ∙ sym (append-assoc (commandOnto (Tolerance r) []) (commandOnto (First t (level v)) []) _)
+    ∙ ap (λ (x : List ℕ). x ++ restOf (t ∷ ts) (v ∷ vs) 0) (sym (command-append (Tolerance r) (commandOnto (First t (level v)) [])))
+
+pub start-length : (r : Ratio) (s : Sample) → length (startOf r s) ≡ 16
+start-length r s = command-length (Tolerance r) _ ∙ omega (arith, command-length (First (s .tick) (s .level)) [])
+
+module _ {ts : List ℕ} {vs : List ℤ} {l : List ℕ} (kept : Kept ts vs l) where
+  -- the record is its start, with the first kept sample, and the rest
+  pub record-parts : (r : Ratio) {s : Sample} → SampleAt ts vs l 0 s → encode (selected r ts vs l) ≡ startOf r s ++ restOf (keptTicks ts l) (keptValues vs l) 0
+  record-parts r p =
+      let t = selected-trace kept in
+      rw (p .tick-is, p .level-is .is) (encode-parts r (keptTicks ts l) (keptValues vs l) (t .same) (t .some))
+
+  -- so is its length
+  pub record-length : (r : Ratio) {s : Sample} → SampleAt ts vs l 0 s → length (encode (selected r ts vs l)) ≡ 16 + length (restOf (keptTicks ts l) (keptValues vs l) 0)
+  record-length r {s} p =
+      ap length (record-parts r p) ∙ length-append (startOf r s) (restOf (keptTicks ts l) (keptValues vs l) 0) ∙ omega (arith, start-length r s)
+
+  step-bytes : (i : ℕ) → i + 1 < length l → {m : Command} → m ≡ stepAt (keptTicks ts l) (keptValues vs l) i
+      → restOf (keptTicks ts l) (keptValues vs l) i ≡ commandOnto m [] ++ restOf (keptTicks ts l) (keptValues vs l) (i + 1)
+  step-bytes i h e = rw e (rest-step (keptTicks ts l) (keptValues vs l) (selected-trace kept .same) i (rw (select-length 0 ts l) h))
+
+  step-length : (i : ℕ) → i + 1 < length l → {m : Command} → m ≡ stepAt (keptTicks ts l) (keptValues vs l) i
+      → length (restOf (keptTicks ts l) (keptValues vs l) i) ≡ sizeOf m + length (restOf (keptTicks ts l) (keptValues vs l) (i + 1))
+  step-length i h {m} e =
+      ap length (step-bytes i h e) ∙ length-append (commandOnto m []) (restOf (keptTicks ts l) (keptValues vs l) (i + 1)) ∙ omega (arith, command-length m [])
+
+  end-bytes : (i : ℕ) → length l ≤ i + 1 → restOf (keptTicks ts l) (keptValues vs l) i ≡ commandOnto (End (length l)) []
+  end-bytes i h =
+      rest-end (keptTicks ts l) (keptValues vs l) (selected-trace kept .same) i (rw (select-length 0 ts l) h) ∙ ap (λ (n : ℕ). commandOnto (End n) []) (select-length 0 ts l)
+
+  end-length : (i : ℕ) → length l ≤ i + 1 → length (restOf (keptTicks ts l) (keptValues vs l) i) ≡ 3
+  end-length i h = ap length (end-bytes i h) ∙ command-length (End (length l)) []
+
+-- ---- counted
+
+pub record Counted (ts : List ℕ) (vs : List ℤ) (l : List ℕ) (s : Sample) (total i : ℕ) : Type 0 where
+  pub within : i < length l
+  pub sample : SampleAt ts vs l i s
+  pub small : total ≤ 16 + 9 * i
+  pub is : (r : Ratio) → length (encode (selected r ts vs l)) ≡ total + length (restOf (keptTicks ts l) (keptValues vs l) i)
+  pub range : (k : ℕ) → k < i + 1 → mag (value (keptValues vs l) k) < 32768
+
+module _ {ts : List ℕ} {vs : List ℤ} {l : List ℕ} (kept : Kept ts vs l) where
+  pub count-begins : {s : Sample} → SampleAt ts vs l 0 s → Counted ts vs l s 16 0
+  count-begins p = record {
+    within = list-some kept;
+    sample = p;
+    small = omega arith;
+    is = λ r. record-length kept r p;
+    range = below-more _ _ (λ k h. absurd (omega arith)) (p .level-is .range);
+  }
+
+  pub counts : {s : Sample} {total i : ℕ} → Counted ts vs l s total i → i + 1 < length l → {m : Move} → MoveFrom ts vs l i m → {k : ℕ} → k ≡ sizeOf (m .step) → k ≤ 9
+      → Counted ts vs l (m .to) (total + k) (i + 1)
+  counts {i = i} c h m e small = record {
+    within = h;
+    sample = m .to-is;
+    small = omega (arith, c .small);
+    is = λ r. c .is r ∙ omega (arith, step-length kept i h (m .step-is));
+    range = below-more _ _ (c .range) (m .to-is .level-is .range);
+  }
+
+  pub count-ends : {s : Sample} {total i : ℕ} → Counted ts vs l s total i → length l ≤ i + 1 → LengthOf ts vs l (total + 3)
+  count-ends {i = i} c h = record {
+    is = λ r. omega (arith, c .is r, end-length kept i h);
+    range = λ k. elim (decLe (suc k) (i + 1)) [
+      | yes q ↦ c .range k q
+      | no q ↦ rw (List·getD-eq-default (keptValues vs l) (pos 0) {n = k} (omega (arith, select-length (pos 0) vs l))) (omega arith)
+    ];
+  }
+
+-- ---- written
+
+pub record Putting (ts : List ℕ) (vs : List ℤ) (l : List ℕ) (o part : List ℕ) (s : Sample) (at i : ℕ) (w : List ℕ) : Type 0 where
+  pub within : i < length l
+  pub sample : SampleAt ts vs l i s
+  pub rest : restOf (keptTicks ts l) (keptValues vs l) 0 ≡ w ++ restOf (keptTicks ts l) (keptValues vs l) i
+  pub over : part ≡ overwrite w o
+  pub long : length w ≡ at
+  pub room : length (restOf (keptTicks ts l) (keptValues vs l) 0) ≤ length o
+
+module _ {ts : List ℕ} {vs : List ℤ} {l : List ℕ} (kept : Kept ts vs l) where
+  pub put-begins : {o : List ℕ} {s : Sample} → SampleAt ts vs l 0 s → length (restOf (keptTicks ts l) (keptValues vs l) 0) ≤ length o → Putting ts vs l o o s 0 0 []
+  put-begins p h = record { within = list-some kept; sample = p; rest = refl; over = refl; long = refl; room = h }
+
+  module _ {o part : List ℕ} {s : Sample} {at i : ℕ} {w : List ℕ} (g : Putting ts vs l o part s at i w) where
+    total : length (restOf (keptTicks ts l) (keptValues vs l) 0) ≡ at + length (restOf (keptTicks ts l) (keptValues vs l) i)
+    total = ap length (g .rest) ∙ length-append w (restOf (keptTicks ts l) (keptValues vs l) i) ∙ omega (arith, g .long)
+
+    pub same-long : length part ≡ length o
+    same-long = ap length (g .over) ∙ overwrite-length w o (omega (arith, g .room, g .long, total))
+
+    -- there is room for the next step
+    pub step-room : i + 1 < length l → {m : Move} → MoveFrom ts vs l i m → at + sizeOf (m .step) ≤ length part
+    step-room h m = omega (arith, same-long, g .room, total, step-length kept i h (m .step-is))
+
+    pub puts : i + 1 < length l → {m : Move} → MoveFrom ts vs l i m → {k : ℕ} → k ≡ sizeOf (m .step)
+        → {ys : List ℕ} → ys ≡ overwrite (commandOnto (m .step) []) (take (length part - at) (drop at part))
+        → Putting ts vs l o (putMid at (length part - at) part ys) (m .to) (at + k) (i + 1) (w ++ commandOnto (m .step) [])
+    puts h {m = mv} m e {ys} y = record {
+      within = h;
+      sample = m .to-is;
+      rest = g .rest ∙ ap (λ (x : List ℕ). w ++ x) (step-bytes kept i h (m .step-is)) ∙ sym (append-assoc w (commandOnto (mv .step) []) (restOf (keptTicks ts l) (keptValues vs l) (i + 1)));
+      over = written-part part o w (commandOnto (mv .step) []) ys at (g .over) (g .long) y;
+      long = length-append w (commandOnto (mv .step) []) ∙ omega (arith, g .long, command-length (mv .step) []);
+      room = g .room;
+    }
+
+    -- and for the end
+    pub end-room : length l ≤ i + 1 → at + 3 ≤ length part
+    end-room h = omega (arith, same-long, g .room, total, end-length kept i h)
+
+    pub put-ends : length l ≤ i + 1 → {ys : List ℕ} → ys ≡ overwrite (commandOnto (End (length l)) []) (take (length part - at) (drop at part))
+        → putMid at (length part - at) part ys ≡ overwrite (restOf (keptTicks ts l) (keptValues vs l) 0) o
+    put-ends h {ys} y =
+        let e : restOf (keptTicks ts l) (keptValues vs l) 0 ≡ w ++ commandOnto (End (length l)) [] = g .rest ∙ ap (λ (x : List ℕ). w ++ x) (end-bytes kept i h) in
+        written-part part o w (commandOnto (End (length l)) []) ys at (g .over) (g .long) y ∙ ap (λ (x : List ℕ). overwrite x o) (sym e)
+
+-- ---- the outcome
+
+module _ (x : Content) (o : List ℕ) (place : ℕ) {n : ℕ} (e : n ≡ length (encode x)) where
+  pub no-room : length o - place < n → writeRow (encode x) (length o) place ≡ Declined (Room n)
+  no-room h = rw (← e, lt-leb n (length o - place) h)
+
+  pub wrote : Legal x → place ≤ length o → n ≤ length o - place → {ys : List ℕ} → ys ≡ overwrite (encode x) (take (length o - place) (drop place o))
+      → WrittenAt x o place n (putMid place (length o - place) o ys)
+  wrote legal p h {ys} y =
+      let f : putMid place (length o - place) o ys ≡ overwriteFrom place (encode x) o = written-from o (encode x) ys place y in
+      let w : take n (drop place (putMid place (length o - place) o ys)) ≡ encode x = rw (f, e) (written-within (encode x) o place p) in
+      record {
+        rows = rw (← e, le-leb n (length o - place) h);
+        count = e;
+        content = f;
+        accepted = rw w (record { parsed = parse-encode x legal; bytes = refl; legal = legal });
+      }

@@ -1,0 +1,121 @@
+-- `writer::commands::put_command` meets its contract: each command is its kind and its operands. Assumes nothing.
+use mathlib.Core.Path.{_≡_, subst}
+use Prim.Native.Nat.{ℕ, _≤_}
+use native.Mathlib.Omega.{arith}
+use lib.ListN.{length}
+use borrow.Author.Needs.{needs}
+use Rattle.format.specs.declared.Command.{Command}
+use Rattle.format.specs.Number.{bytesOnto}
+use Rattle.format.specs.Command.{sizeOf, Operands}
+use Rattle.writer.proofs.commands.put_command.Statement.{statement}
+use Rattle.writer.proofs.commands.put_command.Tie as tie
+
+-- what is required of a command, once it is known which it is
+known : {m m′ : Command} → m ≡ m′ → (n : ℕ) → (sizeOf m ≤ n) × Operands m → (sizeOf m′ ≤ n) × Operands m′
+known e n p = subst (λ (x : Command). (sizeOf x ≤ n) × Operands x) e p
+
+enum-known-m : tie.Need-enum-known-m
+enum-known-m c = search needs
+
+put-operands-requires : tie.Need-put-operands-requires
+put-operands-requires c κs = let s = c .before .before .before .before .before in let w = known (c .before .before .m .given .1) (length (s .args .part .now)) (s .pre) in omega arith
+
+enum-known-m-2 : tie.Need-enum-known-m-2
+enum-known-m-2 c = search needs
+
+add-put-operands : tie.Need-add-put-operands
+add-put-operands c = let s = c .before .before .before .before .before in let w = known (c .before .before .m2 .given .1) (length (s .args .part .now)) (s .pre) in omega arith
+
+put-operands-requires-2 : tie.Need-put-operands-requires-2
+put-operands-requires-2 c κs = let s = c .before .before .before .before .before in let w = known (c .before .before .m2 .given .1) (length (s .args .part .now)) (s .pre) in omega arith
+
+enum-known-m-3 : tie.Need-enum-known-m-3
+enum-known-m-3 c = search needs
+
+add-put-operands-2 : tie.Need-add-put-operands-2
+add-put-operands-2 c = let s = c .before .before .before .before .before in let w = known (c .before .before .m3 .given .1) (length (s .args .part .now)) (s .pre) in omega arith
+
+put-operands-requires-3 : tie.Need-put-operands-requires-3
+put-operands-requires-3 c κs = let s = c .before .before .before .before .before in let w = known (c .before .before .m3 .given .1) (length (s .args .part .now)) (s .pre) in omega arith
+
+enum-known-m-4 : tie.Need-enum-known-m-4
+enum-known-m-4 c = search needs
+
+add-put-operands-3 : tie.Need-add-put-operands-3
+add-put-operands-3 c = let s = c .before .before .before .before .before in let w = known (c .before .before .m4 .given .1) (length (s .args .part .now)) (s .pre) in omega arith
+
+put-operands-requires-4 : tie.Need-put-operands-requires-4
+put-operands-requires-4 c κs = let s = c .before .before .before .before .before in let w = known (c .before .before .m4 .given .1) (length (s .args .part .now)) (s .pre) in omega arith
+
+enum-known-m-5 : tie.Need-enum-known-m-5
+enum-known-m-5 c = search needs
+
+put-operands-requires-5 : tie.Need-put-operands-requires-5
+put-operands-requires-5 c κs = let s = c .before .before .before .before .before in let w = known (c .before .before .m5 .given .1) (length (s .args .part .now)) (s .pre) in omega arith
+
+enum-told : tie.Need-enum-told
+enum-told c = search needs
+
+same-length : tie.Need-same-length
+same-length c = search needs
+
+returns : tie.Need-returns
+returns c = rw (c .before .before .before .before .before .m .given .1) (c .before .before .put-operands .ensures)
+
+same-length-2 : tie.Need-same-length-2
+same-length-2 c = search needs
+
+returns-2 : tie.Need-returns-2
+returns-2 c = rw (c .before .before .before .before .before .m2 .given .1) (c .before .before .put-operands2 .ensures)
+
+same-length-3 : tie.Need-same-length-3
+same-length-3 c = search needs
+
+returns-3 : tie.Need-returns-3
+returns-3 c = rw (c .before .before .before .before .before .m3 .given .1) (c .before .before .put-operands3 .ensures)
+
+same-length-4 : tie.Need-same-length-4
+same-length-4 c = search needs
+
+returns-4 : tie.Need-returns-4
+returns-4 c = rw (c .before .before .before .before .before .m4 .given .1) (c .before .before .put-operands4 .ensures)
+
+same-length-5 : tie.Need-same-length-5
+same-length-5 c = search needs
+
+returns-5 : tie.Need-returns-5
+unfolding bytesOnto
+returns-5 c = rw (c .before .before .before .before .before .m5 .given .1) (c .before .before .put-operands5 .ensures)
+
+returns-6 : tie.Need-returns-6
+returns-6 c = search needs
+
+pub put-command-spec : {M : Type 1} → statement M
+put-command-spec =
+    tie.close
+    (tie.spec
+    enum-known-m
+    put-operands-requires
+    enum-known-m-2
+    add-put-operands
+    put-operands-requires-2
+    enum-known-m-3
+    add-put-operands-2
+    put-operands-requires-3
+    enum-known-m-4
+    add-put-operands-3
+    put-operands-requires-4
+    enum-known-m-5
+    put-operands-requires-5
+    enum-told
+    same-length
+    returns
+    same-length-2
+    returns-2
+    same-length-3
+    returns-3
+    same-length-4
+    returns-4
+    same-length-5
+    returns-5
+    returns-6)

@@ -1,0 +1,117 @@
+// Writes the record of the samples that a list keeps of a trace (document 01, "The record") into an event buffer. Commands are written in
+// commands, and samples are walked in samples.
+ghost use mathlib.Core.Path.{_≡_};
+ghost use Prim.Native.Nat.{_≤_};
+ghost use lib.ListN.{length};
+ghost use Rattle.lists.specs.Overwrite.{overwrite};
+ghost use Rattle.format.specs.Format.{Held, encode};
+ghost use Rattle.writer.specs.Writing.{Kept, keptTicks, keptValues, selected, SampleAt, SampleOk, LengthOf, startOf, restOf, WriteOutcome};
+use commands::put_command;
+use commands::size;
+use format::Command;
+use ratio::Ratio;
+use refusal::Refusal;
+use samples::move_to;
+use samples::sample_at;
+
+// What writing answers: the record's length, or why it declined.
+pub enum Answer {
+    Written(usize),
+    Refused(Refusal),
+}
+
+// A sample: its tick and its level, the value + 32,768.
+pub struct Sample {
+    pub tick: u64,
+    pub level: u64,
+}
+
+// A step, and the sample that it leads to.
+pub struct Move {
+    pub step: Command,
+    pub to: Sample,
+}
+
+pub mod commands;
+pub mod samples;
+
+// The length of the record.
+fn record_length(ticks: &[u32], values: &[i16], list: &[u16]) -> usize
+    requires { ⌜ Kept (now ticks) (now values) (now list) ⌝ }
+    ensures { λ n. ⌜ LengthOf (now (ticks .entry)) (now (values .entry)) (now (list .entry)) n ⌝ }
+{
+    let n = list.len();
+    let mut s = sample_at(ticks, values, list, 0);
+    let mut total: usize = 16;
+    let mut i: usize = 0;
+    while i + 1 < n {
+        let m = move_to(ticks, values, list, i, s);
+        let step = m.step;
+        total += size(step);
+        s = m.to;
+        i += 1;
+    }
+    total + 3
+}
+
+// The tolerance and the first sample go to the start of part.
+fn put_start(part: &mut [u8], held: Ratio, s: Sample)
+    requires { ⌜ (16 ≤ length (now part)) × Held held × SampleOk s ⌝ }
+    ensures { λ _. ⌜ now (part .exit) ≡ overwrite (startOf held s) (now (part .entry)) ⌝ }
+{
+    put_command(part, Command::Tolerance(held));
+    put_command(&mut part[9..], Command::First(s.tick, s.level));
+}
+
+// The steps after the first kept sample, and the end, go to the start of part.
+fn put_steps(part: &mut [u8], ticks: &[u32], values: &[i16], list: &[u16], first: Sample)
+    requires { ⌜ Kept (now ticks) (now values) (now list) × SampleAt (now ticks) (now values) (now list) 0 first × (length (restOf (keptTicks (now ticks) (now list)) (keptValues (now values) (now list)) 0) ≤ length (now part)) ⌝ }
+    ensures { λ _. ⌜ now (part .exit) ≡ overwrite (restOf (keptTicks (now (ticks .entry)) (now (list .entry))) (keptValues (now (values .entry)) (now (list .entry))) 0) (now (part .entry)) ⌝ }
+{
+    let n = list.len();
+    let mut s = first;
+    let mut at: usize = 0;
+    let mut i: usize = 0;
+    while i + 1 < n {
+        let m = move_to(ticks, values, list, i, s);
+        let step = m.step;
+        put_command(&mut part[at..], step);
+        at += size(step);
+        s = m.to;
+        i += 1;
+    }
+    put_command(&mut part[at..], Command::End(n as u64));
+}
+
+// The record goes to the start of part.
+fn put_record(part: &mut [u8], ticks: &[u32], values: &[i16], list: &[u16], held: Ratio)
+    requires { ⌜ Kept (now ticks) (now values) (now list) × Held held × (length (encode (selected held (now ticks) (now values) (now list))) ≤ length (now part)) ⌝ }
+    ensures { λ _. ⌜ now (part .exit) ≡ overwrite (encode (selected held (now (ticks .entry)) (now (values .entry)) (now (list .entry)))) (now (part .entry)) ⌝ }
+{
+    let s = sample_at(ticks, values, list, 0);
+    put_start(part, held, s);
+    put_steps(&mut part[16..], ticks, values, list, s);
+}
+
+// Writes the record of the kept samples and the held tolerance into the event buffer from a place on.
+pub fn write(
+    ticks: &[u32],
+    values: &[i16],
+    list: &[u16],
+    held: Ratio,
+    buffer: &mut [u8],
+    place: usize,
+) -> Answer
+    requires { ⌜ Kept (now ticks) (now values) (now list) × Held held ⌝ }
+    ensures { λ r. ⌜ WriteOutcome (selected held (now (ticks .entry)) (now (values .entry)) (now (list .entry))) (now (buffer .entry)) place r (now (buffer .exit)) ⌝ }
+{
+    let n = record_length(ticks, values, list);
+    if buffer.len() < place {
+        return Answer::Refused(Refusal::Room(n));
+    }
+    if buffer.len() - place < n {
+        return Answer::Refused(Refusal::Room(n));
+    }
+    put_record(&mut buffer[place..], ticks, values, list, held);
+    Answer::Written(n)
+}
