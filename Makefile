@@ -12,10 +12,10 @@ BENCH_FLAGS = -O3
 lib:
 	@rt staticlib kovrelna
 
-# Judge two lists of a shipped trace.
-example: lib
-	@$(CARGO) run $(CARGO_FLAGS) --example judge -- examples/slope.txt 2/3 0 2
-	@$(CARGO) run $(CARGO_FLAGS) --example judge -- examples/slope.txt 665/1000 0 2
+# Reduce the samples of a shipped record.
+example:
+	@rt check reduce >/dev/null
+	@target/bin/reduce <examples/wave.record
 
 # Prove everything from nothing, try the edits that must fail, and run every test. The last line is rt ci's.
 test:
@@ -23,10 +23,10 @@ test:
 	@log=$$(mktemp); trap 'rm -f "$$log"' EXIT; \
 	if ! rt ci >"$$log" 2>&1; then cat "$$log"; exit 1; fi; \
 	grep '^rt:' "$$log"; \
-	rt staticlib kovrelna >/dev/null && $(MAKE) --no-print-directory test-rust test-c && tail -n 1 "$$log"
+	rt staticlib kovrelna >/dev/null && make --no-print-directory test-rust test-c && tail -n 1 "$$log"
 
 test-rust:
-	@$(CARGO) test $(CARGO_FLAGS) --workspace --examples --lib --tests
+	@$(CARGO) test $(CARGO_FLAGS) --workspace --lib --tests
 	@$(CARGO) test $(CARGO_FLAGS) --workspace --doc
 
 # The C test, also as C++ where there is a compiler for it.
