@@ -9,7 +9,7 @@ use native.Mathlib.Decide.{decLe}
 use lib.Dec.{ltb, leb}
 use borrow.Author.Tests.{le-leb, lt-leb}
 use Rattle.ratio.specs.declared.Ratio.{Ratio}
-use Rattle.ratio.specs.Order.{AtMost, Below, greater}
+use Rattle.ratio.specs.Order.{AtMost, Below, greater, lesser}
 
 module _ (x y z : Ratio) where
   pub at-most-trans : 0 < y .q → AtMost x y → AtMost y z → AtMost x z
@@ -41,5 +41,27 @@ pub greater-right : (x y : Ratio) → AtMost y (greater x y)
 unfolding greater
 greater-right x y = elim (decLe (x .p * y .q) (y .p * x .q)) [
   | yes q ↦ rw (le-leb (x .p * y .q) (y .p * x .q) q) (omega arith)
+  | no q ↦ rw (lt-leb (x .p * y .q) (y .p * x .q) (omega arith)) (omega arith)
+]
+
+-- the lesser of two is one of them, and at most each
+pub lesser-one : (P : Ratio → Type 0) (x y : Ratio) → P x → P y → P (lesser x y)
+unfolding lesser
+lesser-one P x y a b = elim (decLe (x .p * y .q) (y .p * x .q)) [
+  | yes q ↦ rw (le-leb (x .p * y .q) (y .p * x .q) q) a
+  | no q ↦ rw (lt-leb (x .p * y .q) (y .p * x .q) (omega arith)) b
+]
+
+pub lesser-left : (x y : Ratio) → AtMost (lesser x y) x
+unfolding lesser
+lesser-left x y = elim (decLe (x .p * y .q) (y .p * x .q)) [
+  | yes q ↦ rw (le-leb (x .p * y .q) (y .p * x .q) q) (omega arith)
+  | no q ↦ rw (lt-leb (x .p * y .q) (y .p * x .q) (omega arith)) (omega arith)
+]
+
+pub lesser-right : (x y : Ratio) → AtMost (lesser x y) y
+unfolding lesser
+lesser-right x y = elim (decLe (x .p * y .q) (y .p * x .q)) [
+  | yes q ↦ rw (le-leb (x .p * y .q) (y .p * x .q) q) q
   | no q ↦ rw (lt-leb (x .p * y .q) (y .p * x .q) (omega arith)) (omega arith)
 ]
