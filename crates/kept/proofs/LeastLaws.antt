@@ -116,11 +116,11 @@ module _ {err : ℕ → ℕ → Ratio} {last : ℕ} (law : Errors err last) wher
 -- ---- the least error
 
 -- a kept list of at most m samples with each link of an error up to x
-pub record Reached (err : ℕ → ℕ → Ratio) (last m : ℕ) (x : Ratio) : Type 0 where
-  pub list : List ℕ
-  pub kept : KeptList last list
-  pub few : length list ≤ m
-  pub within : EachLink (λ i j. AtMost (err i j) x) list
+record Attained (err : ℕ → ℕ → Ratio) (last m : ℕ) (x : Ratio) : Type 0 where
+  list : List ℕ
+  kept : KeptList last list
+  few : length list ≤ m
+  within : EachLink (λ i j. AtMost (err i j) x) list
 
 module _ {err : ℕ → ℕ → Ratio} {last : ℕ} (law : Errors err last) (m : ℕ) (two : 2 ≤ m) where
   least-one : (P : Ratio → Type 0) → P (over 0 1) → ((i j : ℕ) → i < j → j ≤ last → P (err i j)) → P (leastOf err last m)
@@ -133,7 +133,7 @@ module _ {err : ℕ → ℕ → Ratio} {last : ℕ} (law : Errors err last) (m :
   least-pos : 0 < leastOf err last m .q
   least-pos = least-one (λ x. 0 < x .q) (omega arith) (law .positive)
 
-  least-reached : Reached err last m (leastOf err last m)
+  least-reached : Attained err last m (leastOf err last m)
   unfolding leastOf
   least-reached = elim (decLt 0 last) [
     | yes q ↦ rw (lt-ltb 0 last q) (let r = from-reached law (m - 2) 0 q in record { list = 0 ∷ r .rest; kept = record { spans = (refl, r .ends); rises = r .rises }; few = omega (arith, r .few); within = r .within })

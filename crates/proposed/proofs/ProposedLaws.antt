@@ -23,8 +23,9 @@ use Rattle.kept.specs.Kept.{LinksFrom, EachLink, final, KeptList, AllValid}
 use Rattle.kept.proofs.KeptLaws.{links-at, links-of, kept-links}
 use Rattle.trace.specs.declared.Criterion.{Criterion}
 use Rattle.trace.specs.Trace.{Trace}
-use Rattle.trace.specs.Link.{valid, Linked}
-use Rattle.proposed.specs.Proposed.{entry, badAt, endRow, listRow, invalidAt, firstInvalid}
+use Rattle.ratio.specs.declared.Ratio.{Ratio}
+use Rattle.trace.specs.Link.{valid, linkError, Linked}
+use Rattle.proposed.specs.Proposed.{entry, badAt, endRow, listRow, invalidAt, firstInvalid, errorAt}
 
 -- ---- a bad entry
 
@@ -165,6 +166,9 @@ kept-link {ts} {vs} {l} {k} t kept h ei ej =
 
 pub link-invalid : (ts : List ℕ) (vs : List ℤ) (c : Criterion) (l : List ℕ) (k : ℕ) {i j : ℕ} {b : Bool} → i ≡ entry l k → j ≡ entry l (k + 1) → b ≡ valid ts vs c i j → not b ≡ invalidAt ts vs c l k
 link-invalid ts vs c l k ei ej e = rw (e, ei, ej, add-one k)
+
+pub link-error-at : (ts : List ℕ) (vs : List ℤ) (l : List ℕ) (k : ℕ) {i j : ℕ} {r : Ratio} → i ≡ entry l k → j ≡ entry l (k + 1) → r ≡ linkError ts vs i j → r ≡ errorAt ts vs l k
+link-error-at ts vs l k ei ej e = e ∙ rw (ei, ej, add-one k)
 
 module _ (ts : List ℕ) (vs : List ℤ) (c : Criterion) (l : List ℕ) where
   -- no link is invalid exactly if all are valid

@@ -3,13 +3,13 @@
 use mathlib.Core.Path.{_≡_, refl, sym, _∙_, ap}
 use mathlib.Core.Bool.{Bool, true, false, cond}
 use Prim.Native.Nat.{ℕ, zero, suc, _+_, _*_, _≤_, _<_}
-use native.Mathlib.Nat.{mul-le-mul-right, mul-lt-mul-of-pos-right, le-of-mul-le-mul-right, lt-of-mul-lt-mul-right, eq-of-mul-eq-mul-right}
+use native.Mathlib.Nat.{mul-le-mul, mul-le-mul-right, mul-lt-mul-of-pos-right, le-of-mul-le-mul-right, lt-of-mul-lt-mul-right, eq-of-mul-eq-mul-right}
 use native.Mathlib.Omega.{arith}
 use native.Mathlib.Decide.{decLe}
 use lib.Dec.{ltb, leb}
 use borrow.Author.Tests.{le-leb, lt-leb}
 use Rattle.ratio.specs.declared.Ratio.{Ratio}
-use Rattle.ratio.specs.Order.{AtMost, Below, greater, lesser}
+use Rattle.ratio.specs.Order.{AtMost, Below, greater, lesser, Small}
 
 module _ (x y z : Ratio) where
   pub at-most-trans : 0 < y .q → AtMost x y → AtMost y z → AtMost x z
@@ -65,3 +65,6 @@ lesser-right x y = elim (decLe (x .p * y .q) (y .p * x .q)) [
   | yes q ↦ rw (le-leb (x .p * y .q) (y .p * x .q) q) q
   | no q ↦ rw (lt-leb (x .p * y .q) (y .p * x .q) (omega arith)) (omega arith)
 ]
+
+pub small-product : {x y : Ratio} → Small x → Small y → x .p * y .q < 72057594037927936
+small-product {x} {y} a b = let h : x .p * y .q ≤ 68719476735 * 1048575 = mul-le-mul {n₂ = 68719476735} (omega (arith, a .p-bound)) (b .q-bound) in omega (arith, h)
