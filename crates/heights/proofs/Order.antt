@@ -1,0 +1,64 @@
+-- The order of integers, by differences of naturals (trace: proofs/Difference).
+-- Assumes nothing.
+use mathlib.Core.Path.{_≡_, refl, subst}
+use mathlib.Core.Bool.{Bool, true, false, cond}
+use mathlib.Core.Logic.{_↔_}
+use Prim.Native.Nat.{ℕ, suc, _+_, _-_, _*_, _≤_}
+use native.Mathlib.Omega.{arith}
+use native.Mathlib.Decide.{decLe}
+use lib.Dec.{leb→le, le→leb}
+use lib.IntN.{ℤ, pos, negsuc, _-ℤ_}
+use lib.Signed.{_≤ℤ_, leZ}
+use Rattle.lists.proofs.Tests.{by-test, is-true, true-is, true-false}
+use Rattle.trace.proofs.Difference.{Diff, same, plus, negated, number}
+use Rattle.heights.specs.Heights.{higher, lower}
+
+pub less : {x y : ℤ} {a b c d : ℕ} → Diff x a b → Diff y c d → Diff (x -ℤ y) (a + d) (b + c)
+less h k = plus h (negated k)
+
+-- the number from m to n, for m ≤ n
+pub distance : (m n : ℕ) → m ≤ n → pos n -ℤ pos m ≡ pos (n - m)
+distance m n h = number (same (less {x = pos n} {y = pos m} {a = n} {b = 0} {c = m} {d = 0} (omega arith) (omega arith)) n m (omega arith)) h
+
+pub parts : (z : ℤ) → (a : ℕ) × (b : ℕ) × Diff z a b
+parts (pos n) = (n, 0, omega arith)
+parts (negsuc n) = (0, suc n, omega arith)
+
+pub order : {x y : ℤ} {a b c d : ℕ} → Diff x a b → Diff y c d → x ≤ℤ y ↔ a + d ≤ c + b
+order {x = pos m} {y = pos n} h k = (λ l. omega (arith, leb→le m n (l .le)), λ l. record { le = le→leb m n (omega arith) })
+order {x = pos m} {y = negsuc n} h k = (λ l. absurd (l .le), λ l. absurd (omega arith))
+order {x = negsuc m} {y = pos n} h k = (λ l. omega arith, λ l. record { le = tt })
+order {x = negsuc m} {y = negsuc n} h k = (λ l. omega (arith, leb→le n m (l .le)), λ l. record { le = le→leb n m (omega arith) })
+
+pub order-refl : (x : ℤ) → x ≤ℤ x
+order-refl x = let d = parts x .2 in order d d .1 (omega arith)
+
+pub order-trans : (x y z : ℤ) → x ≤ℤ y → y ≤ℤ z → x ≤ℤ z
+order-trans x y z h k =
+    let dx = parts x .2 in
+    let dy = parts y .2 in
+    let dz = parts z .2 in
+    order dx dz .1 (omega (arith, order dx dy .0 h, order dy dz .0 k))
+
+-- of two values one is the higher and the other the lower
+pub either-order : (x y : ℤ) → leZ x y ≡ false → y ≤ℤ x
+either-order x y e =
+    let dx = parts x .2 in
+    let dy = parts y .2 in
+    elim (decLe (parts y .0 + parts x .1) (parts x .0 + parts y .1)) [
+      | yes h ↦ order dy dx .1 h
+      | no h ↦ true-false (true-is _ (order dx dy .1 (omega arith) .le)) e
+    ]
+
+module _ (x y : ℤ) where
+  pub higher-left : x ≤ℤ higher x y
+  higher-left = by-test (leZ x y) (λ e. rw e (record { le = is-true e })) (λ e. rw e (order-refl x))
+
+  pub higher-right : y ≤ℤ higher x y
+  higher-right = by-test (leZ x y) (λ e. rw e (order-refl y)) (λ e. rw e (either-order x y e))
+
+  pub lower-left : lower x y ≤ℤ x
+  lower-left = by-test (leZ x y) (λ e. rw e (order-refl x)) (λ e. rw e (either-order x y e))
+
+  pub lower-right : lower x y ≤ℤ y
+  lower-right = by-test (leZ x y) (λ e. rw e (record { le = is-true e })) (λ e. rw e (order-refl y))
