@@ -6,7 +6,6 @@ use mathlib.Core.List.{List, [], _∷_}
 use Prim.Native.Nat.{ℕ, zero, suc, _+_, _≤_, _<_}
 use native.Mathlib.Nat.{eq-or-lt-of-le}
 use native.Mathlib.Omega.{arith}
-use lib.ListN.{length}
 use Rattle.kept.specs.Kept.{LinksFrom, EachLink, final, KeptList}
 use Rattle.kept.proofs.KeptLaws.{rise-le}
 use Rattle.heights.specs.Heights.{samplesAfter, everySample}

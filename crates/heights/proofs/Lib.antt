@@ -3,3 +3,6 @@ pub mod Order
 pub mod Entries
 pub mod LineLaws
 pub mod NearLaws
+pub mod ExtremeLaws
+pub mod BudgetLaws
+pub mod Examples

@@ -1,20 +1,18 @@
 -- The lines of a list: which link decides, and the line of a link over levels.
 -- Assumes nothing.
-use mathlib.Core.Path.{_≡_, refl, sym, subst, _∙_, ap}
-use mathlib.Core.Bool.{true, false}
+use mathlib.Core.Path.{_≡_, sym, subst, _∙_, ap}
 use mathlib.Core.List.{List, [], _∷_}
-use Prim.Native.Nat.{ℕ, zero, suc, _+_, _-_, _*_, _≤_, _<_}
+use Prim.Native.Nat.{ℕ, _+_, _-_, _*_, _≤_, _<_}
 use native.Mathlib.Nat.{mul-sub, mul-pos}
 use native.Mathlib.Omega.{arith}
 use lib.Dec.{leb}
-use lib.IntN.{ℤ, pos, _+ℤ_, _-ℤ_, _*ℤ_}
+use lib.IntN.{ℤ}
 use borrow.Author.Tests.{leb-true, leb-false}
 use Rattle.lists.proofs.Tests.{by-test}
 use Rattle.kept.specs.Kept.{LinksFrom, EachLink, final, KeptList}
 use Rattle.trace.specs.Trace.{tick, value}
 use Rattle.trace.proofs.Difference.{Diff, same, plus, times}
 use Rattle.trace.proofs.Deviation.{line}
-use Rattle.trace.proofs.Heights.{reach, height, height-diff}
 use Rattle.heights.specs.Heights.{Fraction, linkAt, lineFrom, lineAt}
 use Rattle.heights.proofs.Order.{distance}
 

@@ -1,23 +1,23 @@
 -- A kept list within p/q has its lines within p/q of the trace's own at every tick between the first and the last. Inside a link both are
 -- straight from each sample to the next, so their difference there is a mean of those at two samples, which are deviations of the link.
 -- Assumes nothing.
-use mathlib.Core.Path.{_≡_, refl, sym, _∙_, ap, subst, subst₂}
+use mathlib.Core.Path.{_≡_, refl, sym, _∙_, ap, subst}
 use mathlib.Core.Bool.{true}
 use mathlib.Core.Logic.{⊎-elim}
-use mathlib.Core.List.{List, [], _∷_}
-use Prim.Native.Nat.{ℕ, zero, suc, _+_, _-_, _*_, _≤_, _<_, zero-le}
+use mathlib.Core.List.{List}
+use Prim.Native.Nat.{ℕ, suc, _+_, _-_, _*_, _≤_, _<_, zero-le}
 use native.Mathlib.Nat.{mul-le-mul-right, mul-le-mul-left, mul-sub, eq-or-lt-of-le}
 use native.Mathlib.Omega.{arith}
 use native.Mathlib.Decide.{decLe}
 use lib.IntN.{ℤ}
 use lib.ListN.{length}
-use Rattle.kept.specs.Kept.{LinksFrom, EachLink, final, KeptList, AllValid}
-use Rattle.kept.proofs.KeptLaws.{rise-le, each-zip, kept-links}
+use Rattle.kept.specs.Kept.{KeptList, AllValid}
+use Rattle.kept.proofs.KeptLaws.{each-zip, kept-links}
 use Rattle.trace.specs.declared.Criterion.{Criterion}
-use Rattle.trace.specs.Trace.{tick, value, Rising, Trace}
+use Rattle.trace.specs.Trace.{tick, Rising, Trace}
 use Rattle.trace.specs.Link.{Valid, valid}
 use Rattle.trace.proofs.Line.{Above, Below}
-use Rattle.trace.proofs.Ticks.{later, not-earlier}
+use Rattle.trace.proofs.Ticks.{not-earlier}
 use Rattle.trace.proofs.Difference.{Diff, same, times, size-at-most}
 use Rattle.trace.proofs.Deviation.{line}
 use Rattle.trace.proofs.Heights.{reach, height, height-diff, High, Low, high, low}

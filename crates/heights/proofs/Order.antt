@@ -1,9 +1,9 @@
 -- The order of integers, by differences of naturals (trace: proofs/Difference).
 -- Assumes nothing.
-use mathlib.Core.Path.{_≡_, refl, subst}
-use mathlib.Core.Bool.{Bool, true, false, cond}
+use mathlib.Core.Path.{_≡_, ap}
+use mathlib.Core.Bool.{false}
 use mathlib.Core.Logic.{_↔_}
-use Prim.Native.Nat.{ℕ, suc, _+_, _-_, _*_, _≤_}
+use Prim.Native.Nat.{ℕ, suc, _+_, _-_, _≤_}
 use native.Mathlib.Omega.{arith}
 use native.Mathlib.Decide.{decLe}
 use lib.Dec.{leb→le, le→leb}
@@ -62,3 +62,16 @@ module _ (x y : ℤ) where
 
   pub lower-right : lower x y ≤ℤ y
   lower-right = by-test (leZ x y) (λ e. rw e (record { le = is-true e })) (λ e. rw e (order-refl y))
+
+pub higher-one : (P : ℤ → Type 0) (x y : ℤ) → P x → P y → P (higher x y)
+higher-one P x y h k = by-test (leZ x y) (λ e. rw e k) (λ e. rw e h)
+
+pub lower-one : (P : ℤ → Type 0) (x y : ℤ) → P x → P y → P (lower x y)
+lower-one P x y h k = by-test (leZ x y) (λ e. rw e h) (λ e. rw e k)
+
+-- one difference is one number
+pub unique : {x y : ℤ} {a b c d : ℕ} → Diff x a b → Diff y c d → a + d ≡ c + b → x ≡ y
+unique {x = pos m} {y = pos n} h k e = ap pos (omega arith)
+unique {x = pos m} {y = negsuc n} h k e = absurd (omega arith)
+unique {x = negsuc m} {y = pos n} h k e = absurd (omega arith)
+unique {x = negsuc m} {y = negsuc n} h k e = ap negsuc (omega arith)

@@ -6,7 +6,7 @@
 --   Near                  two fractions differ by at most p/q
 --   Equals, Between       a fraction is a whole number; it lies between two
 --   peak, trough, height  the greatest and the least value of a list's samples, and their difference
---   Attained              a list's lines have a value at some sample of the trace
+--   Attained, Extremes    a list's lines have a value at some sample; peak and trough are the greatest and the least value on them
 --   ErrorBudget           what holds of a list that stands for its trace at p/q
 -- A fraction with the denominator 0 is none: Near, Equals and Between ask for more. Laws are in proofs/. Assumes nothing.
 use mathlib.Core.Path.{_≡_}
@@ -110,6 +110,7 @@ height vs l = peak vs l -ℤ trough vs l
 pub record Attained (ts : List ℕ) (vs : List ℤ) (l : List ℕ) (v : ℤ) : Type 0 where
   pub sample : ℕ
   pub inside : sample ≤ length ts - 1
+  pub on : OnTrace ts (tick ts sample) 1
   pub at : Equals (lineAt ts vs l (tick ts sample) 1) v
 
 -- peak and trough are the greatest and the least value on the list's lines
