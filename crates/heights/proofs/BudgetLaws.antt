@@ -110,8 +110,9 @@ module _ {ts : List ℕ} {vs : List ℤ} (c : Criterion) {l : List ℕ} (t : Tra
       let m = trough-sampled vs (allOf ts) (every-kept (length ts - 1)) in
       subst (λ (v : ℤ). ((trough vs l -ℤ v) *ℤ pos (c .q)) ≤ℤ pos (c .p)) (m .is) (sample-trough (m .sample) (kept-inside (allOf ts) (every-kept (length ts - 1)) (m .entry)))
 
-  pub error-budget : ErrorBudget ts vs c l
-  error-budget = record {
+  pub error-budget : 1 ≤ c .q → ErrorBudget ts vs c l
+  error-budget some = record {
+    positive = some;
     near = line-near c t kept within;
     extremes = line-extremes t l kept;
     trace-extremes = line-extremes t (allOf ts) (every-kept (length ts - 1));

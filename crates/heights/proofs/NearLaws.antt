@@ -39,6 +39,7 @@ module _ (c e f g h t y z p q : ℕ) {r : ℕ} (er : r ≡ y + z) (straight : g 
   mean-below : f * q ≤ c * t * q + p * t → h * q ≤ e * t * q + p * t → g * r * q ≤ line c e y z * t * q + p * (t * r)
   mean-below k l = rw er (omega (arith, ap (λ (n : ℕ). n * q) straight, mul-le-mul-right z k, mul-le-mul-right y l))
 
+-- a line's heights at three places lie on a line
 straight-line : (a b x y z w : ℕ) {u s v r : ℕ} → u ≡ x + y → s ≡ z + w → v ≡ y + z + w → r ≡ x + y + z
     → line a b u s * (y + z) ≡ line a b x v * z + line a b r w * y
 straight-line a b x y z w eu es ev er = rw (eu, es, ev, er) (omega arith)
@@ -66,7 +67,7 @@ near-levels {c} {x} {y} base {m} {n} ex ey hx hy up down = record {
   apart = size-at-most (same (less (times hx (y .den)) (times hy (x .den))) (m * y .den) (n * x .den) (omega arith)) (c .q) (c .p * (x .den * y .den)) .1 (up, down);
 }
 
-pub near-refl : (c : Criterion) (x : Fraction) → 1 ≤ x .den → Near c x x
+near-refl : (c : Criterion) (x : Fraction) → 1 ≤ x .den → Near c x x
 near-refl c x e =
     let d = parts (x .num) .2 in
     record {

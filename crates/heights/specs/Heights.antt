@@ -120,6 +120,8 @@ pub record Extremes (ts : List ℕ) (vs : List ℤ) (l : List ℕ) : Type 0 wher
   pub lowest : Attained ts vs l (trough vs l)
 
 pub record ErrorBudget (ts : List ℕ) (vs : List ℤ) (c : Criterion) (l : List ℕ) : Type 0 where
+  -- p/q is a fraction
+  pub positive : 1 ≤ c .q
   -- the lines are within p/q of the trace's own at every tick
   pub near : (a d : ℕ) → OnTrace ts a d → Near c (lineAt ts vs l a d) (traceAt ts vs a d)
   pub extremes : Extremes ts vs l

@@ -1,0 +1,2 @@
+-- What follows from the contracts of the public calls.
+pub mod Heights
