@@ -5,4 +5,5 @@ pub mod LineLaws
 pub mod NearLaws
 pub mod ExtremeLaws
 pub mod BudgetLaws
+pub mod SelectedLaws
 pub mod Examples
