@@ -7,8 +7,8 @@ use Prim.Native.Nat.{ℕ, _-_, _≤_}
 use native.Mathlib.Omega.{arith}
 use lib.IntN.{ℤ}
 use lib.ListN.{length, take}
-use lib.Seq.{take-at}
 use Rattle.lists.specs.Overwrite.{Wrote}
+use Rattle.lists.proofs.OverwriteLaws.{wrote-read}
 use Rattle.refusal.specs.declared.Checked.the-variants.{Fine}
 use Rattle.refusal.proofs.TableLaws.{then-fine}
 use Rattle.kept.specs.Kept.{KeptList, AllValid}
@@ -33,10 +33,6 @@ use Rattle.engine.specs.Judge.{judgeRows, JudgeOutcome}
 use Rattle.engine.proofs.PrepareLaws.{exact-sets, common-trace}
 
 -- ---- any list
-
--- the entries that a call wrote are the list
-wrote-read : {l o o′ : List ℕ} {n : ℕ} → Wrote l o n o′ → take n o′ ≡ l
-wrote-read {l} {n = n} w = rw (w .content) (take-at l _ n (sym (w .count)))
 
 -- a kept list within the criterion, as a call wrote it
 pub written-budget : {ts : List ℕ} {vs : List ℤ} (c : Criterion) {l o o′ : List ℕ} {n : ℕ} → 1 ≤ c .q → Trace ts vs → KeptList (length ts - 1) l → AllValid (valid ts vs c) l

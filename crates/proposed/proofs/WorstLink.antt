@@ -8,7 +8,7 @@ use native.Mathlib.Omega.{arith}
 use lib.IntN.{ℤ}
 use lib.ListN.{length, take}
 use Rattle.ratio.specs.declared.Ratio.{Ratio}
-use Rattle.ratio.specs.Order.{over, greater, Small}
+use Rattle.ratio.specs.Order.{over, greater}
 use Rattle.ratio.proofs.OrderLaws.{greater-one}
 use Rattle.kept.proofs.ErrorLaws.{error-none, error-more}
 use Rattle.trace.specs.Link.{linkError, listError, criterion, Bounded}
@@ -19,9 +19,6 @@ pub record Worst (ts : List ℕ) (vs : List ℤ) (l : List ℕ) (k : ℕ) (w : R
   pub is : w ≡ listError ts vs (take (suc k) l)
   pub allowed : Bounded (criterion w)
   pub to : k ≤ length l
-
-pub allowed-small : {x : Ratio} → Bounded (criterion x) → Small x
-allowed-small b = record { p-bound = omega (arith, b .p-bound, b .q-bound); q-bound = b .q-bound }
 
 take-all : {A : Type 0} (n : ℕ) (l : List A) → length l ≤ n → take n l ≡ l
 take-all zero [] h = refl

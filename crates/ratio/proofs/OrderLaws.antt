@@ -68,3 +68,6 @@ lesser-right x y = elim (decLe (x .p * y .q) (y .p * x .q)) [
 
 pub small-product : {x y : Ratio} → Small x → Small y → x .p * y .q < 72057594037927936
 small-product {x} {y} a b = let h : x .p * y .q ≤ 68719476735 * 1048575 = mul-le-mul {n₂ = 68719476735} (omega (arith, a .p-bound)) (b .q-bound) in omega (arith, h)
+
+pub common-product : {x y : Ratio} → Small x → Small y → x .q * y .q ≤ 1099509530625
+common-product a b = mul-le-mul (a .q-bound) (b .q-bound)

@@ -12,7 +12,7 @@ use lib.IntN.{ℤ, natAbs}
 use lib.ListN.{length}
 use Rattle.ratio.specs.declared.Ratio.{Ratio}
 use Rattle.ratio.specs.Gcd.{gcd, lowest}
-use Rattle.ratio.specs.Order.{over, AtMost}
+use Rattle.ratio.specs.Order.{over, AtMost, Small}
 use Rattle.ratio.proofs.Laws.{lowest-equal, lowest-pos, lowest-coprime, lowest-zero}
 use Rattle.kept.specs.Kept.{KeptList, AllValid}
 use Rattle.kept.specs.Error.{Errors}
@@ -129,6 +129,10 @@ module _ {ts : List ℕ} {vs : List ℤ} (t : Trace ts vs) where
         λ v. e .0 (each-zip (λ i j a b. valid-error (linked i j (a .0) (a .1)) r .0 b) l links v),
         λ a. each-zip (λ i j a b. valid-error (linked i j (a .0) (a .1)) r .1 b) l links (e .1 a),
       )
+
+-- products of allowed tolerances fit
+pub allowed-small : {x : Ratio} → Bounded (criterion x) → Small x
+allowed-small b = record { p-bound = omega (arith, b .p-bound, b .q-bound); q-bound = b .q-bound }
 
 -- `far` is the greatest |deviation| of the samples of the link i to j before k
 pub record Measured (ts : List ℕ) (vs : List ℤ) (i j k far : ℕ) : Type 0 where
