@@ -1,4 +1,5 @@
-/* Kovrelna: reduced traces. For C and C++; link with libkovrelna.a (x86-64, System V ABI).
+/* Kovrelna: reduced traces. For C and C++; link with libkovrelna.a or libkovrelna.so (x86-64,
+ * System V ABI), as `pkg-config --cflags --libs kovrelna` says once they are installed.
  *
  * Contents, in order: refusals; tolerances; lists; reductions; range codes; records.
  *
