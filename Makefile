@@ -1,5 +1,5 @@
-# Kovrelna: build, install and test. Needs the Rattle toolchain (rt) and a C compiler; the tests also need cargo
-# and pkg-config.
+# Kovrelna: build, install and test. Needs the Rattle toolchain (rt) and a C compiler; the tests also need cargo,
+# pkg-config and Python.
 VERSION = 0.1.0
 ARCHIVE = target/staticlib/libkovrelna.a
 SONAME = libkovrelna.so.$(firstword $(subst ., ,$(VERSION)))
@@ -14,8 +14,9 @@ BENCH_FLAGS = -O3
 PREFIX = /usr/local
 LIBDIR = $(PREFIX)/lib
 INCLUDEDIR = $(PREFIX)/include
+PYTHON = python3
 
-.PHONY: lib shared install uninstall example test test-rust test-c test-install bench
+.PHONY: lib shared install uninstall example test test-rust test-c test-install test-python bench
 
 # Prove the library and write the archive that programs link.
 lib $(ARCHIVE):
@@ -58,7 +59,7 @@ test:
 	@log=$$(mktemp); trap 'rm -f "$$log"' EXIT; \
 	if ! rt ci >"$$log" 2>&1; then cat "$$log"; exit 1; fi; \
 	grep '^rt:' "$$log"; \
-	rt staticlib kovrelna >/dev/null && make --no-print-directory test-rust test-c test-install && tail -n 1 "$$log"
+	rt staticlib kovrelna >/dev/null && make --no-print-directory test-rust test-c test-install test-python && tail -n 1 "$$log"
 
 test-rust:
 	@$(CARGO) test $(CARGO_FLAGS) --workspace --lib --tests
@@ -76,6 +77,13 @@ test-c:
 # Install into a temporary place; build and run the C example from there.
 test-install: $(SHARED)
 	@CC="$(CC)" bindings/c/test-install.sh $(VERSION)
+
+# The tests of the Python module, and its example.
+test-python: export KOVRELNA_LIBRARY = $(CURDIR)/$(SHARED)
+test-python: export PYTHONPATH = bindings/python
+test-python: $(SHARED)
+	@$(PYTHON) -B -W error -m unittest discover -q -s bindings/python/tests
+	@$(PYTHON) -B bindings/python/example.py | diff bindings/python/example.txt -
 
 # Time the calls beside plain C and compare what the reductions keep; count instructions where valgrind is present.
 bench: lib

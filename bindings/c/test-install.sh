@@ -1,7 +1,7 @@
 #!/bin/sh
-# Installs into a temporary place, builds example.c there through pkg-config, with the shared library
-# and with the archive, and compares what it prints with example.txt. Then checks what the shared
-# library exports, that every version is the same, and that nothing is left by make uninstall.
+# Installs into a temporary place, builds example.c there through pkg-config, with the shared
+# library and with the archive, and compares what it prints with example.txt. Then checks what the
+# shared library exports, that every version is the same, and that make uninstall leaves nothing.
 # Run from the repository's root: test-install.sh VERSION.
 set -eu
 version=$1
@@ -36,11 +36,12 @@ sed -n 's/^kovrelna_[a-z]* \(kovrelna_[a-z]*\)(.*/\1/p' "$prefix/include/kovreln
   >"$work/declared"
 nm -D --defined-only "$prefix/lib/libkovrelna.so" | sed 's/.* //' | sort >"$work/exported"
 diff "$work/declared" "$work/exported" || fail "the header declares other calls than are exported"
-if nm -D --undefined-only "$prefix/lib/libkovrelna.so" | grep -E ' (malloc|calloc|realloc|free)(@|$)'
-then fail "the library allocates"; fi
+nm -D --undefined-only "$prefix/lib/libkovrelna.so" | sed 's/@.*//' >"$work/needed"
+if grep -wE 'malloc|calloc|realloc|free' "$work/needed"; then fail "the library allocates"; fi
 
-grep -qx "version = \"$version\"" bindings/rust/Cargo.toml \
-  || fail "bindings/rust/Cargo.toml has another version than $version"
+for file in bindings/rust/Cargo.toml bindings/python/pyproject.toml; do
+  grep -qx "version = \"$version\"" "$file" || fail "$file has another version than $version"
+done
 
 make --no-print-directory install DESTDIR="$work/stage" PREFIX=/opt/kovrelna >/dev/null
 files "$prefix" >"$work/installed"
