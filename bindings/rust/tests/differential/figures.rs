@@ -1,5 +1,5 @@
-use crate::{expand, hold, judge, noise, ratio, read, reduce, write};
 use kovrelna::Tolerance;
+use kovrelna_evidence::compare::{expand, hold, judge, noise, ratio, read, reduce, write};
 use kovrelna_reference::record::{end, first, long, short, tolerance, Content};
 use kovrelna_reference::{Fraction, Method, Reduced};
 

@@ -1,6 +1,8 @@
-use crate::{judge, noise, ratio, read, reduce, same, write};
 use kovrelna::{Refusal, Tolerance};
-use kovrelna_reference::generate::{damaged, kept_list, trace, Random, Trace, KINDS};
+use kovrelna_evidence::calls::Call::*;
+use kovrelna_evidence::cases::random_faults;
+use kovrelna_evidence::compare::{judge, noise, ratio, read, reduce, same, write};
+use kovrelna_reference::generate::{Random, Trace};
 use kovrelna_reference::record::{end, first, short, tolerance};
 use kovrelna_reference::{Row, METHODS};
 
@@ -292,48 +294,15 @@ fn records() {
 }
 
 #[test]
-fn random_faults() {
+fn faults_at_random() {
     let random = &mut Random::new(3);
-    // How often judge, the reductions and write answer with each row; 0 for none.
-    let mut seen = [[0; 11]; 3];
-    for _ in 0..20_000 {
-        let samples = random.within(1, 12) as usize;
-        let Trace { mut ticks, values } = trace(random.choose(&KINDS), samples, random);
-        let mut list = kept_list(samples, random);
-        let mut tolerance = ratio(random.below(10), 1);
-        let at = random.below(samples as u64) as usize;
-        let mut room = samples + random.below(3) as usize;
-        for _ in 0..random.below(3) {
-            match random.below(7) {
-                0 => drop(ticks.pop()),
-                1 => ticks.push(u32::MAX),
-                2 => ticks[..=at].rotate_right(1),
-                3 => ticks[at..].iter_mut().for_each(|tick| *tick |= 1 << 20),
-                4 => list = damaged(&list, samples, random),
-                5 => room = at,
-                _ => tolerance = random.choose(&[ratio(1, 0), noise(0.0, -1.0)]),
-            }
-            if ticks.len() != samples {
-                break;
-            }
-        }
-        let number = |row: Option<Row>| row.map_or(0, |(number, _)| number as usize);
-        let judged = judge(&ticks, &values, &list, tolerance);
-        seen[0][number(judged.err())] += 1;
-        for method in METHODS {
-            let reduced = reduce(method, &ticks, &values, tolerance, room);
-            seen[1][number(reduced.err())] += 1;
-        }
-        let size = 6 * room + 13;
-        let written = write(&ticks, &values, &list, tolerance, size, at);
-        seen[2][number(written.err())] += 1;
-    }
-    let rows: [&[usize]; 3] = [
-        &[0, 1, 2, 3, 4, 6],
-        &[0, 1, 2, 3, 4, 10],
-        &[0, 1, 2, 3, 4, 6, 7, 10],
-    ];
-    for (seen, rows) in seen.iter().zip(rows) {
-        assert!(rows.iter().all(|&row| seen[row] > 500), "{seen:?}");
+    (0..20_000).for_each(|_| random_faults(random));
+    for call in [Judge, Walk, Gallop, Minimum, Write] {
+        let counts = call.counts();
+        let seen = |row: u32| counts[row as usize] > 50;
+        assert!(
+            seen(0) && call.rows().iter().all(|&row| seen(row)),
+            "{call:?} {counts:?}"
+        );
     }
 }
