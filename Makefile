@@ -12,11 +12,16 @@ SANITIZE = -g -fsanitize=address,undefined -fno-sanitize-recover=all
 BENCH_FLAGS = -O3
 
 PREFIX = /usr/local
+BINDIR = $(PREFIX)/bin
 LIBDIR = $(PREFIX)/lib
 INCLUDEDIR = $(PREFIX)/include
 PYTHON = python3
 
-.PHONY: lib shared install uninstall example test test-rust test-c test-install test-python bench
+# The gate's run of evidence: about 6 seconds.
+GATE_EVIDENCE = --cases 30000 --seed 1
+EVIDENCE = $(CARGO) run $(CARGO_FLAGS) --release --package kovrelna-evidence --
+
+.PHONY: lib shared cli install install-cli uninstall example evidence test test-rust test-c test-install test-python bench
 
 # Prove the library and write the archive that programs link.
 lib $(ARCHIVE):
@@ -44,9 +49,21 @@ install: $(SHARED)
 	-e 's|@VERSION@|$(VERSION)|' bindings/c/kovrelna.pc.in >"$(DESTDIR)$(LIBDIR)/pkgconfig/kovrelna.pc"
 
 uninstall:
-	@rm -f "$(DESTDIR)$(INCLUDEDIR)/kovrelna.h" "$(DESTDIR)$(LIBDIR)/pkgconfig/kovrelna.pc"
+	@rm -f "$(DESTDIR)$(BINDIR)/kovrelna" "$(DESTDIR)$(INCLUDEDIR)/kovrelna.h" "$(DESTDIR)$(LIBDIR)/pkgconfig/kovrelna.pc"
 	@for name in a so $(patsubst libkovrelna.%,%,$(SONAME) $(notdir $(SHARED))); do \
 	rm -f "$(DESTDIR)$(LIBDIR)/libkovrelna.$$name"; done
+
+# The command-line tool, as bindings/rust/target/release/kovrelna.
+cli: lib
+	@$(CARGO) build $(CARGO_FLAGS) --release --package kovrelna-cli
+
+install-cli: cli
+	@install -d "$(DESTDIR)$(BINDIR)"
+	@install -m 755 bindings/rust/target/release/kovrelna "$(DESTDIR)$(BINDIR)"
+
+# Compare the library with the slow reference: make evidence [CASES=n | MINUTES=m] [SEED=s].
+evidence: lib
+	@$(EVIDENCE) $(if $(MINUTES),--minutes $(MINUTES),$(if $(CASES),--cases $(CASES))) $(if $(SEED),--seed $(SEED))
 
 # Reduce the samples of a shipped record.
 example:
@@ -64,6 +81,7 @@ test:
 test-rust:
 	@$(CARGO) test $(CARGO_FLAGS) --workspace --lib --tests
 	@$(CARGO) test $(CARGO_FLAGS) --workspace --doc
+	@$(EVIDENCE) $(GATE_EVIDENCE)
 
 # The C test, also as C++ and under sanitizers where there are compilers for it.
 test-c:
