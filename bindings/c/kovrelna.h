@@ -186,6 +186,24 @@ kovrelna_answer kovrelna_minimum(const uint32_t *ticks, size_t ticks_len,
                                  kovrelna_tolerance tolerance,
                                  uint16_t *out, size_t out_len);
 
+/* number 0: value is the kept number and p/q is the list's error in lowest terms (zero is 0/1).
+ * Otherwise: the refusal's number and value; p and q are 0. */
+typedef struct kovrelna_closest {
+  uint32_t number;
+  uint64_t value;
+  uint64_t p;
+  uint64_t q;
+} kovrelna_closest;
+
+/* The least error over the kept lists of at most `allowance` samples, with the list of
+ * kovrelna_minimum at that error as the tolerance. No kept list of this trace of at most so many
+ * samples has a lesser error. The trace has at most 256 samples. Refusals: 1 (also for more than 256
+ * samples), 2, 3, 5, 10. */
+kovrelna_closest kovrelna_least(const uint32_t *ticks, size_t ticks_len,
+                                const int16_t *values, size_t values_len,
+                                uint64_t allowance,
+                                uint16_t *out, size_t out_len);
+
 /* ---- Range codes ----
  *
  * A code is one byte, 32 e + m with m below 32; its value is 2^e times (m + 32), minus 32. Every
