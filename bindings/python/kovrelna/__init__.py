@@ -3,6 +3,7 @@
 - `Ratio`, `Counts`, `Noise`, `hold`: a tolerance, and the fraction it is held as.
 - `Verdict`, `judge`: whether every link of a proposed list is valid.
 - `walk`, `Galloped`, `gallop`, `minimum`: kept lists with every link valid.
+- `Least`, `least`: the least error that so many samples allow.
 - `expand`: the values of range codes.
 - `write`, `Content`, `read`, `same`: records of kept samples.
 - `Refusal`: why a call declined.
@@ -56,6 +57,7 @@ __all__ = [
     "Content",
     "Counts",
     "Galloped",
+    "Least",
     "Noise",
     "Ratio",
     "Refusal",
@@ -64,6 +66,7 @@ __all__ = [
     "gallop",
     "hold",
     "judge",
+    "least",
     "minimum",
     "read",
     "same",
@@ -86,7 +89,7 @@ class Refusal(ValueError):
 
     | Number | Cause | Value |
     |---|---|---|
-    | 1 | no samples or codes, too many, or not as many values as ticks | 0 |
+    | 1 | no samples or codes, too many (for `least`, over 256), or not as many values as ticks | 0 |
     | 2 | a tick is not above the one before | its sample |
     | 3 | the span is too long | the first sample over 1,048,575 ticks after the first |
     | 4 | the tolerance is not allowed | 0 |
@@ -307,6 +310,31 @@ def minimum(ticks: Lent, values: Lent, tolerance: Tolerance, out: Optional[Outpu
     array('H', [0, 3, 4])
     """
     return _reduce(_library.minimum, ticks, values, _tolerance(tolerance), out)[1]
+
+
+class Least(NamedTuple):
+    """What `least` returns."""
+
+    kept: Any
+    """The kept list."""
+    error: Fraction
+    """Its error: the least there is."""
+
+
+def least(ticks: Lent, values: Lent, allowance: int, out: Optional[Output] = None) -> Least:
+    """The least error over the kept lists of at most `allowance` samples, and the kept list that
+    `minimum` finds at that error. Traces here have at most 256 samples.
+
+    Refusals: 1, 2, 3, 5, and 10 if `out` has fewer entries than the trace has samples.
+
+    >>> least(range(5), [0, 3, 0, 3, 0], 3)
+    Least(kept=array('H', [0, 3, 4]), error=Fraction(2, 1))
+    """
+    allowance = operator.index(allowance)
+    # One that does not fit the library's number is lent as 0, which is not allowed either.
+    lent = allowance if 0 <= allowance < 2**64 else 0
+    answer, kept = _reduce(_library.least, ticks, values, lent, out)
+    return Least(kept, Fraction(answer.p, answer.q))
 
 
 def expand(codes: Lent, out: Optional[Output] = None) -> Any:

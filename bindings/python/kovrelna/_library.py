@@ -33,7 +33,7 @@ class Verdict(Structure):
 
 
 class Fractional(Structure):
-    """An answer with a fraction: kovrelna_held and kovrelna_content."""
+    """An answer with a fraction: those of hold, least and read."""
 
     _fields_ = [("number", c_uint32), ("value", c_uint64), ("p", c_uint64), ("q", c_uint64)]
 
@@ -71,6 +71,7 @@ judge = _declare("judge", Verdict, *_LIST, *_LIST, *_LIST, Tolerance)
 walk = _declare("walk", Answer, *_LIST, *_LIST, Tolerance, *_LIST)
 gallop = _declare("gallop", Galloped, *_LIST, *_LIST, Tolerance, *_LIST)
 minimum = _declare("minimum", Answer, *_LIST, *_LIST, Tolerance, *_LIST)
+least = _declare("least", Fractional, *_LIST, *_LIST, c_uint64, *_LIST)
 expand = _declare("expand", Answer, *_LIST, *_LIST)
 write = _declare("write", Answer, *_LIST, *_LIST, *_LIST, Tolerance, *_LIST, c_size_t)
 read = _declare("read", Fractional, *_LIST, *_LIST, *_LIST)

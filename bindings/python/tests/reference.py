@@ -3,7 +3,7 @@ the library that is compared with it.
 
 - `Refused`: a row of the table of refusals.
 - `held`: a tolerance. Its forms are ("ratio", p, q), ("counts", x) and ("noise", noise, multiple).
-- `judge`, `walk`, `gallop`, `minimum`, `expand`, `write`, `read`, `same`: the calls.
+- `judge`, `walk`, `gallop`, `minimum`, `least`, `expand`, `write`, `read`, `same`: the calls.
 """
 
 import itertools
@@ -17,9 +17,9 @@ class Refused(Exception):
     """Its arguments are the number and the value."""
 
 
-def check_trace(ticks, values):
+def check_trace(ticks, values, most=SAMPLES):
     """Rows 1 to 3."""
-    if len(ticks) != len(values) or not 1 <= len(ticks) <= SAMPLES:
+    if len(ticks) != len(values) or not 1 <= len(ticks) <= most:
         raise Refused(1, 0)
     for k in range(1, len(ticks)):
         if ticks[k] <= ticks[k - 1]:
@@ -156,6 +156,18 @@ def minimum(ticks, values, tolerance, room):
     for kept in kept_lists(len(ticks), len(ticks)):
         if list_error(ticks, values, kept) <= bound:
             return kept
+
+
+def least(ticks, values, allowance, room):
+    """The minimum's list at the least error, and that error."""
+    check_trace(ticks, values, 256)
+    if not 2 <= allowance <= SAMPLES:
+        raise Refused(5, 0)
+    check_room(room, len(ticks))
+    error = min(list_error(ticks, values, kept) for kept in kept_lists(len(ticks), allowance))
+    for kept in kept_lists(len(ticks), len(ticks)):
+        if list_error(ticks, values, kept) <= error:
+            return kept, error
 
 
 def expand(codes, room):

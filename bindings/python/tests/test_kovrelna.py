@@ -72,6 +72,21 @@ class Figures(Case):
                     self.assertEqual((list(gallop.kept), gallop.probes), (galloped, probes))
                     self.assertEqual(list(kovrelna.minimum(EVEN, values, form)), shortest)
 
+    def test_least(self):
+        every = [0, 1, 2, 3, 4]
+        for allowance, error, kept in [
+            (2, 3, [0, 4]),
+            (3, 2, [0, 3, 4]),
+            (4, 2, [0, 3, 4]),
+            (5, 0, every),
+            (4096, 0, every),
+        ]:
+            answer = kovrelna.least(EVEN, ZIGZAG, allowance)
+            self.assertEqual((list(answer.kept), answer.error), (kept, error))
+            self.assertIs(type(answer.error), Fraction)
+        self.assertEqual(kovrelna.least([0, 1, 3], [0, 1, 1], 2).error, Fraction(2, 3))
+        self.assertEqual(kovrelna.least([7], [7], 2), (array.array("H", [0]), 0))
+
     def test_two_thirds(self):
         trace = [0, 1, 3], [0, 1, 1], [0, 2]
         self.assertEqual(kovrelna.judge(*trace, Ratio(4, 6)), Verdict(True, None))
@@ -173,6 +188,10 @@ class Refusals(Case):
             for call in REDUCTIONS:
                 self.refused(number, value, call, ticks, values, tolerance)
                 self.refused(number, value, call, ticks, values, tolerance, array.array("H"))
+            for allowance in (2, 0):
+                self.refused(number, value, kovrelna.least, ticks, values, allowance)
+                out = array.array("H")
+                self.refused(number, value, kovrelna.least, ticks, values, allowance, out)
             for kept in ([0, 4], [], [1]):
                 self.refused(number, value, kovrelna.judge, ticks, values, kept, tolerance)
                 self.refused(number, value, kovrelna.write, ticks, values, kept, tolerance)
@@ -185,6 +204,18 @@ class Refusals(Case):
             self.refused(4, 0, call, EVEN, self.flat, none, array.array("H"))
         self.refused(4, 0, kovrelna.judge, EVEN, self.flat, [1], none)
         self.refused(4, 0, kovrelna.write, EVEN, self.flat, [1], none, bytearray(0))
+
+    def test_allowances(self):
+        out = array.array("H")
+        for allowance in (-1, 0, 1, 4097, 2**32 + 2, 2**64 - 1, 2**64 + 2, -(2**64) + 2):
+            self.refused(5, 0, kovrelna.least, EVEN, self.flat, allowance)
+            self.refused(5, 0, kovrelna.least, EVEN, self.flat, allowance, out)
+            self.refused(2, 1, kovrelna.least, [5, 5], [0, 0], allowance, out)
+        self.refused(1, 0, kovrelna.least, range(257), [0] * 257, 2)
+        self.assertEqual(list(kovrelna.least(range(256), [0] * 256, 2).kept), [0, 255])
+        for allowance in (2.0, "2", None):
+            with self.assertRaises(TypeError):
+                kovrelna.least(EVEN, self.flat, allowance)
 
     def test_lists(self):
         for kept, position in [
@@ -223,7 +254,7 @@ class Refusals(Case):
     def test_room(self):
         for length in range(5):
             out = array.array("H", [7] * length)
-            for call in REDUCTIONS:
+            for call in REDUCTIONS + (kovrelna.least,):
                 self.refused(10, 5, call, EVEN, ZIGZAG, 3, out)
             values = array.array("h", [7] * length)
             self.refused(10, 5, kovrelna.expand, bytes(5), values)
@@ -292,8 +323,8 @@ class Buffers(Case):
 
         with mock.patch.object(kovrelna._library, name, recorded):
             call(*arguments)
-        numbers = [argument for argument in given if not isinstance(argument, ctypes.Structure)]
-        return list(zip(numbers[::2], numbers[1::2]))
+        pointers = [k for k, kind in enumerate(real.argtypes) if kind is ctypes.c_void_p]
+        return [(given[k], given[k + 1]) for k in pointers]
 
     def test_nothing_is_copied(self):
         out, buffer = array.array("H", [9] * 4), array.array("B", [9] * 30)
@@ -302,6 +333,7 @@ class Buffers(Case):
         record = array.array("B", RECORD)
         trace = [self.ticks, self.values]
         calls = [(call.__name__, call, trace + [1], [out]) for call in REDUCTIONS] + [
+            ("least", kovrelna.least, trace + [2], [out]),
             ("judge", kovrelna.judge, trace + [self.kept, 1], []),
             ("write", kovrelna.write, trace + [self.kept, 1], [buffer]),
             ("read", kovrelna.read, [record], [ticks, values]),
@@ -616,6 +648,13 @@ class Reference(Case):
                     gallop = call is kovrelna.gallop
                     found = (list(found.kept), found.probes) if gallop else list(found)
                 self.assertEqual(found, expected, (call.__name__, ticks, values, form))
+            allowance = self.random.choice([1, 2, 2, 3, 4, 5, 4096, 4097])
+            expected = answer(reference.least, ticks, values, allowance, len(out))
+            found = answer(kovrelna.least, ticks, values, allowance, out)
+            seen.add(expected[1][0] if expected[0] == "refused" else 0)
+            if expected[0] != "refused":
+                found = list(found.kept), found.error
+            self.assertEqual(found, expected, ("least", ticks, values, allowance))
             kept = self.kept(max(len(ticks), 1))
             expected = answer(reference.judge, ticks, values, kept, form)
             found = answer(kovrelna.judge, ticks, values, kept, tolerance)
@@ -623,7 +662,7 @@ class Reference(Case):
                 self.assertEqual(found.passed, found.link is None)
                 found = found.link
             self.assertEqual(found, expected, (ticks, values, kept, form))
-        self.assertEqual(seen, {0, 1, 2, 3, 4, 10})
+        self.assertEqual(seen, {0, 1, 2, 3, 4, 5, 10})
 
     def test_records(self):
         seen = set()
