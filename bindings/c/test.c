@@ -202,6 +202,14 @@ static struct answer call_minimum(const struct list *lists, kovrelna_tolerance t
   return plain(kovrelna_minimum(U32(0), I16(1), tolerance, U16(2)));
 }
 
+static struct answer call_least(const struct list *lists, kovrelna_tolerance tolerance,
+                                size_t allowance) {
+  kovrelna_closest from = kovrelna_least(U32(0), I16(1), allowance, U16(2));
+  struct answer answer = {from.number, from.value, 0, 0, from.p, from.q};
+  (void)tolerance;
+  return answer;
+}
+
 static struct answer call_expand(const struct list *lists, kovrelna_tolerance tolerance,
                                  size_t place) {
   (void)tolerance, (void)place;
@@ -255,8 +263,9 @@ struct parameter {
 #define OUT(len, list, number, value)                                                              \
   { sizeof((list)[0]), len, NULL, list, COUNT(list), number, value }
 
-/* Every call that is lent lists, as it is made on the figures at tolerance 4/6, and its answer. */
-enum { JUDGE_CALL, WALK, GALLOP, MINIMUM, EXPAND, WRITE_CALL, READ_CALL, SAME_CALL };
+/* Every call that is lent lists, as it is made on the figures at tolerance 4/6, place 0 and
+ * allowance 2, and its answer. */
+enum { JUDGE_CALL, WALK, GALLOP, MINIMUM, LEAST, EXPAND, WRITE_CALL, READ_CALL, SAME_CALL };
 enum { LISTS = 4 };
 static const struct call {
   const char *name;
@@ -277,6 +286,9 @@ static const struct call {
     {"minimum", call_minimum, 3,
      {IN(uneven, 1, 0), IN(step, 1, 0), OUT(3, pair, 10, 3)},
      {0, 2, 0, 0, 0, 0}},
+    {"least", call_least, 3,
+     {IN(uneven, 1, 0), IN(step, 1, 0), OUT(3, pair, 10, 3)},
+     {0, 2, 0, 0, 2, 3}},
     {"expand", call_expand, 2,
      {IN(some_codes, 1, 0), OUT(5, code_values, 10, 5)},
      {0, 5, 0, 0, 0, 0}},
@@ -290,9 +302,10 @@ static const struct call {
     {"same", call_same, 2, {IN(figure, 8, 0), IN(figure, 9, 0)}, {0, 0, 1, 0, 0, 0}},
 };
 
-/* Makes the call in every placement: it answers so, and the lists then hold what they are to. */
-static void run(int line, int which, struct list *lists, kovrelna_tolerance tolerance, size_t place,
-                struct answer expected) {
+/* Makes the call in every placement, with this place or allowance: it answers so, and the lists
+ * then hold what they are to. */
+static void run(int line, int which, struct list *lists, kovrelna_tolerance tolerance,
+                size_t number, struct answer expected) {
   const struct call *call = &calls[which];
   int placement;
   now_name = call->name;
@@ -301,7 +314,7 @@ static void run(int line, int which, struct list *lists, kovrelna_tolerance tole
     struct answer answer;
     size_t k;
     for (k = 0; k < call->lists; k++) lend(&lists[k], (enum placement)placement);
-    answer = call->make(lists, tolerance, place);
+    answer = call->make(lists, tolerance, number);
     differ("number", answer.number, expected.number);
     differ("value", answer.value, expected.value);
     differ("passed", answer.passed, expected.passed);
@@ -370,6 +383,29 @@ static void refuse(int line, const uint32_t *ticks, size_t ticks_len, const int1
 
 #define REFUSE(ticks, values, tolerance, out_len, number, value)                                  \
   refuse(__LINE__, ticks, COUNT(ticks), values, COUNT(values), tolerance, out_len, number, value)
+
+/* With number 0 least writes the list, which has `value` entries. */
+static void least(int line, const uint32_t *ticks, size_t ticks_len, const int16_t *values,
+                  size_t values_len, size_t allowance, size_t out_len, uint32_t number,
+                  uint64_t value, uint64_t p, uint64_t q, const uint16_t *list) {
+  struct answer expected = {number, value, 0, 0, p, q};
+  struct list lists[3];
+  lists[0] = input(ticks, ticks_len, sizeof(uint32_t));
+  lists[1] = input(values, values_len, sizeof(int16_t));
+  lists[2] = number != 0 ? output(out_len, sizeof(uint16_t))
+                         : filled(out_len, sizeof(uint16_t), list, 0, (size_t)value);
+  run(line, LEAST, lists, kovrelna_ratio(0, 0), allowance, expected);
+}
+
+/* A kept list of this error. */
+#define CLOSEST(ticks, values, allowance, out_len, p, q, list)                                    \
+  least(__LINE__, ticks, COUNT(ticks), values, COUNT(values), allowance, out_len, 0, COUNT(list), \
+        p, q, list)
+
+/* A refusal. */
+#define NO_CLOSEST(ticks, values, allowance, out_len, number, value)                              \
+  least(__LINE__, ticks, COUNT(ticks), values, COUNT(values), allowance, out_len, number, value,  \
+        0, 0, NULL)
 
 /* With number 0 expand writes these values, `value` of them. */
 static void expand(int line, const uint8_t *codes, size_t codes_len, size_t out_len,
@@ -589,6 +625,39 @@ static void refusals(void) {
   REFUSE(even, flat, zero, 4, KOVRELNA_REFUSED_ROOM, 5);
 }
 
+static void least_errors(void) {
+  const uint32_t even[] = {0, 1, 2, 3, 4}, beyond_span[] = {0, 1048576}, equal[] = {5, 5};
+  const int16_t zigzag[] = {0, 3, 0, 3, 0}, two[] = {0, 0};
+  const uint16_t all[] = {0, 1, 2, 3, 4}, ends[] = {0, 4}, late[] = {0, 3, 4}, one[] = {0},
+                 both[] = {0, 255};
+  static uint32_t ticks[257];
+  static const int16_t flat[257] = {0};
+  size_t k;
+  for (k = 0; k < COUNT(ticks); k++) ticks[k] = (uint32_t)k;
+
+  for (k = 5; k <= 9; k++) {
+    CLOSEST(even, zigzag, 2, k, 3, 1, ends);
+    CLOSEST(even, zigzag, 3, k, 2, 1, late);
+    CLOSEST(even, zigzag, 4, k, 2, 1, late);
+    CLOSEST(even, zigzag, 5, k, 0, 1, all);
+    CLOSEST(even, zigzag, 4096, k, 0, 1, all);
+  }
+  CLOSEST(uneven, step, 2, 3, 2, 3, pair);
+  least(__LINE__, even, 1, zigzag, 1, 2, 1, 0, 1, 0, 1, one);
+  least(__LINE__, ticks, 256, flat, 256, 2, 256, 0, 2, 0, 1, both);
+
+  NO_CLOSEST(ticks, flat, 0, 0, KOVRELNA_REFUSED_LENGTH, 0);
+  NO_CLOSEST(ticks, flat, 2, 257, KOVRELNA_REFUSED_LENGTH, 0);
+  NO_CLOSEST(even, two, 0, 5, KOVRELNA_REFUSED_LENGTH, 0);
+  NO_CLOSEST(equal, two, 0, 0, KOVRELNA_REFUSED_TICK, 1);
+  NO_CLOSEST(beyond_span, two, 0, 0, KOVRELNA_REFUSED_SPAN, 1);
+  NO_CLOSEST(even, zigzag, 0, 0, KOVRELNA_REFUSED_ALLOWANCE, 0);
+  NO_CLOSEST(even, zigzag, 1, 5, KOVRELNA_REFUSED_ALLOWANCE, 0);
+  NO_CLOSEST(even, zigzag, 4097, 5, KOVRELNA_REFUSED_ALLOWANCE, 0);
+  NO_CLOSEST(even, zigzag, SIZE_MAX, 5, KOVRELNA_REFUSED_ALLOWANCE, 0);
+  NO_CLOSEST(even, zigzag, 2, 4, KOVRELNA_REFUSED_ROOM, 5);
+}
+
 static void codes(void) {
   static const uint8_t many[4097] = {0};
   static const int16_t zeros[4096] = {0};
@@ -711,7 +780,7 @@ static void empty_lists(void) {
                                               : filled(len, parameter->size, parameter->written, 0,
                                                        parameter->count);
       }
-      run(__LINE__, (int)which, lists, kovrelna_ratio(4, 6), 0, expected);
+      run(__LINE__, (int)which, lists, kovrelna_ratio(4, 6), which == LEAST ? 2 : 0, expected);
     }
   }
 }
@@ -754,6 +823,7 @@ int main(void) {
   lists();
   reductions();
   refusals();
+  least_errors();
   codes();
   records();
   empty_lists();
