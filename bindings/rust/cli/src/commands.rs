@@ -1,14 +1,15 @@
 //! One function for each command. It takes the arguments after the command's name.
 
 use crate::failure::{Failure, Status};
-use crate::line::{Line, LIST, LIST_FILE, METHOD, METHODS, OUTPUT, TOLERANCE};
+use crate::line::{Line, ALLOWANCE, LIST, LIST_FILE, METHOD, METHODS, OUTPUT, TOLERANCE};
 use crate::records::{self, Record};
 use crate::source::{shown, Source};
 use crate::svg::{self, Picture};
 use crate::text::{self, Text};
 use crate::{help, output, tolerance};
-use kovrelna::{Ratio, Verdict};
+use kovrelna::{Least, Ratio, Refusal, Verdict};
 use std::ffi::{OsStr, OsString};
+use std::fmt::Display;
 use std::path::Path;
 
 type Command = fn(&[OsString]) -> Result<Status, Failure>;
@@ -19,6 +20,7 @@ pub fn find(name: &str) -> Option<Command> {
         "record" => record,
         "show" => show,
         "judge" => judge,
+        "least" => least,
         "summary" => summary,
         "draw" => draw,
         _ => return None,
@@ -122,6 +124,32 @@ fn judge(arguments: &[OsString]) -> Result<Status, Failure> {
         }
         Err(refusal) => Err(text.refused(refusal)),
     }
+}
+
+/// The most samples of a trace for least.
+const LEAST_SAMPLES: usize = 256;
+
+fn least(arguments: &[OsString]) -> Result<Status, Failure> {
+    let line = Line::parse("least", &[ALLOWANCE], arguments)?;
+    if line.arguments.help {
+        return output::print(help::LEAST);
+    }
+    let Some(allowance) = line.text(ALLOWANCE)? else {
+        return Err(line.wrong("--allowance is missing"));
+    };
+    let wrong = |cause: &dyn Display| line.wrong(&format!("--allowance: {cause}"));
+    let allowance = text::whole("allowance", allowance, 0, u64::MAX).map_err(|c| wrong(&c))?;
+    let text = Text::read(Source::open(line.input()?)?)?;
+    let mut list = vec![0; text.ticks.len()];
+    let answer = kovrelna::least(&text.ticks, &text.values, allowance, &mut list);
+    let Least { kept, error } = answer.map_err(|refusal| match refusal {
+        Refusal::Allowance => wrong(&refusal),
+        Refusal::Length => text.too_long(LEAST_SAMPLES),
+        refusal => text.refused(refusal),
+    })?;
+    let list: Vec<String> = list[..kept].iter().map(u16::to_string).collect();
+    let Ratio { p, q } = error;
+    output::print(&format!("error {p}/{q}\nlist {}\n", list.join(",")))
 }
 
 /// What a line of the summary says.

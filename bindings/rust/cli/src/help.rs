@@ -12,6 +12,7 @@ Usage: kovrelna COMMAND [OPTION..] [FILE..]
   record    make a record from a trace
   show      print records as text
   judge     say whether a list of samples is within a tolerance
+  least     say how near a list of so many samples can come
   summary   print a line for each record, and a total
   draw      draw a trace, its lines and its tolerance band as SVG
 
@@ -75,6 +76,18 @@ Usage: kovrelna judge -t TOLERANCE -l LIST [INPUT]
                         ends between
 
 Exit status: 0 yes, 1 no, 2 error.
+";
+
+pub const LEAST: &str = "\
+Prints the least tolerance that a list of at most so many samples is within, as
+`error p/q`, and the list that minimum keeps at it, as `list 0,3,4`. The trace
+has at most 256 samples.
+
+Usage: kovrelna least -a ALLOWANCE [INPUT]
+
+  -a, --allowance M   at most so many samples are kept, from 2 to 4096
+
+Exit status: 0 done, 2 error.
 ";
 
 pub const SUMMARY: &str = "\

@@ -13,6 +13,7 @@ pub const METHOD: Known = ("method", 'm');
 pub const OUTPUT: Known = ("output", 'o');
 pub const LIST: Known = ("list", 'l');
 pub const LIST_FILE: Known = ("list-file", 'f');
+pub const ALLOWANCE: Known = ("allowance", 'a');
 
 /// A command line of a command.
 pub struct Line {

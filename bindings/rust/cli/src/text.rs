@@ -69,19 +69,33 @@ impl Text {
 
     /// The refusal at the line that it is about.
     pub fn refused(&self, refusal: Refusal) -> Failure {
-        let at = |sample: usize, cause: &str| match self.lines.get(sample) {
-            Some(&line) => Failure::at_line(&self.name, line, cause),
-            None => Failure::at(&self.name, refusal),
-        };
         match refusal {
-            Refusal::Length if self.ticks.is_empty() => Failure::at(&self.name, "no samples"),
-            Refusal::Length => at(ENOUGH - 1, "too many samples: a trace has at most 4,096"),
-            Refusal::Tick(sample) => at(sample, "the tick is not above the one before"),
-            Refusal::Span(sample) => at(
+            Refusal::Length => self.too_long(ENOUGH - 1),
+            Refusal::Tick(sample) => self.at(sample, "the tick is not above the one before"),
+            Refusal::Span(sample) => self.at(
                 sample,
                 "the tick is over 1,048,575 above that of the first sample",
             ),
             _ => Failure::at(&self.name, refusal),
+        }
+    }
+
+    /// No samples, or more than so many.
+    pub fn too_long(&self, most: usize) -> Failure {
+        match self.ticks.len() {
+            0 => Failure::at(&self.name, "no samples"),
+            _ => self.at(
+                most,
+                &format!("too many samples: at most {most} are allowed"),
+            ),
+        }
+    }
+
+    /// At the line of this sample.
+    fn at(&self, sample: usize, cause: &str) -> Failure {
+        match self.lines.get(sample) {
+            Some(&line) => Failure::at_line(&self.name, line, cause),
+            None => Failure::at(&self.name, cause),
         }
     }
 }
@@ -202,8 +216,8 @@ fn sample(fields: &[&str]) -> Result<(u32, i16), String> {
     }
 }
 
-/// The whole number in this field, which is to be from `low` to `high`.
-fn whole<T: TryFrom<i128> + Display>(
+/// The whole number in this field or option, which is to be from `low` to `high`.
+pub fn whole<T: TryFrom<i128> + Display>(
     what: &str,
     field: &str,
     low: T,

@@ -150,6 +150,40 @@ fn judges() {
 }
 
 #[test]
+fn least_errors() {
+    let zigzag = "0 0\n1 3\n2 0\n3 3\n4 0\n";
+    for (allowance, printed) in [
+        ("2", "error 3/1\nlist 0,4\n"),
+        ("4", "error 2/1\nlist 0,3,4\n"),
+        ("4096", "error 0/1\nlist 0,1,2,3,4\n"),
+    ] {
+        let answer = done(&["least", "--allowance", allowance], zigzag);
+        assert_eq!(String::from_utf8(answer).unwrap(), printed);
+    }
+    for (allowance, cause) in [
+        ("1", "--allowance: the allowance is below 2 or above 4,096"),
+        (
+            "18446744073709551615",
+            "--allowance: the allowance is below",
+        ),
+        ("-2", "--allowance: the allowance `-2` is not from 0"),
+        ("two", "--allowance: the allowance `two` is not a number"),
+    ] {
+        fails(&["least", "-a", allowance], zigzag, cause);
+    }
+    fails(&["least"], zigzag, "--allowance is missing");
+    fails(&["least", "-a2"], "", "<stdin>: no samples");
+    fails(
+        &["least", "-a2"],
+        "5 0\n5 0\n",
+        "<stdin>:2: the tick is not above",
+    );
+    let long: String = (0..257).map(|k| format!("{k},0\n")).collect();
+    let cause = "<stdin>:257: too many samples: at most 256 are allowed\n";
+    fails(&["least", "-a2"], long, cause);
+}
+
+#[test]
 fn summaries() {
     let folder = folder("summaries");
     let trace = shipped("examples/pulse.csv");
@@ -357,7 +391,7 @@ fn command_lines() {
 #[test]
 fn help() {
     let tool = String::from_utf8(done(&["--help"], "")).unwrap();
-    for command in ["record", "show", "judge", "summary", "draw"] {
+    for command in ["record", "show", "judge", "least", "summary", "draw"] {
         assert!(tool.contains(&format!("\n  {command} ")), "{command}");
         let text = String::from_utf8(done(&[command, "--help"], "")).unwrap();
         assert!(

@@ -12,6 +12,7 @@ pub enum Call {
     Walk,
     Gallop,
     Minimum,
+    Least,
     Expand,
     Write,
     Read,
@@ -19,12 +20,13 @@ pub enum Call {
 }
 
 /// Every call.
-pub const CALLS: [Call; 9] = [
+pub const CALLS: [Call; 10] = [
     Call::Hold,
     Call::Judge,
     Call::Walk,
     Call::Gallop,
     Call::Minimum,
+    Call::Least,
     Call::Expand,
     Call::Write,
     Call::Read,
@@ -45,6 +47,7 @@ impl Call {
             Call::Walk => "walk",
             Call::Gallop => "gallop",
             Call::Minimum => "minimum",
+            Call::Least => "least",
             Call::Expand => "expand",
             Call::Write => "write",
             Call::Read => "read",
@@ -58,6 +61,7 @@ impl Call {
             Call::Hold => &[4],
             Call::Judge => &[1, 2, 3, 4, 6],
             Call::Walk | Call::Gallop | Call::Minimum => &[1, 2, 3, 4, 10],
+            Call::Least => &[1, 2, 3, 5, 10],
             Call::Expand => &[1, 10],
             Call::Write => &[1, 2, 3, 4, 6, 7, 10],
             Call::Read => &[8, 10],

@@ -5,8 +5,12 @@
 //! - [`held_tolerances`], [`judge_list`], [`codes`], [`round_trip`], [`random_commands`],
 //!   [`comparison`], [`random_faults`]: sorts that the tests run by themselves too.
 
-use crate::compare::{exactly, expand, form, hold, judge, noise, ratio, read, reduce, same, write};
-use crate::reductions::{any_tolerance, lists, shortest_lists, size_bounds, tolerances};
+use crate::compare::{
+    exactly, expand, form, hold, judge, least, noise, ratio, read, reduce, same, write,
+};
+use crate::reductions::{
+    any_tolerance, least_list, lists, shortest_lists, size_bounds, tolerances,
+};
 use kovrelna::Tolerance::Counts;
 use kovrelna_reference::generate::{
     any_trace, content, damaged, just_below, kept_list, Random, Trace,
@@ -22,7 +26,7 @@ pub struct Family {
 }
 
 /// Every sort.
-pub const FAMILIES: [Family; 13] = [
+pub const FAMILIES: [Family; 15] = [
     Family {
         name: "tolerances",
         weight: 40,
@@ -52,6 +56,16 @@ pub const FAMILIES: [Family; 13] = [
         name: "shortest lists",
         weight: 20,
         case: shortest,
+    },
+    Family {
+        name: "least errors",
+        weight: 60,
+        case: |random| least_error(40, random),
+    },
+    Family {
+        name: "least errors of the longest traces",
+        weight: 1,
+        case: |random| least_error(256, random),
     },
     Family {
         name: "codes",
@@ -193,6 +207,14 @@ fn shortest(random: &mut Random) {
         let [.., minimum] = lists(&trace, tolerance, samples);
         shortest_lists(&trace, tolerance, &minimum);
     }
+}
+
+fn least_error(most: i64, random: &mut Random) {
+    let samples = random.within(1, most) as usize;
+    let trace = any_trace(samples, random);
+    let any = random.within(2, samples as i64 + 2) as u64;
+    let allowance = random.choose(&[2, 3, any, any, 4_096]);
+    least_list(&trace, allowance, samples + random.choose(&[0, 0, 1, 7]));
 }
 
 /// Range codes, with room or without.
@@ -364,6 +386,8 @@ pub fn random_faults(random: &mut Random) {
         let _ = reduce(method, &ticks, &values, tolerance, room);
     }
     let _ = write(&ticks, &values, &list, tolerance, 6 * room + 13, at);
+    let allowance = random.choose(&[2, 3, 4, 1, 0, 4_097]);
+    let _ = least(&ticks, &values, allowance, room);
 }
 
 #[cfg(test)]

@@ -5,7 +5,7 @@
 use crate::calls::Call;
 use kovrelna::{Refusal, Tolerance, Verdict};
 use kovrelna_reference::record::{self, Content};
-use kovrelna_reference::{Form, Fraction, Method, Reduced, Row};
+use kovrelna_reference::{Form, Fraction, Least, Method, Reduced, Row};
 use std::hint::black_box;
 
 /// The tolerance p/q.
@@ -173,6 +173,41 @@ pub fn reduce(
         assert!(
             ticks.as_expected() && values.as_expected() && out.as_expected(),
             "an input, an entry behind the list or an element beside a slice was changed\n{}",
+            input()
+        );
+    }
+    expected
+}
+
+/// Calls `least` with an output of `room` entries between two kinds of guard elements, compares with the
+/// reference, sees that the output begins with the list and that no other element changed, and returns
+/// the error and the list, or the refusal's row.
+pub fn least(ticks: &[u32], values: &[i16], allowance: u64, room: usize) -> Result<Least, Row> {
+    let expected = kovrelna_reference::least(ticks, values, allowance, room);
+    Call::Least.count(&expected);
+    for guards in GUARDS {
+        let ticks = Guarded::new(ticks, guards.0);
+        let values = Guarded::new(values, guards.1);
+        // No list has an entry like these.
+        let before: Vec<u16> = (0..room).map(|k| (k as u16 ^ guards.2) | 0x8000).collect();
+        let mut out = Guarded::new(&before, guards.2);
+        let (t, v) = (ticks.slice(), values.slice());
+        let answer = kovrelna::least(t, v, allowance, out.slice_mut())
+            .map(|least| (least.kept, least.error.p, least.error.q))
+            .map_err(row);
+        let input = || format!("least for {allowance} of ticks, values: {t:?} {v:?} room {room}");
+        let known = match &expected {
+            Ok(Least { list, error }) => {
+                out.expect(0, list);
+                Ok((list.len(), error.p as u64, error.q as u64))
+            }
+            Err(row) => Err(*row),
+        };
+        assert_eq!(answer, known, "{}", input());
+        assert!(
+            ticks.as_expected() && values.as_expected() && out.as_expected(),
+            "the list is wrong, or another element was changed: {:?}\n{}",
+            out.slice(),
             input()
         );
     }

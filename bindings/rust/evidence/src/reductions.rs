@@ -1,11 +1,13 @@
-//! What holds of the lists of walk, gallop and minimum beyond their definitions, and tolerances at
-//! which they change. A check that fails panics, with its input.
+//! What holds of the lists of walk, gallop, minimum and least beyond their definitions, and tolerances
+//! at which they change. A check that fails panics, with its input.
 
-use crate::compare::{exactly, form, judge, noise, ratio, reduce};
+use crate::compare::{exactly, form, judge, least, noise, ratio, reduce};
 use kovrelna::Tolerance;
 use kovrelna_reference::generate::{just_below, Random, Trace};
 use kovrelna_reference::Method::{self, Gallop, Minimum, Walk};
-use kovrelna_reference::{fewest, held, kept_lists, link_error, link_valid, Reduced};
+use kovrelna_reference::{
+    fewest, held, kept_lists, link_error, link_valid, list_error, Least, Reduced,
+};
 
 /// The methods whose stops are maximal.
 pub const GREEDY: [Method; 2] = [Walk, Gallop];
@@ -114,4 +116,22 @@ pub fn shortest_lists(trace: &Trace, tolerance: Tolerance, minimum: &[u16]) -> V
         "{trace:?} {tolerance:?}"
     );
     shortest
+}
+
+/// Calls least and sees what holds of its answer: the list has at most so many samples and exactly the
+/// error, it is minimum's there, and just below the error no list is short enough.
+pub fn least_list(trace: &Trace, allowance: u64, room: usize) -> Least {
+    let Trace { ticks, values } = trace;
+    let answer = least(ticks, values, allowance, room).unwrap();
+    let Least { list, error } = &answer;
+    let (tolerance, allowance) = (exactly(*error), allowance as usize);
+    assert!(list.len() <= allowance, "{allowance} {answer:?}\n{trace:?}");
+    assert_eq!(list_error(ticks, values, list), *error, "{trace:?}");
+    let minimum = reduce(Minimum, ticks, values, tolerance, room);
+    assert_eq!(minimum.unwrap().list, *list, "{trace:?}");
+    assert!(
+        error.p == 0 || fewest(ticks, values, just_below(*error)) > allowance,
+        "{allowance} {answer:?}\n{trace:?}"
+    );
+    answer
 }

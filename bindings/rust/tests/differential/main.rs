@@ -5,6 +5,7 @@
 //! - `hold`: tolerances in all forms.
 //! - `judge`: lists on random and adversarial traces.
 //! - `reduce`: walk, gallop and minimum on random and adversarial traces.
+//! - `least`: least errors on random and adversarial traces.
 //! - `codes`: range codes.
 //! - `records`: records written, read, damaged and compared.
 
@@ -12,6 +13,7 @@ mod codes;
 mod figures;
 mod hold;
 mod judge;
+mod least;
 mod records;
 mod reduce;
 mod refusals;

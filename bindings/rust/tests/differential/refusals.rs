@@ -5,7 +5,9 @@ use kovrelna::{Refusal, Tolerance};
 use kovrelna_evidence::calls::Call::{self, *};
 use kovrelna_evidence::calls::CALLS;
 use kovrelna_evidence::cases::random_faults;
-use kovrelna_evidence::compare::{expand, hold, judge, noise, ratio, read, reduce, same, write};
+use kovrelna_evidence::compare::{
+    expand, hold, judge, least, noise, ratio, read, reduce, same, write,
+};
 use kovrelna_reference::generate::Random;
 use kovrelna_reference::record::{end, first, short, tolerance};
 use kovrelna_reference::{Method, Row};
@@ -17,6 +19,7 @@ struct Input {
     values: Vec<i16>,
     list: Vec<u16>,
     tolerance: Tolerance,
+    allowance: u64,
     codes: Vec<u8>,
     record: Vec<u8>,
     second: Vec<u8>,
@@ -37,6 +40,7 @@ fn accepted() -> Input {
         values: vec![0; 8],
         list: vec![0, 7],
         tolerance: ratio(0, 1),
+        allowance: 2,
         codes: vec![9; 8],
         second: record.clone(),
         record,
@@ -66,6 +70,7 @@ fn refused(call: Call, input: &Input) -> Option<Row> {
         Walk => reduced(Method::Walk),
         Gallop => reduced(Method::Gallop),
         Minimum => reduced(Method::Minimum),
+        Least => least(ticks, values, input.allowance, room).err(),
         Expand => expand(codes, room).err(),
         Write => write(ticks, values, list, tolerance, input.size, input.place).err(),
         Read => read(record, room, second_room).err(),
@@ -73,12 +78,13 @@ fn refused(call: Call, input: &Input) -> Option<Row> {
     }
 }
 
-/// The calls that take a trace, a tolerance, a list; and those with an output of an entry for each
-/// sample or code.
-const TRACES: &[Call] = &[Judge, Walk, Gallop, Minimum, Write];
+/// The calls that take a trace, one of up to 4,096 samples, a tolerance, a list; and those with an
+/// output of an entry for each sample or code.
+const TRACES: &[Call] = &[Judge, Walk, Gallop, Minimum, Least, Write];
+const LONG_TRACES: &[Call] = &[Judge, Walk, Gallop, Minimum, Write];
 const TOLERANCES: &[Call] = &[Hold, Judge, Walk, Gallop, Minimum, Write];
 const LISTS: &[Call] = &[Judge, Write];
-const OUTPUTS: &[Call] = &[Walk, Gallop, Minimum, Expand, Read];
+const OUTPUTS: &[Call] = &[Walk, Gallop, Minimum, Least, Expand, Read];
 
 /// A fault: the calls that refuse it, the row, and how it comes into an input. For each call and row
 /// there is one. They concern different things, so that any of them can come together.
@@ -98,6 +104,7 @@ const FAULTS: &[Fault] = &[
     (TOLERANCES, (4, 0), |input| {
         input.tolerance = Tolerance::Counts(f64::NAN)
     }),
+    (&[Least], (5, 0), |input| input.allowance = 1),
     (LISTS, (6, 1), |input| input.list = vec![0, 0, 7]),
     (&[Write], (7, 0), |input| input.values[3] = 9),
     (&[Read, Same], (8, 16), |input| input.record.truncate(18)),
@@ -154,6 +161,7 @@ fn limits() {
         lengths(),
         ticks(),
         tolerances(),
+        allowances(),
         lists(),
         links(),
         records(),
@@ -183,7 +191,7 @@ fn lengths() -> Vec<Entry> {
                 size: 100,
                 ..accepted()
             };
-            entries.push((TRACES, input.clone(), row));
+            entries.push((LONG_TRACES, input.clone(), row));
             if !allowed {
                 // Later rows fail too.
                 let input = Input {
@@ -194,7 +202,7 @@ fn lengths() -> Vec<Entry> {
                     size: 0,
                     ..input
                 };
-                entries.push((TRACES, input, row));
+                entries.push((LONG_TRACES, input, row));
             }
         }
         let allowed = (1..=4_096).contains(&samples);
@@ -269,6 +277,38 @@ fn tolerances() -> Vec<Entry> {
         (TOLERANCES, input, (!allowed).then_some((4, 0)))
     };
     cases.map(entry).to_vec()
+}
+
+/// Allowances, and the lengths of traces for least.
+fn allowances() -> Vec<Entry> {
+    let mut entries: Vec<Entry> = Vec::new();
+    for (allowance, allowed) in [
+        (0, false),
+        (1, false),
+        (2, true),
+        (8, true),
+        (4_096, true),
+        (4_097, false),
+        (1 << 32 | 2, false),
+        (u64::MAX, false),
+    ] {
+        let input = Input {
+            allowance,
+            ..accepted()
+        };
+        entries.push((&[Least], input, (!allowed).then_some((5, 0))));
+    }
+    for samples in [0, 1, 2, 255, 256, 257, 4_096, 4_097] {
+        let allowed = (1..=256).contains(&samples);
+        let input = Input {
+            ticks: (0..samples as u32).collect(),
+            values: vec![7; samples],
+            rooms: (samples, 0),
+            ..accepted()
+        };
+        entries.push((&[Least], input, (!allowed).then_some((1, 0))));
+    }
+    entries
 }
 
 fn lists() -> Vec<Entry> {
