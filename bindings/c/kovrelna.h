@@ -145,11 +145,11 @@ kovrelna_verdict kovrelna_judge(const uint32_t *ticks, size_t ticks_len,
 
 /* ---- Reductions ----
  *
- * Each finds a kept list of the trace with every link valid. The value is the kept number, and the
- * first that many entries of out are the kept list; the entries after them are as they were.
+ * Each finds a kept list of the trace. The value is the kept number, and the first that many entries
+ * of out are the kept list; the entries after them are as they were. The output needs as many
+ * entries as the trace has samples, however many are kept; 10 returns that number.
  *
- * Refusals: 1, 2, 3, 4, 10. The output needs as many entries as the trace has samples, however many
- * are kept; 10 returns that number.
+ * Walk, gallop and minimum find one with every link valid. Refusals: 1, 2, 3, 4, 10.
  *
  * The lists of walk and gallop have at most as many samples as any kept list whose links are all
  * valid at half the tolerance.

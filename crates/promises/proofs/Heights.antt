@@ -18,17 +18,21 @@ use Rattle.tolerance.specs.declared.Meaning.the-variants.{Exact, NotAllowed}
 use Rattle.tolerance.specs.Meaning.{meaning}
 use Rattle.trace.specs.declared.Criterion.{Criterion}
 use Rattle.trace.specs.Trace.{Trace, traceRows}
-use Rattle.trace.specs.Link.{valid}
+use Rattle.trace.specs.Link.{valid, criterion}
 use Rattle.heights.specs.Heights.{ErrorBudget}
 use Rattle.heights.proofs.BudgetLaws.{error-budget}
 use Rattle.engine.specs.declared.Reduced.the-variants.{Kept}
 use Rattle.reduction.specs.declared.Galloped.{Galloped}
+use Rattle.closest.specs.declared.Found.{Found}
 use Rattle.engine.specs.declared.Probed.the-variants.{Kept as KeptBy}
+use Rattle.engine.specs.declared.Closest.the-variants.{Kept as KeptAt}
 use Rattle.engine.specs.declared.Verdict.the-variants.{Yes}
 use Rattle.engine.specs.Hold.{toleranceRow}
 use Rattle.engine.specs.Prepare.{commonRows, criterionOf, outputRows}
 use Rattle.engine.specs.Reduce.{okOf, WalkOutcome, GallopOutcome}
 use Rattle.engine.specs.Shortest.{MinimumOutcome}
+use Rattle.engine.specs.Least.{LeastOutcome}
+use Rattle.engine.proofs.LeastLaws.{least-task}
 use Rattle.engine.specs.Judge.{judgeRows, JudgeOutcome}
 use Rattle.engine.proofs.PrepareLaws.{exact-sets, common-trace}
 
@@ -73,3 +77,9 @@ module _ (ts : List ℕ) (vs : List ℤ) (t : Tolerance) where
       let passed = h .passed .0 refl in
       let rows = then-fine (commonRows ts vs t) _ (passed .0) .0 in
       error-budget (criterionOf t) (common-trace ts vs t rows) (passed .1) (passed .2) (common-positive rows)
+
+-- least's list, at the error that it returns
+pub least-budget : (ts : List ℕ) (vs : List ℤ) (m : ℕ) {o o′ : List ℕ} {f : Found} → LeastOutcome ts vs m o (KeptAt f) o′ → ErrorBudget ts vs (criterion (f .error)) (take (f .kept) o′)
+least-budget ts vs m {o} {f = f} h =
+    let t = least-task ts vs m (length o) (h .rows) .0 in
+    written-budget (criterion (f .error)) (h .allowed .positive) (t .trace) (h .list .minimum .kept) (h .list .minimum .valid) (h .wrote)
