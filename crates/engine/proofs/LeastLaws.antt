@@ -24,7 +24,7 @@ use Rattle.trace.proofs.Errors.{trace-measures}
 use Rattle.closest.specs.declared.Found.{Found}
 use Rattle.closest.specs.Closest.{Task}
 use Rattle.engine.specs.Prepare.{roomRow}
-use Rattle.engine.specs.Least.{allowanceRow, allowedRows, leastRows, okAt, Closened}
+use Rattle.engine.specs.Least.{allowanceRow, allowedRows, leastRows, okAt, LeastKept}
 
 module _ (n m room : ℕ) where
   pub allowance-low : m < 2 → Refused Allowance ≡ allowedRows n m room
@@ -64,8 +64,8 @@ module _ (ts : List ℕ) (vs : List ℤ) (m room : ℕ) where
         let t = rows-trace 256 ts vs (omega arith) (a .0) in
         (record { trace = t .0; few = t .1; two = leb-true 2 m (and-first _ _ (row-fine _ _ (b .0))) }, leb-true _ _ (row-fine _ _ (b .1)))
 
-pub closened : {ts : List ℕ} {vs : List ℤ} {m : ℕ} {o o′ : List ℕ} {f : Found} → leastRows ts vs m (length o) ≡ Fine → f .error ≡ leastOf (linkError ts vs) (length ts - 1) m
-    → Bounded (criterion (f .error)) → Wrote (minimumOf (okAt ts vs (f .error)) (length ts - 1)) o (f .kept) o′ → Closened ts vs m o f o′
-closened {ts} {vs} {m} {o} rows e b w =
+pub least-kept : {ts : List ℕ} {vs : List ℤ} {m : ℕ} {o o′ : List ℕ} {f : Found} → leastRows ts vs m (length o) ≡ Fine → f .error ≡ leastOf (linkError ts vs) (length ts - 1) m
+    → Bounded (criterion (f .error)) → Wrote (minimumOf (okAt ts vs (f .error)) (length ts - 1)) o (f .kept) o′ → LeastKept ts vs m o f o′
+least-kept {ts} {vs} {m} {o} rows e b w =
     let t = least-task ts vs m (length o) rows .0 in
     record { rows = rows; error = e; allowed = b; wrote = w; list = rw e (least-error (trace-measures (t .trace)) m (t .two)) }

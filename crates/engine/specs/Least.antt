@@ -1,6 +1,6 @@
 -- The outcome of least (document 01, "The four reductions"), with demand 3 for it.
 --   leastRows      the first of the rows 1, 2, 3, 5, 10 that applies
---   Closened       what holds of a list kept, and of its error
+--   LeastKept      what holds of a list kept, and of its error
 --   LeastOutcome   the contract: by cases on the answer
 -- A refused call leaves the lent list as it was. Otherwise its first entries are the list, and the others stay.
 -- Assumes nothing.
@@ -43,7 +43,7 @@ okAt ts vs x = valid ts vs (criterion x)
 
 -- least answered f, and the lent list o became o′. Demand 3 is `list`: a kept list of at most m samples with the error returned, in lowest
 -- terms; the minimum's at that error; and every kept list of this trace of at most m samples has at least that error.
-pub record Closened (ts : List ℕ) (vs : List ℤ) (m : ℕ) (o : List ℕ) (f : Found) (o′ : List ℕ) : Type 0 where
+pub record LeastKept (ts : List ℕ) (vs : List ℤ) (m : ℕ) (o : List ℕ) (f : Found) (o′ : List ℕ) : Type 0 where
   pub rows : leastRows ts vs m (length o) ≡ Fine
   pub error : f .error ≡ leastOf (linkError ts vs) (length ts - 1) m
   pub allowed : Bounded (criterion (f .error))
@@ -51,5 +51,5 @@ pub record Closened (ts : List ℕ) (vs : List ℤ) (m : ℕ) (o : List ℕ) (f 
   pub list : LeastError (okAt ts vs) (linkError ts vs) (length ts - 1) m (f .error) (minimumOf (okAt ts vs (f .error)) (length ts - 1))
 
 abbrev pub LeastOutcome : List ℕ → List ℤ → ℕ → List ℕ → Closest → List ℕ → Type 0
-LeastOutcome ts vs m o (Kept f) o′ = Closened ts vs m o f o′
+LeastOutcome ts vs m o (Kept f) o′ = LeastKept ts vs m o f o′
 LeastOutcome ts vs m o (Declined x) o′ = (leastRows ts vs m (length o) ≡ Refused x) × (o′ ≡ o)

@@ -3,7 +3,7 @@ use mathlib.Core.Path.{_≡_, refl, sym, _∙_}
 use lib.ListN.{length}
 use Rattle.refusal.specs.declared.Checked.the-variants.{Fine}
 use Rattle.engine.specs.Least.{leastRows}
-use Rattle.engine.proofs.LeastLaws.{least-task, closened}
+use Rattle.engine.proofs.LeastLaws.{least-task, least-kept}
 use borrow.Author.Needs.{needs}
 use Rattle.engine.proofs.least.least.Statement.{statement}
 use Rattle.engine.proofs.least.least.Tie as tie
@@ -33,7 +33,7 @@ same-length c = search needs
 returns : tie.Need-returns
 returns c =
     let l = c .before .before in
-    closened (passed (l .before .before)) (l .least .ensures .0) (l .least .ensures .1 .0) (l .least .ensures .1 .1)
+    least-kept (passed (l .before .before)) (l .least .ensures .0) (l .least .ensures .1 .0) (l .least .ensures .1 .1)
 
 returns-2 : tie.Need-returns-2
 returns-2 c = (sym (c .before .before .before .check .ensures) ∙ c .before .checked .given .1, refl)
