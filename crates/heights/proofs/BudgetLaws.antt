@@ -12,9 +12,9 @@ use Rattle.kept.specs.Kept.{KeptList, AllValid}
 use Rattle.trace.specs.declared.Criterion.{Criterion}
 use Rattle.trace.specs.Trace.{tick, value, Trace}
 use Rattle.trace.specs.Link.{valid}
-use Rattle.trace.proofs.Difference.{times, at-most, size-at-most}
+use Rattle.trace.proofs.Difference.{times, at-most, size-at-most, less, parts}
 use Rattle.heights.specs.Heights.{Fraction, lineAt, traceAt, allOf, Near, Equals, Between, peak, trough, ErrorBudget}
-use Rattle.heights.proofs.Order.{less, parts, order}
+use Rattle.heights.proofs.Order.{order}
 use Rattle.heights.proofs.Entries.{Entry, kept-inside, every-kept, every-entry}
 use Rattle.heights.proofs.NearLaws.{line-near}
 use Rattle.heights.proofs.ExtremeLaws.{Sampled, peak-bound, trough-bound, peak-sampled, trough-sampled, line-through, sample-on, line-extremes}

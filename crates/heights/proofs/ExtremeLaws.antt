@@ -16,11 +16,11 @@ use Rattle.kept.specs.Kept.{LinksFrom, final, KeptList}
 use Rattle.kept.proofs.KeptLaws.{rise-le}
 use Rattle.trace.specs.Trace.{tick, value, Rising, Trace}
 use Rattle.trace.proofs.Ticks.{later, not-earlier}
-use Rattle.trace.proofs.Difference.{times}
+use Rattle.trace.proofs.Difference.{times, parts}
 use Rattle.trace.proofs.Deviation.{line}
 use Rattle.trace.proofs.Heights.{height-diff}
 use Rattle.heights.specs.Heights.{linkAt, lineFrom, lineAt, OnTrace, Equals, Between, higher, lower, joined, ofSamples, peak, trough, Attained, Extremes}
-use Rattle.heights.proofs.Order.{parts, order, order-refl, order-trans, higher-left, higher-right, higher-one, lower-left, lower-right, lower-one, unique}
+use Rattle.heights.proofs.Order.{order, order-refl, order-trans, higher-left, higher-right, higher-one, lower-left, lower-right, lower-one, unique}
 use Rattle.heights.proofs.Entries.{Entry, entry-inside, kept-inside}
 use Rattle.heights.proofs.LineLaws.{link-den, link-num, link-positive}
 

@@ -11,10 +11,9 @@ use borrow.Author.Tests.{leb-true, leb-false}
 use Rattle.lists.proofs.Tests.{by-test}
 use Rattle.kept.specs.Kept.{LinksFrom, EachLink, final, KeptList}
 use Rattle.trace.specs.Trace.{tick, value}
-use Rattle.trace.proofs.Difference.{Diff, same, plus, times}
+use Rattle.trace.proofs.Difference.{Diff, same, plus, times, distance}
 use Rattle.trace.proofs.Deviation.{line}
 use Rattle.heights.specs.Heights.{Fraction, linkAt, lineFrom, lineAt}
-use Rattle.heights.proofs.Order.{distance}
 
 -- x is the line at a/d of a link with R: the first that ends at or after a/d, of a list whose first sample is 0
 pub record Located (ts : List ℕ) (vs : List ℤ) (R : ℕ → ℕ → Type 0) (a d : ℕ) (x : Fraction) : Type 0 where

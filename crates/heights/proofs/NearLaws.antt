@@ -15,16 +15,15 @@ use Rattle.kept.specs.Kept.{KeptList, AllValid}
 use Rattle.kept.proofs.KeptLaws.{each-zip, kept-links}
 use Rattle.trace.specs.declared.Criterion.{Criterion}
 use Rattle.trace.specs.Trace.{tick, Rising, Trace}
-use Rattle.trace.specs.Link.{Valid, valid}
+use Rattle.trace.specs.Link.{Band, Valid, valid}
 use Rattle.trace.proofs.Line.{Above, Below}
 use Rattle.trace.proofs.Ticks.{not-earlier}
-use Rattle.trace.proofs.Difference.{Diff, same, times, size-at-most}
+use Rattle.trace.proofs.Difference.{Diff, same, less, times, parts, size-at-most}
 use Rattle.trace.proofs.Deviation.{line}
-use Rattle.trace.proofs.Heights.{reach, height, height-diff, High, Low, high, low}
+use Rattle.trace.proofs.Heights.{reach, height, height-diff, High, Low}
 use Rattle.trace.proofs.Validity.{valid-band, true-valid}
-use Rattle.trace.proofs.Half.{start-above, start-below, end-above, end-below}
+use Rattle.trace.proofs.Half.{band-high, band-low}
 use Rattle.heights.specs.Heights.{Fraction, linkAt, lineFrom, lineAt, samplesAfter, everySample, traceAt, OnTrace, Near}
-use Rattle.heights.proofs.Order.{less, parts}
 use Rattle.heights.proofs.Entries.{kept-one, every-kept, every-links}
 use Rattle.heights.proofs.LineLaws.{Located, kept-located, link-den, link-num, link-positive}
 
@@ -79,16 +78,15 @@ near-refl c x e =
 -- ---- a valid link
 
 module _ {ts : List ℕ} (rising : Rising ts) (vs : List ℤ) (c : Criterion) {i j : ℕ} (inside : j < length ts) (v : Valid ts vs c i j) where
+  band : Band ts vs i j (c .p) (c .q) (c .p) (c .q)
+  band = valid-band ts vs c i j v
+
   -- each sample of the link, its ends included, is within p/q of it
-  sample-near : (k : ℕ) → i ≤ k → k ≤ j → High ts vs i j (c .p) (c .q) k × Low ts vs i j (c .p) (c .q) k
-  sample-near k ik kj =
-      let P : ℕ → Type 0 = λ n. High ts vs i j (c .p) (c .q) n × Low ts vs i j (c .p) (c .q) n in
-      let band = valid-band ts vs c i j v in
-      ⊎-elim (λ e. subst P e (start-above (omega arith), start-below (omega arith)))
-      (λ l. ⊎-elim (λ e. subst P (sym e) (end-above (omega arith), end-below (omega arith)))
-      (λ u. (high rising vs i j k (c .p) (c .q) ik kj inside .0 (band .above k l u), low rising vs i j k (c .p) (c .q) ik kj inside .0 (band .below k l u)))
-      (eq-or-lt-of-le kj))
-      (eq-or-lt-of-le ik)
+  sample-high : (k : ℕ) → i ≤ k → k ≤ j → High ts vs i j (c .p) (c .q) k
+  sample-high = band-high rising vs inside band
+
+  sample-low : (k : ℕ) → i ≤ k → k ≤ j → Low ts vs i j (c .p) (c .q) k
+  sample-low = band-low rising vs inside band
 
   -- so its line is within p/q of that of two neighbours in it, between them
   link-near : (a d k : ℕ) → 1 ≤ d → i ≤ k → suc k ≤ j → d * tick ts k ≤ a → a ≤ d * tick ts (suc k) → Near c (linkAt ts vs i j a d) (linkAt ts vs k (suc k) a d)
@@ -101,8 +99,6 @@ module _ {ts : List ℕ} (rising : Rising ts) (vs : List ℤ) (c : Criterion) {i
       let length-is : (n : ℕ) → d * tick ts i ≤ n → n ≤ d * tick ts j → linkAt ts vs i j a d .den ≡ (n - d * tick ts i) + (d * tick ts j - n)
       = λ n l u. link-den ts vs i j a d (omega arith) (omega arith) ∙ across (d * tick ts i) a (d * tick ts j) n (omega arith) (omega arith) l u in
       let step-is = link-den ts vs k (suc k) a d from to in
-      let here = sample-near k ik (omega arith) in
-      let next = sample-near (suc k) (omega arith) kj in
       let on-line = straight-line (height vs i) (height vs j) (d * tick ts k - d * tick ts i) (a - d * tick ts k) (d * tick ts (suc k) - a) (d * tick ts j - d * tick ts (suc k))
       {u = a - d * tick ts i} {s = d * tick ts j - a} {v = d * tick ts j - d * tick ts k} {r = d * tick ts (suc k) - d * tick ts i}
       (omega arith) (omega arith) (omega arith) (omega arith) in
@@ -110,11 +106,11 @@ module _ {ts : List ℕ} (rising : Rising ts) (vs : List ℤ) (c : Criterion) {i
       (link-num ts vs i j a d (omega arith) (omega arith) (height-diff vs i) (height-diff vs j))
       (link-num ts vs k (suc k) a d from to (height-diff vs k) (height-diff vs (suc k)))
       (mean-below (height vs k) (height vs (suc k)) _ _ _ _ _ _ (c .p) (c .q) step-is on-line
-      (parts-below _ _ _ _ _ (c .p) (c .q) d (mul-sub d _ _) (mul-sub d _ _) (length-is _ di (omega arith)) (here .1))
-      (parts-below _ _ _ _ _ (c .p) (c .q) d (mul-sub d _ _) (mul-sub d _ _) (length-is _ (omega arith) dj) (next .1)))
+      (parts-below _ _ _ _ _ (c .p) (c .q) d (mul-sub d _ _) (mul-sub d _ _) (length-is _ di (omega arith)) (sample-low k ik (omega arith)))
+      (parts-below _ _ _ _ _ (c .p) (c .q) d (mul-sub d _ _) (mul-sub d _ _) (length-is _ (omega arith) dj) (sample-low (suc k) (omega arith) kj)))
       (mean-above (height vs k) (height vs (suc k)) _ _ _ _ _ _ (c .p) (c .q) step-is on-line
-      (parts-above _ _ _ _ _ (c .p) (c .q) d (mul-sub d _ _) (mul-sub d _ _) (length-is _ di (omega arith)) (here .0))
-      (parts-above _ _ _ _ _ (c .p) (c .q) d (mul-sub d _ _) (mul-sub d _ _) (length-is _ (omega arith) dj) (next .0)))
+      (parts-above _ _ _ _ _ (c .p) (c .q) d (mul-sub d _ _) (mul-sub d _ _) (length-is _ di (omega arith)) (sample-high k ik (omega arith)))
+      (parts-above _ _ _ _ _ (c .p) (c .q) d (mul-sub d _ _) (mul-sub d _ _) (length-is _ (omega arith) dj) (sample-high (suc k) (omega arith) kj)))
 
 -- ---- the whole list
 

@@ -3,26 +3,15 @@
 use mathlib.Core.Path.{_≡_, ap}
 use mathlib.Core.Bool.{false}
 use mathlib.Core.Logic.{_↔_}
-use Prim.Native.Nat.{ℕ, suc, _+_, _-_, _≤_}
+use Prim.Native.Nat.{ℕ, _+_, _≤_}
 use native.Mathlib.Omega.{arith}
 use native.Mathlib.Decide.{decLe}
 use lib.Dec.{leb→le, le→leb}
-use lib.IntN.{ℤ, pos, negsuc, _-ℤ_}
+use lib.IntN.{ℤ, pos, negsuc}
 use lib.Signed.{_≤ℤ_, leZ}
 use Rattle.lists.proofs.Tests.{by-test, is-true, true-is, true-false}
-use Rattle.trace.proofs.Difference.{Diff, same, plus, negated, number}
+use Rattle.trace.proofs.Difference.{Diff, parts}
 use Rattle.heights.specs.Heights.{higher, lower}
-
-pub less : {x y : ℤ} {a b c d : ℕ} → Diff x a b → Diff y c d → Diff (x -ℤ y) (a + d) (b + c)
-less h k = plus h (negated k)
-
--- the number from m to n, for m ≤ n
-pub distance : (m n : ℕ) → m ≤ n → pos n -ℤ pos m ≡ pos (n - m)
-distance m n h = number (same (less {x = pos n} {y = pos m} {a = n} {b = 0} {c = m} {d = 0} (omega arith) (omega arith)) n m (omega arith)) h
-
-pub parts : (z : ℤ) → (a : ℕ) × (b : ℕ) × Diff z a b
-parts (pos n) = (n, 0, omega arith)
-parts (negsuc n) = (0, suc n, omega arith)
 
 pub order : {x y : ℤ} {a b c d : ℕ} → Diff x a b → Diff y c d → x ≤ℤ y ↔ a + d ≤ c + b
 order {x = pos m} {y = pos n} h k = (λ l. omega (arith, leb→le m n (l .le)), λ l. record { le = le→leb m n (omega arith) })
