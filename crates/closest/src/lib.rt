@@ -16,7 +16,7 @@ pub struct Trial {
     pub error: Ratio,
 }
 
-// The least error lies above `low`, at which no list fits, or is at most `low`; `high` is the error of a list that fits.
+// Where a search stands: `low` is 0 or a tolerance at which no list fits, `high` the error of a list that fits.
 pub struct Interval {
     pub low: Ratio,
     pub high: Ratio,

@@ -44,7 +44,7 @@ fn first_error(ticks: &[u32], values: &[i16], m: usize) -> Ratio
     ends_error(ticks, values, m)
 }
 
-// Halves the tolerances below `from` until they are narrow: 22 times, or twice as often where the middle lies in a gap.
+// Halves the tolerances below `from` until they are narrow: at most 22 times, twice as often where the middle lies in a gap.
 fn approach(ticks: &[u32], values: &[i16], m: usize, from: Ratio) -> Interval
     requires { ⌜ Task (now ticks) (now values) m × Reached (now ticks) (now values) m from ⌝ }
     ensures { λ r. ⌜ Narrowed (now (ticks .entry)) (now (values .entry)) m from r ⌝ }
