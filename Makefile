@@ -24,8 +24,11 @@ EVIDENCE = $(CARGO) run $(CARGO_FLAGS) --release --package kovrelna-evidence --
 .PHONY: lib shared cli install install-cli uninstall example evidence test test-rust test-c test-install test-python bench
 
 # Prove the library and write the archive that programs link.
-lib $(ARCHIVE):
+lib: $(ARCHIVE)
+
+$(ARCHIVE): crates.txt $(shell find crates -name '*.rt' -o -name '*.antt')
 	@rt staticlib kovrelna
+	@touch $@
 
 # The shared library, from the archive.
 shared: $(SHARED)

@@ -20,7 +20,7 @@ use Rattle.shortest.specs.Shortest.{minimumList}
 use Rattle.shortest.proofs.ShortestLaws.{minimum-list}
 use Rattle.engine.specs.Prepare.{criterionOf, OutputReady}
 use Rattle.engine.specs.Reduce.{okOf, GreedyList, Walked, Searched}
-use Rattle.engine.specs.Shortest.{Shortened}
+use Rattle.engine.specs.Minimum.{Shortened}
 
 -- any greedy list: kept, of valid links, with maximal stops
 pub greedy-list : {ts : List ℕ} {vs : List ℤ} (t : Tolerance) {l : List ℕ} → Trace ts vs → Greedy (okOf ts vs t) (length ts - 1) l → GreedyList ts vs t l

@@ -1,5 +1,5 @@
 // The public call `minimum`: the shortest kept list of a trace within a tolerance.
-ghost use Rattle.engine.specs.Shortest.{MinimumOutcome};
+ghost use Rattle.engine.specs.Minimum.{MinimumOutcome};
 use crate::Ready;
 use crate::Reduced;
 use crate::prepare::prepare_output;

@@ -16,6 +16,7 @@ use Rattle.kept.specs.Least.{leastOver, leastFrom, leastOf}
 use Rattle.kept.specs.Gallop.{probeOf, doubling, bisection, searchBy, gallopSearch, gallopOf, gallopProbes, sumFrom}
 use Rattle.refusal.specs.declared.Refusal.the-variants.{Tick, Span}
 use Rattle.refusal.specs.declared.Checked.the-variants.{Fine, Refused}
+use Rattle.refusal.specs.Table.{numberOf, returnedOf}
 use Rattle.tolerance.specs.declared.Tolerance.the-variants.{Ratio}
 use Rattle.trace.specs.Trace.{traceRows}
 use Rattle.trace.specs.Link.{deviation, within, allFrom, valid, criterion, greatest, farthest, linkError}
@@ -157,9 +158,16 @@ span-passes : traceRows 4096 (0 ∷ 1048575 ∷ []) flat ≡ Fine
 unfolding traceRows first firstOf
 span-passes = refl
 
+-- 3 at 1, and 2 at 1
+span-too-long-number : (numberOf (Span 1) ≡ 3) × (returnedOf (Span 1) ≡ 1)
+span-too-long-number = (refl, refl)
+
 span-too-long : traceRows 4096 (0 ∷ 1048576 ∷ []) flat ≡ Refused (Span 1)
 unfolding traceRows first firstOf
 span-too-long = refl
+
+tick-not-above-number : (numberOf (Tick 1) ≡ 2) × (returnedOf (Tick 1) ≡ 1)
+tick-not-above-number = (refl, refl)
 
 tick-not-above : traceRows 4096 (5 ∷ 5 ∷ []) flat ≡ Refused (Tick 1)
 unfolding traceRows first firstOf

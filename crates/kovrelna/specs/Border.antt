@@ -32,7 +32,7 @@ use Rattle.reader.specs.declared.Comparison.{Comparison}
 use Rattle.reader.specs.declared.Comparison.the-variants.{Same, Different, Refused as NotCompared}
 use Rattle.reader.specs.Reading.{ReadOutcome, SameOutcome}
 use Rattle.engine.specs.Reduce.{WalkOutcome, GallopOutcome}
-use Rattle.engine.specs.Shortest.{MinimumOutcome}
+use Rattle.engine.specs.Minimum.{MinimumOutcome}
 use Rattle.engine.specs.Least.{LeastOutcome}
 use Rattle.kovrelna.specs.declared.Tolerance.{Tolerance}
 use Rattle.kovrelna.specs.declared.Held.{Held}

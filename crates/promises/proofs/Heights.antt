@@ -30,7 +30,7 @@ use Rattle.engine.specs.declared.Verdict.the-variants.{Yes}
 use Rattle.engine.specs.Hold.{toleranceRow}
 use Rattle.engine.specs.Prepare.{commonRows, criterionOf, outputRows}
 use Rattle.engine.specs.Reduce.{okOf, WalkOutcome, GallopOutcome}
-use Rattle.engine.specs.Shortest.{MinimumOutcome}
+use Rattle.engine.specs.Minimum.{MinimumOutcome}
 use Rattle.engine.specs.Least.{LeastOutcome}
 use Rattle.engine.proofs.LeastLaws.{least-task}
 use Rattle.engine.specs.Judge.{judgeRows, JudgeOutcome}

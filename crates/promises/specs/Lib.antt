@@ -1,0 +1,2 @@
+-- The definitions of the crate `promises`.
+pub mod Nearness
