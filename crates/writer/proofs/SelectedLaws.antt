@@ -19,7 +19,8 @@ use Rattle.trace.specs.Level.{level, LevelOf}
 use Rattle.trace.specs.Edge.{StartAt}
 use Rattle.trace.proofs.Ticks.{later, span-bound}
 use Rattle.trace.proofs.Level.{short}
-use Rattle.format.specs.Format.{Held, Legal}
+use Rattle.tolerance.specs.Meaning.{Held}
+use Rattle.format.specs.Format.{Legal}
 use Rattle.writer.specs.Writing.{Kept, keptTicks, keptValues, selected, SampleAt, SampleOk, StepBetween}
 use Rattle.writer.specs.declared.Sample.{Sample}
 
