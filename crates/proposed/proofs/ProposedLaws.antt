@@ -24,6 +24,7 @@ use Rattle.kept.proofs.KeptLaws.{links-at, links-of, kept-links}
 use Rattle.trace.specs.declared.Criterion.{Criterion}
 use Rattle.trace.specs.Trace.{Trace}
 use Rattle.trace.specs.Link.{valid, Linked}
+use Rattle.trace.proofs.Validity.{steps-valid}
 use Rattle.proposed.specs.Proposed.{entry, badAt, endRow, listRow, invalidAt, firstInvalid}
 
 -- ---- a bad entry
@@ -165,6 +166,11 @@ kept-link {ts} {vs} {l} {k} t kept h ei ej =
 
 pub link-invalid : (ts : List ℕ) (vs : List ℤ) (c : Criterion) (l : List ℕ) (k : ℕ) {i j : ℕ} {b : Bool} → i ≡ entry l k → j ≡ entry l (k + 1) → b ≡ valid ts vs c i j → not b ≡ invalidAt ts vs c l k
 link-invalid ts vs c l k ei ej e = rw (e, ei, ej, add-one k)
+
+-- a link to the next sample is valid
+pub next-valid : (ts : List ℕ) (vs : List ℤ) (c : Criterion) (l : List ℕ) (k : ℕ) {i j : ℕ} → i ≡ entry l k → j ≡ entry l (k + 1) → j ≡ i + 1 → false ≡ invalidAt ts vs c l k
+next-valid ts vs c l k {i} {j} ei ej e =
+    link-invalid ts vs c l k ei ej (subst (λ (n : ℕ). true ≡ valid ts vs c i n) (sym (e ∙ add-one i)) (sym (steps-valid ts vs c i)))
 
 module _ (ts : List ℕ) (vs : List ℤ) (c : Criterion) (l : List ℕ) where
   -- no link is invalid exactly if all are valid
