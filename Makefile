@@ -1,16 +1,69 @@
-# Kovrelna: build and test. Needs the Rattle toolchain (rt), cargo and a C compiler.
+# Kovrelna: build, install and test. Needs the Rattle toolchain (rt) and a C compiler; the tests also need cargo,
+# pkg-config and Python.
+VERSION = 0.1.0
 ARCHIVE = target/staticlib/libkovrelna.a
+SONAME = libkovrelna.so.$(firstword $(subst ., ,$(VERSION)))
+SHARED = target/shared/libkovrelna.so.$(VERSION)
 CARGO = cargo --quiet
 CARGO_FLAGS = --offline --locked --manifest-path bindings/rust/Cargo.toml
 C_FLAGS = -O2 -Wall -Wextra -Wpedantic -Werror -Ibindings/c
+SANITIZE = -g -fsanitize=address,undefined -fno-sanitize-recover=all
 
 BENCH_FLAGS = -O3
 
-.PHONY: lib example test test-rust test-c bench
+PREFIX = /usr/local
+BINDIR = $(PREFIX)/bin
+LIBDIR = $(PREFIX)/lib
+INCLUDEDIR = $(PREFIX)/include
+PYTHON = python3
+
+# The gate's run of evidence: about 6 seconds.
+GATE_EVIDENCE = --cases 30000 --seed 1
+EVIDENCE = $(CARGO) run $(CARGO_FLAGS) --release --package kovrelna-evidence --
+
+.PHONY: lib shared cli install install-cli uninstall example evidence test test-rust test-c test-install test-python bench
 
 # Prove the library and write the archive that programs link.
-lib:
+lib $(ARCHIVE):
 	@rt staticlib kovrelna
+
+# The shared library, from the archive.
+shared: $(SHARED)
+
+$(SHARED): $(ARCHIVE) bindings/c/kovrelna.map Makefile
+	@mkdir -p target/shared
+	@$(CC) -shared -Wl,-soname,$(SONAME) -Wl,--version-script=bindings/c/kovrelna.map -Wl,-z,defs,-z,now \
+	-Wl,--whole-archive $(ARCHIVE) -Wl,--no-whole-archive -o $@
+	@ln -sf $(notdir $@) target/shared/$(SONAME)
+	@ln -sf $(SONAME) target/shared/libkovrelna.so
+
+# Header, both libraries and the pkg-config file, below DESTDIR where that is given.
+install: $(SHARED)
+	@install -d "$(DESTDIR)$(INCLUDEDIR)" "$(DESTDIR)$(LIBDIR)/pkgconfig"
+	@install -m 644 bindings/c/kovrelna.h "$(DESTDIR)$(INCLUDEDIR)"
+	@install -m 644 $(ARCHIVE) "$(DESTDIR)$(LIBDIR)"
+	@install -m 755 $(SHARED) "$(DESTDIR)$(LIBDIR)"
+	@ln -sf $(notdir $(SHARED)) "$(DESTDIR)$(LIBDIR)/$(SONAME)"
+	@ln -sf $(SONAME) "$(DESTDIR)$(LIBDIR)/libkovrelna.so"
+	@sed -e 's|@PREFIX@|$(PREFIX)|' -e 's|@LIBDIR@|$(LIBDIR)|' -e 's|@INCLUDEDIR@|$(INCLUDEDIR)|' \
+	-e 's|@VERSION@|$(VERSION)|' bindings/c/kovrelna.pc.in >"$(DESTDIR)$(LIBDIR)/pkgconfig/kovrelna.pc"
+
+uninstall:
+	@rm -f "$(DESTDIR)$(BINDIR)/kovrelna" "$(DESTDIR)$(INCLUDEDIR)/kovrelna.h" "$(DESTDIR)$(LIBDIR)/pkgconfig/kovrelna.pc"
+	@for name in a so $(patsubst libkovrelna.%,%,$(SONAME) $(notdir $(SHARED))); do \
+	rm -f "$(DESTDIR)$(LIBDIR)/libkovrelna.$$name"; done
+
+# The command-line tool, as bindings/rust/target/release/kovrelna.
+cli: lib
+	@$(CARGO) build $(CARGO_FLAGS) --release --package kovrelna-cli
+
+install-cli: cli
+	@install -d "$(DESTDIR)$(BINDIR)"
+	@install -m 755 bindings/rust/target/release/kovrelna "$(DESTDIR)$(BINDIR)"
+
+# Compare the library with the slow reference: make evidence [CASES=n | MINUTES=m] [SEED=s].
+evidence: lib
+	@$(EVIDENCE) $(if $(MINUTES),--minutes $(MINUTES),$(if $(CASES),--cases $(CASES))) $(if $(SEED),--seed $(SEED))
 
 # Reduce the samples of a shipped record.
 example:
@@ -23,18 +76,33 @@ test:
 	@log=$$(mktemp); trap 'rm -f "$$log"' EXIT; \
 	if ! rt ci >"$$log" 2>&1; then cat "$$log"; exit 1; fi; \
 	grep '^rt:' "$$log"; \
-	rt staticlib kovrelna >/dev/null && rt check reduce >/dev/null && make --no-print-directory test-rust test-c && tail -n 1 "$$log"
+	rt staticlib kovrelna >/dev/null && rt check reduce >/dev/null && make --no-print-directory test-rust test-c test-install test-python && tail -n 1 "$$log"
 
 # The Rust tests, which run the program reduce too.
 test-rust:
 	@$(CARGO) test $(CARGO_FLAGS) --workspace --lib --tests
 	@$(CARGO) test $(CARGO_FLAGS) --workspace --doc
+	@$(EVIDENCE) $(GATE_EVIDENCE)
 
-# The C test, also as C++ where there is a compiler for it.
+# The C test, also as C++ and under sanitizers where there are compilers for it.
 test-c:
 	@$(CC) -std=c99 $(C_FLAGS) bindings/c/test.c $(ARCHIVE) -o target/test-c && target/test-c
 	@if command -v $(CXX) >/dev/null; then \
 	$(CXX) -x c++ -std=c++11 $(C_FLAGS) bindings/c/test.c -x none $(ARCHIVE) -o target/test-c++ && target/test-c++; fi
+	@if echo 'int main(void) { return 0; }' | $(CC) $(SANITIZE) -x c - -o target/test-c-sanitized 2>/dev/null; then \
+	$(CC) -std=c99 $(C_FLAGS) $(SANITIZE) bindings/c/test.c $(ARCHIVE) -o target/test-c-sanitized \
+	&& target/test-c-sanitized; else echo "c: no sanitizers here"; fi
+
+# Install into a temporary place; build and run the C example from there.
+test-install: $(SHARED)
+	@CC="$(CC)" bindings/c/test-install.sh $(VERSION)
+
+# The tests of the Python module, and its example.
+test-python: export KOVRELNA_LIBRARY = $(CURDIR)/$(SHARED)
+test-python: export PYTHONPATH = bindings/python
+test-python: $(SHARED)
+	@$(PYTHON) -B -W error -m unittest discover -q -s bindings/python/tests
+	@$(PYTHON) -B bindings/python/example.py | diff bindings/python/example.txt -
 
 # Time the calls beside plain C and compare what the reductions keep; count instructions where valgrind is present.
 bench: lib

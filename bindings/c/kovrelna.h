@@ -1,4 +1,5 @@
-/* Kovrelna: reduced traces. For C and C++; link with libkovrelna.a (x86-64, System V ABI).
+/* Kovrelna: reduced traces. For C and C++; link with libkovrelna.a or libkovrelna.so (x86-64,
+ * System V ABI), as `pkg-config --cflags --libs kovrelna` says once they are installed.
  *
  * Contents, in order: refusals; tolerances; lists; reductions; range codes; records.
  *
@@ -144,11 +145,11 @@ kovrelna_verdict kovrelna_judge(const uint32_t *ticks, size_t ticks_len,
 
 /* ---- Reductions ----
  *
- * Each finds a kept list of the trace with every link valid. The value is the kept number, and the
- * first that many entries of out are the kept list; the entries after them are as they were.
+ * Each finds a kept list of the trace. The value is the kept number, and the first that many entries
+ * of out are the kept list; the entries after them are as they were. The output needs as many
+ * entries as the trace has samples, however many are kept; 10 returns that number.
  *
- * Refusals: 1, 2, 3, 4, 10. The output needs as many entries as the trace has samples, however many
- * are kept; 10 returns that number.
+ * Walk, gallop and minimum find one with every link valid. Refusals: 1, 2, 3, 4, 10.
  *
  * The lists of walk and gallop have at most as many samples as any kept list whose links are all
  * valid at half the tolerance.
@@ -184,6 +185,24 @@ kovrelna_answer kovrelna_minimum(const uint32_t *ticks, size_t ticks_len,
                                  const int16_t *values, size_t values_len,
                                  kovrelna_tolerance tolerance,
                                  uint16_t *out, size_t out_len);
+
+/* number 0: value is the kept number and p/q is the list's error in lowest terms (zero is 0/1).
+ * Otherwise: the refusal's number and value; p and q are 0. */
+typedef struct kovrelna_closest {
+  uint32_t number;
+  uint64_t value;
+  uint64_t p;
+  uint64_t q;
+} kovrelna_closest;
+
+/* The least error over the kept lists of at most `allowance` samples, with the list of
+ * kovrelna_minimum at that error as the tolerance. No kept list of this trace of at most so many
+ * samples has a lesser error. The trace has at most 256 samples. Refusals: 1 (also for more than 256
+ * samples), 2, 3, 5, 10. */
+kovrelna_closest kovrelna_least(const uint32_t *ticks, size_t ticks_len,
+                                const int16_t *values, size_t values_len,
+                                uint64_t allowance,
+                                uint16_t *out, size_t out_len);
 
 /* ---- Range codes ----
  *

@@ -1,110 +1,370 @@
 /* The C interface as a user calls it. Compiles as C and as C++. Prints "c: ok" and returns 0, or
- * says what differs and returns 1. */
+ * says what differs and returns 1.
+ *
+ * Contents, in order: lent lists and where they are placed; the table of calls; cases of each call;
+ * empty lists; the longest trace.
+ *
+ * Each case is called once in every placement of its lists: against a page that cannot be read or
+ * written, between guard bytes, and at exact size on the heap. Where the program is built with
+ * AddressSanitizer, the lists on the heap have its red zones around them.
+ */
+#define _DEFAULT_SOURCE /* mmap */
 #include "kovrelna.h"
 
 #include <math.h>
+#include <signal.h>
 #include <stdio.h>
+#include <stdlib.h>
 #include <string.h>
+#include <sys/mman.h>
+#include <unistd.h>
 
 #define COUNT(array) (sizeof(array) / sizeof((array)[0]))
 
 static int failures = 0;
 
-static void differ(int line, const char *field, uint64_t found, uint64_t expected) {
+/* The call that is tried, and the line of its case. */
+static const char *now_name;
+static int now_line;
+
+static void differ(const char *field, uint64_t found, uint64_t expected) {
   if (found == expected) return;
-  printf("c: line %d: %s is %llu, not %llu\n", line, field, (unsigned long long)found,
-         (unsigned long long)expected);
+  printf("c: line %d, %s: %s: %llu, not %llu\n", now_line, now_name, field,
+         (unsigned long long)found, (unsigned long long)expected);
   failures++;
+}
+
+static void beyond(int signal_number) {
+  (void)signal_number;
+  printf("c: line %d, %s: reads or writes beyond a list, or writes an input\n", now_line, now_name);
+  fflush(stdout);
+  _exit(1);
+}
+
+static void fail(const char *what) {
+  printf("c: %s\n", what);
+  exit(1);
+}
+
+/* ---- Lent lists ---- */
+
+/* Where a list lies. AT_END, AT_START: before or after a page that cannot be read or written; an
+ * empty list points into that page, and an input's own pages cannot be written. GUARDED: between
+ * GUARD bytes before and after. EXACT: in a block of its own size on the heap; an empty list has a
+ * null pointer. */
+enum placement { AT_END, AT_START, GUARDED, EXACT, PLACEMENTS };
+enum { GUARD = 64 };
+
+/* A list as it is lent to a call. */
+struct list {
+  size_t size, len;     /* bytes of an element; elements */
+  const void *content;  /* what an input holds; null for an output, which `lend` fills */
+  const void *written;  /* what the call writes into an output, */
+  size_t at, count;     /* from this byte on, so many bytes */
+  unsigned char *first; /* the first element as lent */
+  unsigned char *block; /* what is allocated for it, */
+  size_t block_size;    /* so many bytes */
+};
+
+static struct list input(const void *content, size_t len, size_t size) {
+  struct list list = {size, len, content, NULL, 0, 0, NULL, NULL, 0};
+  return list;
+}
+
+/* An output that stays as it is. */
+static struct list output(size_t len, size_t size) {
+  struct list list = {size, len, NULL, NULL, 0, 0, NULL, NULL, 0};
+  return list;
+}
+
+/* An output into which the call writes these elements, from the element `at` on. */
+static struct list filled(size_t len, size_t size, const void *written, size_t at, size_t count) {
+  struct list list = {size, len, NULL, written, at * size, count * size, NULL, NULL, 0};
+  return list;
+}
+
+/* The byte at k of an output, or of guard bytes, before a call. */
+static unsigned char filler(enum placement placement, size_t k) {
+  return (unsigned char)(0xA5 + 0x55 * (size_t)placement + 7 * k);
+}
+
+static size_t page(void) { return (size_t)sysconf(_SC_PAGESIZE); }
+
+static void allocate(struct list *list, enum placement placement) {
+  size_t bytes = list->size * list->len;
+  if (placement == EXACT || placement == GUARDED) {
+    size_t guard = placement == GUARDED ? GUARD : 0, k;
+    list->block_size = guard + bytes + guard;
+    list->block = list->block_size == 0 ? NULL : (unsigned char *)malloc(list->block_size);
+    if (list->block_size != 0 && list->block == NULL) fail("no memory");
+    for (k = 0; k < list->block_size; k++) list->block[k] = filler(placement, k);
+    list->first = list->block_size == 0 ? NULL : list->block + guard;
+  } else {
+    size_t pages = (bytes + page() - 1) / page() * page();
+    void *block = mmap(NULL, pages + page(), PROT_READ | PROT_WRITE, MAP_PRIVATE | MAP_ANONYMOUS,
+                       -1, 0);
+    if (block == MAP_FAILED) fail("no memory");
+    list->block = (unsigned char *)block;
+    list->block_size = pages + page();
+    list->first = list->block + (placement == AT_END ? pages - bytes : bytes == 0 ? 0 : page());
+  }
+}
+
+/* Makes the page beside the list, and an input's own pages, as enum placement says. */
+static void protect(const struct list *list, enum placement placement) {
+  size_t pages = list->block_size - page();
+  unsigned char *own = placement == AT_END ? list->block : list->block + page();
+  unsigned char *other = placement == AT_END ? list->block + pages : list->block;
+  if (mprotect(other, page(), PROT_NONE) != 0 ||
+      (list->content != NULL && pages != 0 && mprotect(own, pages, PROT_READ) != 0))
+    fail("no protection");
+}
+
+/* Places the list anew, with its content. */
+static void lend(struct list *list, enum placement placement) {
+  size_t bytes = list->size * list->len, k;
+  allocate(list, placement);
+  for (k = 0; k < bytes; k++)
+    list->first[k] = list->content == NULL ? filler(placement, k)
+                                           : ((const unsigned char *)list->content)[k];
+  if (placement == AT_END || placement == AT_START) protect(list, placement);
+}
+
+/* Checks what the list holds after the call, and frees it. */
+static void take_back(struct list *list, enum placement placement) {
+  const unsigned char *content = (const unsigned char *)list->content,
+                      *written = (const unsigned char *)list->written;
+  size_t bytes = list->size * list->len, changed = 0, k;
+  for (k = 0; k < bytes; k++) {
+    unsigned char expected = content != NULL ? content[k] : filler(placement, k);
+    if (k >= list->at && k < list->at + list->count) expected = written[k - list->at];
+    changed += list->first[k] != expected;
+  }
+  differ(content != NULL ? "bytes of an input changed" : "wrong bytes of an output", changed, 0);
+  if (placement == GUARDED) {
+    for (changed = 0, k = 0; k < GUARD; k++)
+      changed += (list->block[k] != filler(placement, k)) +
+                 (list->block[GUARD + bytes + k] != filler(placement, GUARD + bytes + k));
+    differ("guard bytes changed", changed, 0);
+  }
+  if (placement == EXACT || placement == GUARDED)
+    free(list->block);
+  else
+    munmap(list->block, list->block_size);
+}
+
+/* ---- The calls ---- */
+
+/* The answer of any call; fields that it does not have are 0. */
+struct answer {
+  uint32_t number;
+  uint64_t value, passed, probes, p, q;
+};
+
+static struct answer plain(kovrelna_answer from) {
+  struct answer answer = {from.number, from.value, 0, 0, 0, 0};
+  return answer;
+}
+
+static struct answer verdict(kovrelna_verdict from) {
+  struct answer answer = {from.number, from.value, from.passed, 0, 0, 0};
+  return answer;
+}
+
+#define U8(k) (uint8_t *)lists[k].first, lists[k].len
+#define U16(k) (uint16_t *)(void *)lists[k].first, lists[k].len
+#define I16(k) (int16_t *)(void *)lists[k].first, lists[k].len
+#define U32(k) (uint32_t *)(void *)lists[k].first, lists[k].len
+
+static struct answer call_judge(const struct list *lists, kovrelna_tolerance tolerance,
+                                size_t place) {
+  (void)place;
+  return verdict(kovrelna_judge(U32(0), I16(1), U16(2), tolerance));
+}
+
+static struct answer call_walk(const struct list *lists, kovrelna_tolerance tolerance,
+                               size_t place) {
+  (void)place;
+  return plain(kovrelna_walk(U32(0), I16(1), tolerance, U16(2)));
+}
+
+static struct answer call_gallop(const struct list *lists, kovrelna_tolerance tolerance,
+                                 size_t place) {
+  kovrelna_galloped from = kovrelna_gallop(U32(0), I16(1), tolerance, U16(2));
+  struct answer answer = {from.number, from.value, 0, from.probes, 0, 0};
+  (void)place;
+  return answer;
+}
+
+static struct answer call_minimum(const struct list *lists, kovrelna_tolerance tolerance,
+                                  size_t place) {
+  (void)place;
+  return plain(kovrelna_minimum(U32(0), I16(1), tolerance, U16(2)));
+}
+
+static struct answer call_least(const struct list *lists, kovrelna_tolerance tolerance,
+                                size_t allowance) {
+  kovrelna_closest from = kovrelna_least(U32(0), I16(1), allowance, U16(2));
+  struct answer answer = {from.number, from.value, 0, 0, from.p, from.q};
+  (void)tolerance;
+  return answer;
+}
+
+static struct answer call_expand(const struct list *lists, kovrelna_tolerance tolerance,
+                                 size_t place) {
+  (void)tolerance, (void)place;
+  return plain(kovrelna_expand(U8(0), I16(1)));
+}
+
+static struct answer call_write(const struct list *lists, kovrelna_tolerance tolerance,
+                                size_t place) {
+  return plain(kovrelna_write(U32(0), I16(1), U16(2), tolerance, U8(3), place));
+}
+
+static struct answer call_read(const struct list *lists, kovrelna_tolerance tolerance,
+                               size_t place) {
+  kovrelna_content from = kovrelna_read(U8(0), U32(1), I16(2));
+  struct answer answer = {from.number, from.value, 0, 0, from.p, from.q};
+  (void)tolerance, (void)place;
+  return answer;
+}
+
+static struct answer call_same(const struct list *lists, kovrelna_tolerance tolerance,
+                               size_t place) {
+  (void)tolerance, (void)place;
+  return verdict(kovrelna_same(U8(0), U8(1)));
+}
+
+/* Document 01's fifth and sixth figures: a trace, its list and their record at tolerance 2/3. */
+static const uint32_t uneven[] = {0, 1, 3};
+static const int16_t step[] = {0, 1, 1};
+static const uint16_t pair[] = {0, 2};
+static const uint8_t figure[] = {0x54, 0, 0, 0, 0, 2, 0, 0, 3, 0x41, 0, 0, 0, 0, 0, 0, 0x53, 3, 1,
+                                 0x45, 0, 2};
+/* The samples of that record. */
+static const uint32_t kept_ticks[] = {0, 3};
+static const int16_t kept_values[] = {0, 1};
+/* The codes of the seventh figure, and their values. */
+static const uint8_t some_codes[] = {31, 32, 63, 64, 255};
+static const int16_t code_values[] = {31, 32, 94, 96, 8032};
+
+/* A list of a call: bytes of an element, elements, the content of an input, what is written into an
+ * output. The last two: the refusal where the list is empty, and its value. */
+struct parameter {
+  size_t size, len;
+  const void *content, *written;
+  size_t count;
+  uint32_t number;
+  uint64_t value;
+};
+
+#define IN(list, number, value)                                                                    \
+  { sizeof((list)[0]), COUNT(list), list, NULL, 0, number, value }
+#define OUT(len, list, number, value)                                                              \
+  { sizeof((list)[0]), len, NULL, list, COUNT(list), number, value }
+
+/* Every call that is lent lists, as it is made on the figures at tolerance 4/6, place 0 and
+ * allowance 2, and its answer. */
+enum { JUDGE_CALL, WALK, GALLOP, MINIMUM, LEAST, EXPAND, WRITE_CALL, READ_CALL, SAME_CALL };
+enum { LISTS = 4 };
+static const struct call {
+  const char *name;
+  struct answer (*make)(const struct list *, kovrelna_tolerance, size_t);
+  size_t lists;
+  struct parameter parameters[LISTS];
+  struct answer answer;
+} calls[] = {
+    {"judge", call_judge, 3,
+     {IN(uneven, 1, 0), IN(step, 1, 0), IN(pair, 6, 0)},
+     {0, 0, 1, 0, 0, 0}},
+    {"walk", call_walk, 3,
+     {IN(uneven, 1, 0), IN(step, 1, 0), OUT(3, pair, 10, 3)},
+     {0, 2, 0, 0, 0, 0}},
+    {"gallop", call_gallop, 3,
+     {IN(uneven, 1, 0), IN(step, 1, 0), OUT(3, pair, 10, 3)},
+     {0, 2, 0, 3, 0, 0}},
+    {"minimum", call_minimum, 3,
+     {IN(uneven, 1, 0), IN(step, 1, 0), OUT(3, pair, 10, 3)},
+     {0, 2, 0, 0, 0, 0}},
+    {"least", call_least, 3,
+     {IN(uneven, 1, 0), IN(step, 1, 0), OUT(3, pair, 10, 3)},
+     {0, 2, 0, 0, 2, 3}},
+    {"expand", call_expand, 2,
+     {IN(some_codes, 1, 0), OUT(5, code_values, 10, 5)},
+     {0, 5, 0, 0, 0, 0}},
+    {"write", call_write, 4,
+     {IN(uneven, 1, 0), IN(step, 1, 0), IN(pair, 6, 0),
+      OUT(22, figure, 10, 22)},
+     {0, 22, 0, 0, 0, 0}},
+    {"read", call_read, 3,
+     {IN(figure, 8, 0), OUT(2, kept_ticks, 10, 2), OUT(2, kept_values, 10, 2)},
+     {0, 2, 0, 0, 2, 3}},
+    {"same", call_same, 2, {IN(figure, 8, 0), IN(figure, 9, 0)}, {0, 0, 1, 0, 0, 0}},
+};
+
+/* Makes the call in every placement, with this place or allowance: it answers so, and the lists
+ * then hold what they are to. */
+static void run(int line, int which, struct list *lists, kovrelna_tolerance tolerance,
+                size_t number, struct answer expected) {
+  const struct call *call = &calls[which];
+  int placement;
+  now_name = call->name;
+  now_line = line;
+  for (placement = 0; placement < PLACEMENTS; placement++) {
+    struct answer answer;
+    size_t k;
+    for (k = 0; k < call->lists; k++) lend(&lists[k], (enum placement)placement);
+    answer = call->make(lists, tolerance, number);
+    differ("number", answer.number, expected.number);
+    differ("value", answer.value, expected.value);
+    differ("passed", answer.passed, expected.passed);
+    differ("probes", answer.probes, expected.probes);
+    differ("p", answer.p, expected.p);
+    differ("q", answer.q, expected.q);
+    for (k = 0; k < call->lists; k++) take_back(&lists[k], (enum placement)placement);
+  }
 }
 
 /* hold answers with this number, p and q; the value is always 0. */
 static void hold(int line, kovrelna_tolerance tolerance, uint32_t number, uint64_t p, uint64_t q) {
   kovrelna_held answer = kovrelna_hold(tolerance);
-  differ(line, "number", answer.number, number);
-  differ(line, "value", answer.value, 0);
-  differ(line, "p", answer.p, p);
-  differ(line, "q", answer.q, q);
+  now_name = "hold";
+  now_line = line;
+  differ("number", answer.number, number);
+  differ("value", answer.value, 0);
+  differ("p", answer.p, p);
+  differ("q", answer.q, q);
 }
 
 #define HOLD(tolerance, number, p, q) hold(__LINE__, tolerance, number, p, q)
 
-/* A lent list may hold this many bytes here. As many entries as GUARD beside an output stay as they
- * are. */
-enum { ROOM = 64, GUARD = 2 };
-
-static void keep(unsigned char *copy, const void *list, size_t bytes) {
-  if (bytes != 0) memcpy(copy, list, bytes);
-}
-
-static void unchanged(int line, const char *name, const unsigned char *copy, const void *list,
-                      size_t bytes) {
-  if (bytes != 0) differ(line, name, memcmp(copy, list, bytes) != 0, 0);
-}
-
-/* judge answers with this number, passed and value, and changes no list. */
 static void judge(int line, const uint32_t *ticks, size_t ticks_len, const int16_t *values,
                   size_t values_len, const uint16_t *list, size_t list_len,
                   kovrelna_tolerance tolerance, uint32_t number, uint32_t passed, uint64_t value) {
-  unsigned char ticks_copy[ROOM], values_copy[ROOM], list_copy[ROOM];
-  size_t ticks_size = ticks_len * sizeof(uint32_t), values_size = values_len * sizeof(int16_t),
-         list_size = list_len * sizeof(uint16_t);
-  kovrelna_verdict answer;
-  keep(ticks_copy, ticks, ticks_size);
-  keep(values_copy, values, values_size);
-  keep(list_copy, list, list_size);
-  answer = kovrelna_judge(ticks, ticks_len, values, values_len, list, list_len, tolerance);
-  differ(line, "number", answer.number, number);
-  differ(line, "passed", answer.passed, passed);
-  differ(line, "value", answer.value, value);
-  unchanged(line, "change of ticks", ticks_copy, ticks, ticks_size);
-  unchanged(line, "change of values", values_copy, values, values_size);
-  unchanged(line, "change of the list", list_copy, list, list_size);
+  struct answer expected = {number, value, passed, 0, 0, 0};
+  struct list lists[3];
+  lists[0] = input(ticks, ticks_len, sizeof(uint32_t));
+  lists[1] = input(values, values_len, sizeof(int16_t));
+  lists[2] = input(list, list_len, sizeof(uint16_t));
+  run(line, JUDGE_CALL, lists, tolerance, 0, expected);
 }
 
 #define JUDGE(ticks, values, list, tolerance, number, passed, value)                              \
   judge(__LINE__, ticks, COUNT(ticks), values, COUNT(values), list, COUNT(list), tolerance,       \
         number, passed, value)
 
-enum method { WALK, GALLOP, MINIMUM };
-
-/* The method's answer in one shape: only gallop counts probes. */
-static kovrelna_galloped call(enum method method, const uint32_t *ticks, size_t ticks_len,
-                              const int16_t *values, size_t values_len,
-                              kovrelna_tolerance tolerance, uint16_t *out, size_t out_len) {
-  kovrelna_galloped answer = {0, 0, 0};
-  kovrelna_answer kept;
-  if (method == GALLOP)
-    return kovrelna_gallop(ticks, ticks_len, values, values_len, tolerance, out, out_len);
-  kept = (method == WALK ? kovrelna_walk : kovrelna_minimum)(ticks, ticks_len, values, values_len,
-                                                             tolerance, out, out_len);
-  answer.number = kept.number;
-  answer.value = kept.value;
-  return answer;
-}
-
-/* The method answers with this number, value and probes; with number 0 the output then begins with
- * the list, which has `value` entries. No other entry changes, in the output or beside it. An empty
- * output has no pointer. */
-static void reduce(int line, enum method method, const uint32_t *ticks, size_t ticks_len,
+/* With number 0 the method writes the list, which has `value` entries. */
+static void reduce(int line, int method, const uint32_t *ticks, size_t ticks_len,
                    const int16_t *values, size_t values_len, kovrelna_tolerance tolerance,
                    size_t out_len, uint32_t number, uint64_t value, uint64_t probes,
                    const uint16_t *list) {
-  unsigned char ticks_copy[ROOM], values_copy[ROOM];
-  uint16_t out[16], expected[COUNT(out)];
-  size_t ticks_size = ticks_len * sizeof(uint32_t), values_size = values_len * sizeof(int16_t), k;
-  kovrelna_galloped answer;
-  keep(ticks_copy, ticks, ticks_size);
-  keep(values_copy, values, values_size);
-  for (k = 0; k < COUNT(out); k++) out[k] = expected[k] = (uint16_t)(60000 + k);
-  if (number == 0) memcpy(expected + GUARD, list, (size_t)value * sizeof(uint16_t));
-  answer = call(method, ticks, ticks_len, values, values_len, tolerance,
-                out_len == 0 ? NULL : out + GUARD, out_len);
-  differ(line, "number", answer.number, number);
-  differ(line, "value", answer.value, value);
-  differ(line, "probes", answer.probes, probes);
-  for (k = 0; k < COUNT(out); k++) differ(line, "an entry", out[k], expected[k]);
-  unchanged(line, "change of ticks", ticks_copy, ticks, ticks_size);
-  unchanged(line, "change of values", values_copy, values, values_size);
+  struct answer expected = {number, value, 0, probes, 0, 0};
+  struct list lists[3];
+  lists[0] = input(ticks, ticks_len, sizeof(uint32_t));
+  lists[1] = input(values, values_len, sizeof(int16_t));
+  lists[2] = number != 0 ? output(out_len, sizeof(uint16_t))
+                         : filled(out_len, sizeof(uint16_t), list, 0, (size_t)value);
+  run(line, method, lists, tolerance, 0, expected);
 }
 
 #define REDUCE(method, ticks, values, tolerance, out_len, probes, list)                           \
@@ -115,79 +375,78 @@ static void reduce(int line, enum method method, const uint32_t *ticks, size_t t
 static void refuse(int line, const uint32_t *ticks, size_t ticks_len, const int16_t *values,
                    size_t values_len, kovrelna_tolerance tolerance, size_t out_len,
                    uint32_t number, uint64_t value) {
-  const enum method methods[] = {WALK, GALLOP, MINIMUM};
-  size_t m;
-  for (m = 0; m < COUNT(methods); m++)
-    reduce(line, methods[m], ticks, ticks_len, values, values_len, tolerance, out_len, number,
-           value, 0, NULL);
+  int method;
+  for (method = WALK; method <= MINIMUM; method++)
+    reduce(line, method, ticks, ticks_len, values, values_len, tolerance, out_len, number, value, 0,
+           NULL);
 }
 
 #define REFUSE(ticks, values, tolerance, out_len, number, value)                                  \
   refuse(__LINE__, ticks, COUNT(ticks), values, COUNT(values), tolerance, out_len, number, value)
 
-/* expand answers with this number and value; with number 0 the output then begins with the values.
- * No other entry changes, in the output or beside it. An empty output has no pointer. */
-static void expand(int line, const uint8_t *codes, size_t codes_len, size_t out_len,
-                   uint32_t number, uint64_t value, const int16_t *values) {
-  int16_t out[GUARD + ROOM + GUARD], expected[COUNT(out)];
-  kovrelna_answer answer;
-  size_t k;
-  for (k = 0; k < COUNT(out); k++) out[k] = expected[k] = (int16_t)(-100 - (int)k);
-  if (number == 0) memcpy(expected + GUARD, values, (size_t)value * sizeof(int16_t));
-  answer = kovrelna_expand(codes, codes_len, out_len == 0 ? NULL : out + GUARD, out_len);
-  differ(line, "number", answer.number, number);
-  differ(line, "value", answer.value, value);
-  differ(line, "change of the output", memcmp(out, expected, sizeof(out)) != 0, 0);
+/* With number 0 least writes the list, which has `value` entries. */
+static void least(int line, const uint32_t *ticks, size_t ticks_len, const int16_t *values,
+                  size_t values_len, size_t allowance, size_t out_len, uint32_t number,
+                  uint64_t value, uint64_t p, uint64_t q, const uint16_t *list) {
+  struct answer expected = {number, value, 0, 0, p, q};
+  struct list lists[3];
+  lists[0] = input(ticks, ticks_len, sizeof(uint32_t));
+  lists[1] = input(values, values_len, sizeof(int16_t));
+  lists[2] = number != 0 ? output(out_len, sizeof(uint16_t))
+                         : filled(out_len, sizeof(uint16_t), list, 0, (size_t)value);
+  run(line, LEAST, lists, kovrelna_ratio(0, 0), allowance, expected);
 }
 
-/* write answers with this number and value; with number 0 the record is then at the place. No other
- * byte changes, in the buffer or beside it. An empty buffer has no pointer. */
+/* A kept list of this error. */
+#define CLOSEST(ticks, values, allowance, out_len, p, q, list)                                    \
+  least(__LINE__, ticks, COUNT(ticks), values, COUNT(values), allowance, out_len, 0, COUNT(list), \
+        p, q, list)
+
+/* A refusal. */
+#define NO_CLOSEST(ticks, values, allowance, out_len, number, value)                              \
+  least(__LINE__, ticks, COUNT(ticks), values, COUNT(values), allowance, out_len, number, value,  \
+        0, 0, NULL)
+
+/* With number 0 expand writes these values, `value` of them. */
+static void expand(int line, const uint8_t *codes, size_t codes_len, size_t out_len,
+                   uint32_t number, uint64_t value, const int16_t *values) {
+  struct answer expected = {number, value, 0, 0, 0, 0};
+  struct list lists[2];
+  lists[0] = input(codes, codes_len, 1);
+  lists[1] = number != 0 ? output(out_len, sizeof(int16_t))
+                         : filled(out_len, sizeof(int16_t), values, 0, (size_t)value);
+  run(line, EXPAND, lists, kovrelna_ratio(0, 0), 0, expected);
+}
+
+/* With number 0 the record is then at the place. */
 static void write_record(int line, const uint32_t *ticks, size_t ticks_len, const int16_t *values,
                          size_t values_len, const uint16_t *list, size_t list_len,
                          kovrelna_tolerance tolerance, size_t size, size_t place, uint32_t number,
                          uint64_t value, const uint8_t *record) {
-  uint8_t buffer[GUARD + ROOM + GUARD], expected[sizeof(buffer)];
-  kovrelna_answer answer;
-  size_t k;
-  for (k = 0; k < sizeof(buffer); k++) buffer[k] = expected[k] = (uint8_t)(0xA5 ^ k);
-  if (number == 0) memcpy(expected + GUARD + place, record, (size_t)value);
-  answer = kovrelna_write(ticks, ticks_len, values, values_len, list, list_len, tolerance,
-                          size == 0 ? NULL : buffer + GUARD, size, place);
-  differ(line, "number", answer.number, number);
-  differ(line, "value", answer.value, value);
-  differ(line, "change of the buffer", memcmp(buffer, expected, sizeof(buffer)) != 0, 0);
+  struct answer expected = {number, value, 0, 0, 0, 0};
+  struct list lists[4];
+  lists[0] = input(ticks, ticks_len, sizeof(uint32_t));
+  lists[1] = input(values, values_len, sizeof(int16_t));
+  lists[2] = input(list, list_len, sizeof(uint16_t));
+  lists[3] = number != 0 ? output(size, 1) : filled(size, 1, record, place, (size_t)value);
+  run(line, WRITE_CALL, lists, tolerance, place, expected);
 }
 
 #define WRITE(ticks, values, list, tolerance, size, place, number, value, record)                 \
   write_record(__LINE__, ticks, COUNT(ticks), values, COUNT(values), list, COUNT(list),           \
                tolerance, size, place, number, value, record)
 
-/* read answers with this number and value, and with number 0 with p and q; the outputs then begin
- * with the samples. No other entry changes, in the outputs or beside them. An empty output has no
- * pointer. */
+/* With number 0 the outputs then begin with the samples, `value` of them. */
 static void read_record(int line, const uint8_t *record, size_t record_len, size_t ticks_len,
                         size_t values_len, uint32_t number, uint64_t value, uint64_t p, uint64_t q,
                         const uint32_t *ticks, const int16_t *values) {
-  uint32_t t[GUARD + ROOM + GUARD], expected_t[COUNT(t)];
-  int16_t v[COUNT(t)], expected_v[COUNT(t)];
-  kovrelna_content answer;
-  size_t k;
-  for (k = 0; k < COUNT(t); k++) {
-    t[k] = expected_t[k] = (uint32_t)(0xF0000000u + k);
-    v[k] = expected_v[k] = (int16_t)(-100 - (int)k);
-  }
-  if (number == 0) {
-    memcpy(expected_t + GUARD, ticks, (size_t)value * sizeof(uint32_t));
-    memcpy(expected_v + GUARD, values, (size_t)value * sizeof(int16_t));
-  }
-  answer = kovrelna_read(record, record_len, ticks_len == 0 ? NULL : t + GUARD, ticks_len,
-                         values_len == 0 ? NULL : v + GUARD, values_len);
-  differ(line, "number", answer.number, number);
-  differ(line, "value", answer.value, value);
-  differ(line, "p", answer.p, p);
-  differ(line, "q", answer.q, q);
-  differ(line, "change of ticks", memcmp(t, expected_t, sizeof(t)) != 0, 0);
-  differ(line, "change of values", memcmp(v, expected_v, sizeof(v)) != 0, 0);
+  struct answer expected = {number, value, 0, 0, p, q};
+  size_t count = number != 0 ? 0 : (size_t)value;
+  struct list lists[3];
+  lists[0] = input(record, record_len, 1);
+  lists[1] = filled(ticks_len, sizeof(uint32_t), ticks, 0, count);
+  lists[2] = filled(values_len, sizeof(int16_t), values, 0, count);
+  run(line, READ_CALL, lists, kovrelna_ratio(0, 0), 0, expected);
 }
 
 /* The first `length` bytes are refused as 8 with this byte, with outputs and without. */
@@ -198,17 +457,35 @@ static void faulty(int line, const uint8_t *record, size_t length, uint64_t byte
 
 #define FAULTY(record, length, byte) faulty(__LINE__, record, length, byte)
 
-/* same answers with this number, passed and value. */
 static void same(int line, const uint8_t *first, size_t first_len, const uint8_t *second,
                  size_t second_len, uint32_t number, uint32_t passed, uint64_t value) {
-  kovrelna_verdict answer = kovrelna_same(first, first_len, second, second_len);
-  differ(line, "number", answer.number, number);
-  differ(line, "passed", answer.passed, passed);
-  differ(line, "value", answer.value, value);
+  struct answer expected = {number, value, passed, 0, 0, 0};
+  struct list lists[2];
+  lists[0] = input(first, first_len, 1);
+  lists[1] = input(second, second_len, 1);
+  run(line, SAME_CALL, lists, kovrelna_ratio(0, 0), 0, expected);
 }
 
 #define SAME(first, first_len, second, second_len, number, passed, value)                         \
   same(__LINE__, first, first_len, second, second_len, number, passed, value)
+
+/* The record is cut off after each of its bytes: the fault is at the command that is cut, or at the
+ * end where one is missing. `commands` has the first byte of each. */
+static void cut(int line, const uint8_t *record, size_t record_len, const size_t *commands,
+                size_t commands_len) {
+  size_t length, k = 0;
+  for (length = 0; length < record_len; length++) {
+    if (k + 1 < commands_len && commands[k + 1] == length) k++;
+    faulty(line, record, length, commands[k]);
+    same(line, record, length, record, record_len, KOVRELNA_REFUSED_RECORD, 0, commands[k]);
+    same(line, record, record_len, record, length, KOVRELNA_REFUSED_SECOND_RECORD, 0, commands[k]);
+  }
+}
+
+#define CUT(record, commands)                                                                     \
+  cut(__LINE__, record, COUNT(record), commands, COUNT(commands))
+
+/* ---- Cases ---- */
 
 static void tolerances(void) {
   kovrelna_tolerance other = {3, 1, 1, 1.0, 1.0};
@@ -251,10 +528,10 @@ static void tolerances(void) {
 }
 
 static void lists(void) {
-  const uint32_t even[] = {0, 1, 2, 3, 4}, uneven[] = {0, 1, 3};
-  const int16_t zigzag[] = {0, 3, 0, 3, 0}, wave[] = {0, 2, 0, -2, 0}, step[] = {0, 1, 1};
+  const uint32_t even[] = {0, 1, 2, 3, 4};
+  const int16_t zigzag[] = {0, 3, 0, 3, 0}, wave[] = {0, 2, 0, -2, 0};
   const uint16_t all[] = {0, 1, 2, 3, 4}, ends[] = {0, 4}, late[] = {0, 3, 4}, middle[] = {0, 2, 4},
-                 early[] = {0, 1, 4}, three[] = {0, 1, 2, 4}, pair[] = {0, 2};
+                 early[] = {0, 1, 4}, three[] = {0, 1, 2, 4};
 
   JUDGE(even, zigzag, all, kovrelna_ratio(0, 1), 0, 1, 0);
   JUDGE(even, zigzag, late, kovrelna_ratio(2, 1), 0, 1, 0);
@@ -271,13 +548,11 @@ static void lists(void) {
 }
 
 static void reductions(void) {
-  const uint32_t even[] = {0, 1, 2, 3, 4}, uneven[] = {0, 1, 3},
-                 nine[] = {0, 1, 2, 3, 4, 5, 6, 7, 8};
+  const uint32_t even[] = {0, 1, 2, 3, 4}, nine[] = {0, 1, 2, 3, 4, 5, 6, 7, 8};
   const int16_t zigzag[] = {0, 3, 0, 3, 0}, wave[] = {0, 2, 0, -2, 0}, bend[] = {0, 0, 0, 5, 10},
-                step[] = {0, 1, 1}, longer[] = {0, 3, 0, 3, 0, 3, 0, 3, 0};
+                longer[] = {0, 3, 0, 3, 0, 3, 0, 3, 0};
   const uint16_t all[] = {0, 1, 2, 3, 4}, ends[] = {0, 4}, late[] = {0, 3, 4}, middle[] = {0, 2, 4},
-                 pair[] = {0, 2}, three[] = {0, 1, 2}, two[] = {0, 1}, one[] = {0},
-                 latest[] = {0, 3, 6, 7, 8};
+                 three[] = {0, 1, 2}, two[] = {0, 1}, one[] = {0}, latest[] = {0, 3, 6, 7, 8};
   size_t out_len;
 
   /* The output is as long as the trace, or longer. */
@@ -334,11 +609,6 @@ static void refusals(void) {
   JUDGE(even, flat, outside, zero, KOVRELNA_REFUSED_LIST, 0, 2);
   JUDGE(even, flat, brief, zero, KOVRELNA_REFUSED_LIST, 0, 3);
 
-  /* Empty lists without a pointer. */
-  judge(__LINE__, NULL, 0, NULL, 0, NULL, 0, zero, KOVRELNA_REFUSED_LENGTH, 0, 0);
-  judge(__LINE__, NULL, 0, flat, 5, ends, 2, zero, KOVRELNA_REFUSED_LENGTH, 0, 0);
-  judge(__LINE__, even, 5, NULL, 0, ends, 2, zero, KOVRELNA_REFUSED_LENGTH, 0, 0);
-  judge(__LINE__, even, 5, flat, 5, NULL, 0, zero, KOVRELNA_REFUSED_LIST, 0, 0);
   /* One sample: its list is the sample itself. */
   judge(__LINE__, even, 1, flat, 1, ends, 1, zero, 0, 1, 0);
 
@@ -353,18 +623,49 @@ static void refusals(void) {
   REFUSE(even, flat, none, 5, KOVRELNA_REFUSED_TOLERANCE, 0);
   REFUSE(even, flat, zero, 0, KOVRELNA_REFUSED_ROOM, 5);
   REFUSE(even, flat, zero, 4, KOVRELNA_REFUSED_ROOM, 5);
-  refuse(__LINE__, NULL, 0, NULL, 0, zero, 5, KOVRELNA_REFUSED_LENGTH, 0);
+}
+
+static void least_errors(void) {
+  const uint32_t even[] = {0, 1, 2, 3, 4}, beyond_span[] = {0, 1048576}, equal[] = {5, 5};
+  const int16_t zigzag[] = {0, 3, 0, 3, 0}, two[] = {0, 0};
+  const uint16_t all[] = {0, 1, 2, 3, 4}, ends[] = {0, 4}, late[] = {0, 3, 4}, one[] = {0},
+                 both[] = {0, 255};
+  static uint32_t ticks[257];
+  static const int16_t flat[257] = {0};
+  size_t k;
+  for (k = 0; k < COUNT(ticks); k++) ticks[k] = (uint32_t)k;
+
+  for (k = 5; k <= 9; k++) {
+    CLOSEST(even, zigzag, 2, k, 3, 1, ends);
+    CLOSEST(even, zigzag, 3, k, 2, 1, late);
+    CLOSEST(even, zigzag, 4, k, 2, 1, late);
+    CLOSEST(even, zigzag, 5, k, 0, 1, all);
+    CLOSEST(even, zigzag, 4096, k, 0, 1, all);
+  }
+  CLOSEST(uneven, step, 2, 3, 2, 3, pair);
+  least(__LINE__, even, 1, zigzag, 1, 2, 1, 0, 1, 0, 1, one);
+  least(__LINE__, ticks, 256, flat, 256, 2, 256, 0, 2, 0, 1, both);
+
+  NO_CLOSEST(ticks, flat, 0, 0, KOVRELNA_REFUSED_LENGTH, 0);
+  NO_CLOSEST(ticks, flat, 2, 257, KOVRELNA_REFUSED_LENGTH, 0);
+  NO_CLOSEST(even, two, 0, 5, KOVRELNA_REFUSED_LENGTH, 0);
+  NO_CLOSEST(equal, two, 0, 0, KOVRELNA_REFUSED_TICK, 1);
+  NO_CLOSEST(beyond_span, two, 0, 0, KOVRELNA_REFUSED_SPAN, 1);
+  NO_CLOSEST(even, zigzag, 0, 0, KOVRELNA_REFUSED_ALLOWANCE, 0);
+  NO_CLOSEST(even, zigzag, 1, 5, KOVRELNA_REFUSED_ALLOWANCE, 0);
+  NO_CLOSEST(even, zigzag, 4097, 5, KOVRELNA_REFUSED_ALLOWANCE, 0);
+  NO_CLOSEST(even, zigzag, SIZE_MAX, 5, KOVRELNA_REFUSED_ALLOWANCE, 0);
+  NO_CLOSEST(even, zigzag, 2, 4, KOVRELNA_REFUSED_ROOM, 5);
 }
 
 static void codes(void) {
-  const uint8_t some[] = {31, 32, 63, 64, 255};
-  const int16_t values[] = {31, 32, 94, 96, 8032};
   static const uint8_t many[4097] = {0};
-  static int16_t zeros[4097];
+  static const int16_t zeros[4096] = {0};
   uint8_t code;
   int e, m;
 
-  for (e = 5; e <= 9; e++) expand(__LINE__, some, 5, (size_t)e, 0, 5, values);
+  for (e = 5; e <= 9; e++)
+    expand(__LINE__, some_codes, 5, (size_t)e, 0, 5, code_values);
   for (e = 0; e < 8; e++) {
     for (m = 0; m < 32; m++) {
       int16_t value = (int16_t)((m + 32) * (1 << e) - 32);
@@ -372,25 +673,16 @@ static void codes(void) {
       expand(__LINE__, &code, 1, 1, 0, 1, &value);
     }
   }
-  differ(__LINE__, "value", kovrelna_expand(many, 4096, zeros, 4096).value, 4096);
-  differ(__LINE__, "number", kovrelna_expand(many, 4097, zeros, 4097).number,
-         KOVRELNA_REFUSED_LENGTH);
-  expand(__LINE__, NULL, 0, 5, KOVRELNA_REFUSED_LENGTH, 0, NULL);
-  expand(__LINE__, NULL, 0, 0, KOVRELNA_REFUSED_LENGTH, 0, NULL);
+  expand(__LINE__, many, 4096, 4096, 0, 4096, zeros);
+  expand(__LINE__, many, 4097, 4097, KOVRELNA_REFUSED_LENGTH, 0, NULL);
   expand(__LINE__, many, 4097, 0, KOVRELNA_REFUSED_LENGTH, 0, NULL);
-  expand(__LINE__, some, 5, 4, KOVRELNA_REFUSED_ROOM, 5, NULL);
-  expand(__LINE__, some, 5, 0, KOVRELNA_REFUSED_ROOM, 5, NULL);
+  expand(__LINE__, some_codes, 5, 4, KOVRELNA_REFUSED_ROOM, 5, NULL);
 }
 
 static void records(void) {
-  const uint32_t uneven[] = {0, 1, 3}, kept[] = {0, 3}, far[] = {0, 255, 510, 766, 767},
-                 high[] = {UINT32_MAX - 1, UINT32_MAX};
-  const int16_t step[] = {0, 1, 1}, ends[] = {0, 1}, changes[] = {0, 127, -1, -1, 127},
-                low[] = {-32768, 32767};
-  const uint16_t pair[] = {0, 2}, all[] = {0, 1, 2, 3, 4}, both[] = {0, 1}, one[] = {0};
-  /* Ticks 0 1 3, values 0 1 1, list 0 2, tolerance 2/3. */
-  const uint8_t figure[] = {0x54, 0, 0, 0, 0, 2, 0, 0, 3, 0x41, 0, 0, 0, 0, 0, 0, 0x53, 3, 1,
-                            0x45, 0, 2};
+  const uint32_t far[] = {0, 255, 510, 766, 767}, high[] = {UINT32_MAX - 1, UINT32_MAX};
+  const int16_t changes[] = {0, 127, -1, -1, 127}, low[] = {-32768, 32767};
+  const uint16_t all[] = {0, 1, 2, 3, 4}, both[] = {0, 1}, one[] = {0};
   /* Short steps 255/+127 and 255/-128, long steps 256/0 and 1/+128. */
   const uint8_t steps[] = {0x54, 0, 0, 0, 0, 0, 0, 0, 1, 0x41, 0, 0, 0, 0, 0, 0, 0x53, 255, 127,
                            0x53, 255, 0x80, 0x4C, 0, 1, 0, 0xFF, 0xFF, 0x4C, 0, 0, 1, 0, 0x7F,
@@ -399,6 +691,8 @@ static void records(void) {
   const uint8_t wide[] = {0x54, 0x0F, 0xFF, 0xEF, 0, 0, 0x0F, 0xFF, 0xFF, 0x41, 0xFF, 0xFF, 0xFF,
                           0xFE, 0x80, 0, 0x4C, 0, 0, 1, 0x7F, 0xFF, 0x45, 0, 2};
   const uint8_t single[] = {0x54, 0, 0, 0, 0, 0, 0, 0, 1, 0x41, 0, 0, 0, 0, 0, 0, 0x45, 0, 1};
+  const size_t figure_commands[] = {0, 9, 16, 19}, steps_commands[] = {0, 9, 16, 19, 22, 28, 34},
+               wide_commands[] = {0, 9, 16, 22}, single_commands[] = {0, 9, 16};
   kovrelna_tolerance two_thirds = kovrelna_ratio(4, 6), zero = kovrelna_ratio(0, 1),
                      widest = kovrelna_ratio(UINT64_C(0xFFFEF0000), 1048575);
   uint8_t changed[64];
@@ -420,30 +714,25 @@ static void records(void) {
   WRITE(high, low, both, widest, 25, 0, 0, 25, wide);
   write_record(__LINE__, uneven, 1, step, 1, one, 1, zero, 19, 0, 0, 19, single);
 
-  WRITE(uneven, ends, pair, zero, 0, 0, KOVRELNA_REFUSED_LENGTH, 0, NULL);
+  WRITE(uneven, kept_values, pair, zero, 0, 0, KOVRELNA_REFUSED_LENGTH, 0, NULL);
   WRITE(uneven, step, pair, kovrelna_ratio(0, 0), 0, 0, KOVRELNA_REFUSED_TOLERANCE, 0, NULL);
   WRITE(uneven, step, both, zero, 0, 0, KOVRELNA_REFUSED_LIST, 2, NULL);
   WRITE(uneven, step, pair, kovrelna_ratio(665, 1000), 0, 0, KOVRELNA_REFUSED_LINK, 0, NULL);
   WRITE(uneven, step, pair, kovrelna_ratio(665, 1000), 22, 0, KOVRELNA_REFUSED_LINK, 0, NULL);
 
-  read_record(__LINE__, figure, 22, 2, 2, 0, 2, 2, 3, kept, ends);
-  read_record(__LINE__, figure, 22, 9, 4, 0, 2, 2, 3, kept, ends);
+  read_record(__LINE__, figure, 22, 2, 2, 0, 2, 2, 3, kept_ticks, kept_values);
+  read_record(__LINE__, figure, 22, 9, 4, 0, 2, 2, 3, kept_ticks, kept_values);
   read_record(__LINE__, steps, 37, 5, 6, 0, 5, 0, 1, far, changes);
   read_record(__LINE__, wide, 25, 2, 2, 0, 2, UINT64_C(0xFFFEF0000), 1048575, high, low);
-  read_record(__LINE__, single, 19, 1, 1, 0, 1, 0, 1, kept, ends);
+  read_record(__LINE__, single, 19, 1, 1, 0, 1, 0, 1, kept_ticks, kept_values);
   read_record(__LINE__, figure, 22, 1, 2, KOVRELNA_REFUSED_ROOM, 2, 0, 0, NULL, NULL);
   read_record(__LINE__, figure, 22, 2, 1, KOVRELNA_REFUSED_ROOM, 2, 0, 0, NULL, NULL);
   read_record(__LINE__, figure, 22, 0, 0, KOVRELNA_REFUSED_ROOM, 2, 0, 0, NULL, NULL);
 
-  /* Cut off: the command that is cut, or the end where one is missing. */
-  FAULTY(NULL, 0, 0);
-  FAULTY(figure, 8, 0);
-  FAULTY(figure, 9, 9);
-  FAULTY(figure, 15, 9);
-  FAULTY(figure, 16, 16);
-  FAULTY(figure, 18, 16);
-  FAULTY(figure, 19, 19);
-  FAULTY(figure, 21, 19);
+  CUT(figure, figure_commands);
+  CUT(steps, steps_commands);
+  CUT(wide, wide_commands);
+  CUT(single, single_commands);
   /* A byte too many; a wrong count; an advance of 0; a tolerance that is not reduced. */
   memcpy(changed, figure, 22);
   changed[22] = 0x45;
@@ -465,17 +754,80 @@ static void records(void) {
   SAME(figure, 22, figure, 21, KOVRELNA_REFUSED_SECOND_RECORD, 0, 19);
   SAME(figure, 15, figure, 22, KOVRELNA_REFUSED_RECORD, 0, 9);
   SAME(figure, 15, figure, 21, KOVRELNA_REFUSED_RECORD, 0, 9);
-  SAME(NULL, 0, NULL, 0, KOVRELNA_REFUSED_RECORD, 0, 0);
-  SAME(figure, 22, NULL, 0, KOVRELNA_REFUSED_SECOND_RECORD, 0, 0);
+}
+
+/* Each set of a call's lists is empty in turn: the lowest of their refusals answers. */
+static void empty_lists(void) {
+  size_t which, set, k;
+  for (which = 0; which < COUNT(calls); which++) {
+    const struct call *call = &calls[which];
+    for (set = 0; set < (size_t)1 << call->lists; set++) {
+      struct answer expected = call->answer, none = {0, 0, 0, 0, 0, 0};
+      struct list lists[LISTS];
+      for (k = 0; k < call->lists; k++) {
+        const struct parameter *parameter = &call->parameters[k];
+        if ((set >> k & 1) == 0 || (expected.number != 0 && expected.number <= parameter->number))
+          continue;
+        expected = none;
+        expected.number = parameter->number;
+        expected.value = parameter->value;
+      }
+      for (k = 0; k < call->lists; k++) {
+        const struct parameter *parameter = &call->parameters[k];
+        size_t len = (set >> k & 1) != 0 ? 0 : parameter->len;
+        lists[k] = parameter->content != NULL ? input(parameter->content, len, parameter->size)
+                   : expected.number != 0     ? output(len, parameter->size)
+                                              : filled(len, parameter->size, parameter->written, 0,
+                                                       parameter->count);
+      }
+      run(__LINE__, (int)which, lists, kovrelna_ratio(4, 6), which == LEAST ? 2 : 0, expected);
+    }
+  }
+}
+
+/* A trace of 4,096 samples of which all are kept, each at a long step, so that its record is the
+ * longest there is. */
+static void longest(void) {
+  enum { SAMPLES = 4096, BYTES = 24589 };
+  static uint32_t ticks[SAMPLES];
+  static int16_t values[SAMPLES];
+  static uint16_t all[SAMPLES];
+  static uint8_t record[BYTES];
+  kovrelna_tolerance zero = kovrelna_ratio(0, 1);
+  kovrelna_answer written;
+  size_t k;
+  for (k = 0; k < SAMPLES; k++) {
+    ticks[k] = (uint32_t)(256 * k);
+    values[k] = (int16_t)(k % 2 * 10000);
+    all[k] = (uint16_t)k;
+  }
+  JUDGE(ticks, values, all, zero, 0, 1, 0);
+  REDUCE(WALK, ticks, values, zero, SAMPLES, 0, all);
+  REDUCE(GALLOP, ticks, values, zero, SAMPLES, SAMPLES - 1, all);
+  REDUCE(MINIMUM, ticks, values, zero, SAMPLES, 0, all);
+  REFUSE(ticks, values, zero, SAMPLES - 1, KOVRELNA_REFUSED_ROOM, SAMPLES);
+  written = kovrelna_write(ticks, SAMPLES, values, SAMPLES, all, SAMPLES, zero, record, BYTES, 0);
+  differ("the longest record", written.value, BYTES);
+  WRITE(ticks, values, all, zero, BYTES, 0, 0, BYTES, record);
+  WRITE(ticks, values, all, zero, BYTES - 1, 0, KOVRELNA_REFUSED_ROOM, BYTES, NULL);
+  read_record(__LINE__, record, BYTES, SAMPLES, SAMPLES, 0, SAMPLES, 0, 1, ticks, values);
+  FAULTY(record, BYTES - 1, BYTES - 3);
+  FAULTY(record, BYTES - 4, BYTES - 9);
+  SAME(record, BYTES, record, BYTES, 0, 1, 0);
 }
 
 int main(void) {
+  signal(SIGSEGV, beyond);
+  signal(SIGBUS, beyond);
   tolerances();
   lists();
   reductions();
   refusals();
+  least_errors();
   codes();
   records();
+  empty_lists();
+  longest();
   if (failures != 0) return 1;
   puts("c: ok");
   return 0;

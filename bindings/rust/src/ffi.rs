@@ -38,6 +38,14 @@ pub struct Galloped {
 }
 
 #[repr(C)]
+pub struct Least {
+    pub number: u32,
+    pub value: u64,
+    pub p: u64,
+    pub q: u64,
+}
+
+#[repr(C)]
 pub struct Content {
     pub number: u32,
     pub value: u64,
@@ -83,6 +91,15 @@ extern "C" {
         out: *mut u16,
         out_len: usize,
     ) -> Answer;
+    fn kovrelna_least(
+        ticks: *const u32,
+        ticks_len: usize,
+        values: *const i16,
+        values_len: usize,
+        allowance: u64,
+        out: *mut u16,
+        out_len: usize,
+    ) -> Least;
     fn kovrelna_expand(codes: *const u8, codes_len: usize, out: *mut i16, out_len: usize)
         -> Answer;
     fn kovrelna_write(
@@ -173,6 +190,21 @@ pub fn gallop(ticks: &[u32], values: &[i16], tolerance: Tolerance, out: &mut [u1
 
 pub fn minimum(ticks: &[u32], values: &[i16], tolerance: Tolerance, out: &mut [u16]) -> Answer {
     reduce(kovrelna_minimum, ticks, values, tolerance, out)
+}
+
+pub fn least(ticks: &[u32], values: &[i16], allowance: u64, out: &mut [u16]) -> Least {
+    // SAFETY: as above; the output is `out`.
+    unsafe {
+        kovrelna_least(
+            ticks.as_ptr(),
+            ticks.len(),
+            values.as_ptr(),
+            values.len(),
+            allowance,
+            out.as_mut_ptr(),
+            out.len(),
+        )
+    }
 }
 
 pub fn expand(codes: &[u8], out: &mut [i16]) -> Answer {

@@ -3,6 +3,7 @@
 //! - [`Tolerance`], [`Ratio`], [`hold`]: a tolerance, and the reduced ratio it is held as.
 //! - [`Verdict`], [`judge`]: whether every link of a proposed list is valid.
 //! - [`walk`], [`Galloped`], [`gallop`], [`minimum`]: kept lists with every link valid.
+//! - [`Least`], [`least`]: the least error that a list of so many samples can have.
 //! - [`expand`]: the values of range codes.
 //! - [`write()`], [`Content`], [`read`], [`same`]: records of kept samples.
 //! - [`Refusal`]: why a call declined.
@@ -358,6 +359,52 @@ pub fn minimum(
     out: &mut [u16],
 ) -> Result<usize, Refusal> {
     ffi::minimum(ticks, values, tolerance.into(), out).value()
+}
+
+/// What [`least`] returns.
+#[derive(Clone, Copy, Debug, PartialEq, Eq, Hash)]
+pub struct Least {
+    /// The kept number.
+    pub kept: usize,
+    /// The least error, in lowest terms.
+    pub error: Ratio,
+}
+
+/// The least error that a kept list of at most `allowance` samples has, where a list's error is that of
+/// its worst link; and the list that [`minimum`] keeps with that error as the tolerance.
+///
+/// The first entries of `out` are the kept list, and those after them are as they were. No kept list of
+/// at most `allowance` samples has a lesser error.
+///
+/// Refusals: [`Refusal::Length`] if the trace is none or has more than 256 samples, [`Refusal::Tick`],
+/// [`Refusal::Span`], [`Refusal::Allowance`] if the allowance is below 2 or above 4,096, and
+/// [`Refusal::Room`] if `out` has fewer entries than the trace has samples.
+///
+/// ```
+/// use kovrelna::{least, Least, Ratio, Refusal};
+///
+/// let (ticks, values) = ([0, 1, 2, 3, 4], [0, 3, 0, 3, 0]);
+/// let mut out = [9; 5];
+/// let error = Ratio { p: 2, q: 1 };
+/// assert_eq!(least(&ticks, &values, 4, &mut out), Ok(Least { kept: 3, error }));
+/// assert_eq!(out, [0, 3, 4, 9, 9]);
+/// assert_eq!(least(&ticks, &values, 1, &mut out), Err(Refusal::Allowance));
+/// ```
+pub fn least(
+    ticks: &[u32],
+    values: &[i16],
+    allowance: u64,
+    out: &mut [u16],
+) -> Result<Least, Refusal> {
+    let answer = ffi::least(ticks, values, allowance, out);
+    Refusal::check(answer.number, answer.value)?;
+    Ok(Least {
+        kept: answer.value as usize,
+        error: Ratio {
+            p: answer.p,
+            q: answer.q,
+        },
+    })
 }
 
 /// Writes the value of each range code: a code is 32 e + m with m below 32, and its value is 2^e times

@@ -5,3 +5,4 @@ pub mod JudgeLaws
 pub mod ReduceLaws
 pub mod ExpandLaws
 pub mod WriteLaws
+pub mod LeastLaws

@@ -6,3 +6,4 @@ pub mod Reduce
 pub mod Shortest
 pub mod Expand
 pub mod Write
+pub mod Least

@@ -1,4 +1,5 @@
 // The public calls. None has a requirement: each states its outcome for every input, and declines by the table of document 01.
+use closest::Found;
 use ratio::Ratio;
 use reduction::Galloped;
 use refusal::Refusal;
@@ -35,6 +36,12 @@ pub enum Probed {
     Refused(Refusal),
 }
 
+// What `least` answers: how many samples it kept and their error, or a refusal.
+pub enum Closest {
+    Kept(Found),
+    Refused(Refusal),
+}
+
 // What a call that writes entries or bytes answers: how many, or a refusal.
 pub enum Written {
     Count(usize),
@@ -45,6 +52,7 @@ pub mod expand;
 pub mod gallop;
 pub mod hold;
 pub mod judge;
+pub mod least;
 pub mod minimum;
 mod prepare;
 pub mod read;

@@ -7,10 +7,12 @@ use Prim.Native.Nat.{ℕ}
 use lib.IntN.{ℤ, pos, negsuc}
 use Rattle.lists.specs.First.{first, firstOf}
 use Rattle.ratio.specs.Gcd.{gcd, euclid}
-use Rattle.ratio.specs.Order.{over}
+use Rattle.ratio.specs.declared.Ratio as R
+use Rattle.ratio.specs.Order.{over, greater, lesser}
 use Rattle.kept.specs.Stops.{stops}
 use Rattle.kept.specs.Walk.{walkStop, walkOf}
 use Rattle.kept.specs.Minimum.{bestStop, linksIn, linksOf, nextOf, minimumOf}
+use Rattle.kept.specs.Least.{leastOver, leastFrom, leastOf}
 use Rattle.kept.specs.Gallop.{probeOf, doubling, bisection, searchBy, gallopSearch, gallopOf, gallopProbes, sumFrom}
 use Rattle.refusal.specs.declared.Refusal.the-variants.{Tick, Span}
 use Rattle.refusal.specs.declared.Checked.the-variants.{Fine, Refused}
@@ -72,6 +74,33 @@ gallop-teeth-3 = refl
 probes-teeth-3 : gallopProbes (ok teeth 3) 4 ≡ 5
 unfolding gallopProbes sumFrom gallopOf gallopSearch probeOf searchBy doubling bisection stops valid allFrom within deviation
 probes-teeth-3 = refl
+
+-- ---- the same, least for m = 2 is 3/1, for m = 3 and 4 is 2/1 with 0 3 4, for m = 5 is 0/1
+
+abbrev leastTeeth : ℕ → R.Ratio
+leastTeeth m = leastOf (linkError five teeth) 4 m
+
+least-teeth-2 : leastTeeth 2 ≡ over 3 1
+unfolding leastOf leastFrom linkError farthest greatest deviation gcd euclid
+least-teeth-2 = refl
+
+least-teeth-3 : leastTeeth 3 ≡ over 2 1
+unfolding leastOf leastFrom leastOver lesser greater linkError farthest greatest deviation gcd euclid
+least-teeth-3 = refl
+
+least-teeth-4 : leastTeeth 4 ≡ over 2 1
+unfolding leastOf leastFrom leastOver lesser greater linkError farthest greatest deviation gcd euclid
+least-teeth-4 = refl
+
+least-list-3 : minimumOf (valid five teeth (criterion (leastTeeth 3))) 4 ≡ 0 ∷ 3 ∷ 4 ∷ []
+least-list-3 = rw least-teeth-3 minimum-teeth-2
+
+least-list-4 : minimumOf (valid five teeth (criterion (leastTeeth 4))) 4 ≡ 0 ∷ 3 ∷ 4 ∷ []
+least-list-4 = rw least-teeth-4 minimum-teeth-2
+
+least-teeth-5 : leastTeeth 5 ≡ over 0 1
+unfolding leastOf leastFrom leastOver lesser greater linkError farthest greatest deviation gcd euclid
+least-teeth-5 = refl
 
 -- ---- values 0 2 0 -2 0, tolerance 2: walk 0 2 4; gallop 0 4 with 5 probes
 

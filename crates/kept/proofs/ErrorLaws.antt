@@ -3,8 +3,9 @@
 use mathlib.Core.Path.{_≡_, refl}
 use mathlib.Core.Logic.{_↔_}
 use mathlib.Core.List.{List, [], _∷_}
-use Prim.Native.Nat.{ℕ, _*_, _≤_, _<_}
+use Prim.Native.Nat.{ℕ, zero, suc, _*_, _≤_, _<_}
 use native.Mathlib.Omega.{arith}
+use lib.ListN.{length, getD, take}
 use Rattle.ratio.specs.declared.Ratio.{Ratio}
 use Rattle.ratio.specs.Order.{over, AtMost, greater}
 use Rattle.ratio.proofs.OrderLaws.{at-most-trans, greater-one, greater-left, greater-right}
@@ -22,6 +23,24 @@ module _ (err : ℕ → ℕ → Ratio) where
   pub error-one : (P : Ratio → Type 0) (l : List ℕ) → P (over 0 1) → EachLink (λ i j. P (err i j)) l → P (errorOf err l)
   error-one P [] a b = a
   error-one P (i ∷ s) a b = from-one P s (over 0 1) i a b
+
+  -- the error of a list with one link more
+  from-more : (s : List ℕ) (x : Ratio) (i k : ℕ) → k < length s
+      → errorFrom err x i (take (suc k) s) ≡ greater (errorFrom err x i (take k s)) (err (getD (i ∷ s) k 0) (getD s k 0))
+  unfolding errorFrom
+  from-more [] x i k h = absurd (omega arith)
+  from-more (j ∷ s) x i zero h = refl
+  from-more (j ∷ s) x i (suc k) h = from-more s (greater x (err i j)) j k (omega arith)
+
+  pub error-more : (l : List ℕ) (k : ℕ) → suc k < length l → errorOf err (take (suc (suc k)) l) ≡ greater (errorOf err (take (suc k) l)) (err (getD l k 0) (getD l (suc k) 0))
+  error-more [] k h = absurd (omega arith)
+  error-more (i ∷ s) k h = from-more s (over 0 1) i k (omega arith)
+
+  -- of one entry
+  pub error-none : (l : List ℕ) → errorOf err (take 1 l) ≡ over 0 1
+  unfolding errorFrom
+  error-none [] = refl
+  error-none (i ∷ s) = refl
 
   from-each : (s : List ℕ) (x : Ratio) (i : ℕ) → 0 < x .q → LinksFrom (λ i j. 0 < err i j .q) i s → (w : Ratio) → w ≡ errorFrom err x i s
       → AtMost x w × LinksFrom (λ i j. AtMost (err i j) w) i s

@@ -1,6 +1,6 @@
 -- What the structs of the C interface stand for: the enums of the public calls.
 --   toleranceOf        the tolerance that a form gives
---   heldOf, verdictOf, keptOf, gallopedOf, writtenOf, contentOf, comparedOf   an answer as numbers: 0 for success, or the refusal's number and value
+--   heldOf, verdictOf, keptOf, gallopedOf, closestOf, writtenOf, contentOf, comparedOf   an answer as numbers: 0 for success, or the refusal's number and value
 --   WalkExport, GallopExport, ..   an export that writes, or whose answer has a content, has the outcome of the public call
 -- Assumes nothing.
 use mathlib.Core.Path.{_≡_}
@@ -20,6 +20,8 @@ use Rattle.engine.specs.declared.Reduced.{Reduced}
 use Rattle.engine.specs.declared.Reduced.the-variants.{Kept as IsKept, Refused as NotKept}
 use Rattle.engine.specs.declared.Probed.{Probed}
 use Rattle.engine.specs.declared.Probed.the-variants.{Kept as IsGalloped, Refused as NotGalloped}
+use Rattle.engine.specs.declared.Closest as C
+use Rattle.engine.specs.declared.Closest.the-variants.{Kept as IsClosest, Refused as NotClosest}
 use Rattle.engine.specs.declared.Written.{Written}
 use Rattle.engine.specs.declared.Written.the-variants.{Count, Refused as NotWritten}
 use Rattle.engine.specs.Expand.{ExpandOutcome}
@@ -31,10 +33,12 @@ use Rattle.reader.specs.declared.Comparison.the-variants.{Same, Different, Refu
 use Rattle.reader.specs.Reading.{ReadOutcome, SameOutcome}
 use Rattle.engine.specs.Reduce.{WalkOutcome, GallopOutcome}
 use Rattle.engine.specs.Shortest.{MinimumOutcome}
+use Rattle.engine.specs.Least.{LeastOutcome}
 use Rattle.kovrelna.specs.declared.Tolerance.{Tolerance}
 use Rattle.kovrelna.specs.declared.Held.{Held}
 use Rattle.kovrelna.specs.declared.Verdict.{Verdict}
 use Rattle.kovrelna.specs.declared.Answer.{Answer}
+use Rattle.kovrelna.specs.declared.Closest.{Closest}
 use Rattle.kovrelna.specs.declared.Content.{Content}
 use Rattle.kovrelna.specs.declared.Galloped.{Galloped}
 
@@ -76,6 +80,15 @@ pub record MinimumExport (ts : List ℕ) (vs : List ℤ) (t : Tolerance) (o : Li
   pub answer : Reduced
   pub is : r ≡ keptOf answer
   pub outcome : MinimumOutcome ts vs (toleranceOf t) o answer o′
+
+abbrev pub closestOf : C.Closest → Closest
+closestOf (IsClosest f) = record { number = 0; value = f .kept; p = f .error .p; q = f .error .q }
+closestOf (NotClosest x) = record { number = numberOf x; value = returnedOf x; p = 0; q = 0 }
+
+pub record LeastExport (ts : List ℕ) (vs : List ℤ) (m : ℕ) (o : List ℕ) (r : Closest) (o′ : List ℕ) : Type 0 where
+  pub answer : C.Closest
+  pub is : r ≡ closestOf answer
+  pub outcome : LeastOutcome ts vs m o answer o′
 
 abbrev pub writtenOf : Written → Answer
 writtenOf (Count n) = record { number = 0; value = n }

@@ -3,7 +3,7 @@ ghost use mathlib.Core.Path.{_≡_};
 ghost use Rattle.tolerance.specs.Meaning.{meaning};
 ghost use Rattle.engine.specs.Hold.{holdingOf};
 ghost use Rattle.engine.specs.Judge.{judgeOf};
-ghost use Rattle.kovrelna.specs.Border.{toleranceOf, heldOf, verdictOf, keptOf, gallopedOf, writtenOf, contentOf, comparedOf, WalkExport, GallopExport, MinimumExport, ExpandExport, WriteExport, ReadExport, SameExport};
+ghost use Rattle.kovrelna.specs.Border.{toleranceOf, heldOf, verdictOf, keptOf, gallopedOf, closestOf, writtenOf, contentOf, comparedOf, WalkExport, GallopExport, MinimumExport, LeastExport, ExpandExport, WriteExport, ReadExport, SameExport};
 
 // A tolerance: form 0 is the ratio p/q, form 1 is x counts, form 2 is the noise x times the multiple y. No other form is allowed.
 #[repr(C)]
@@ -45,6 +45,15 @@ pub struct Galloped {
     pub number: u32,
     pub value: u64,
     pub probes: u64,
+}
+
+// How many samples were kept and their error p/q under the number 0, or a refusal's number and value.
+#[repr(C)]
+pub struct Closest {
+    pub number: u32,
+    pub value: u64,
+    pub p: u64,
+    pub q: u64,
 }
 
 // The number of a record's samples and its tolerance under the number 0, or a refusal's number and value.
@@ -146,6 +155,28 @@ fn galloped_of(a: engine::Probed) -> Galloped
             number: refusal::number(x),
             value: refusal::returned(x) as u64,
             probes: 0,
+        },
+    }
+}
+
+fn closest_of(a: engine::Closest) -> Closest
+    ensures { λ r. ⌜ r ≡ closestOf a ⌝ }
+{
+    match a {
+        engine::Closest::Kept(f) => {
+            let error = f.error;
+            Closest {
+                number: 0,
+                value: f.kept as u64,
+                p: error.p,
+                q: error.q,
+            }
+        }
+        engine::Closest::Refused(x) => Closest {
+            number: refusal::number(x),
+            value: refusal::returned(x) as u64,
+            p: 0,
+            q: 0,
         },
     }
 }
@@ -264,6 +295,19 @@ pub extern "C" fn kovrelna_minimum(
     ensures { λ r. ⌜ MinimumExport (now (ticks .entry)) (now (values .entry)) t (now (out .entry)) r (now (out .exit)) ⌝ }
 {
     kept_of(engine::minimum::minimum(ticks, values, tolerance_of(t), out))
+}
+
+// Writes the list with the least error of at most `allowance` samples into the first entries of `out`.
+#[no_mangle]
+pub extern "C" fn kovrelna_least(
+    ticks: &[u32],
+    values: &[i16],
+    allowance: u64,
+    out: &mut [u16],
+) -> Closest
+    ensures { λ r. ⌜ LeastExport (now (ticks .entry)) (now (values .entry)) allowance (now (out .entry)) r (now (out .exit)) ⌝ }
+{
+    closest_of(engine::least::least(ticks, values, allowance as usize, out))
 }
 
 // Writes the value of each range code into the first entries of `out`.

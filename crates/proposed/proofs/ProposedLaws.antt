@@ -23,9 +23,10 @@ use Rattle.kept.specs.Kept.{LinksFrom, EachLink, final, KeptList, AllValid}
 use Rattle.kept.proofs.KeptLaws.{links-at, links-of, kept-links}
 use Rattle.trace.specs.declared.Criterion.{Criterion}
 use Rattle.trace.specs.Trace.{Trace}
-use Rattle.trace.specs.Link.{valid, Linked}
+use Rattle.ratio.specs.declared.Ratio.{Ratio}
+use Rattle.trace.specs.Link.{valid, linkError, Linked}
 use Rattle.trace.proofs.Validity.{steps-valid}
-use Rattle.proposed.specs.Proposed.{entry, badAt, endRow, listRow, invalidAt, firstInvalid}
+use Rattle.proposed.specs.Proposed.{entry, badAt, endRow, listRow, invalidAt, firstInvalid, errorAt}
 
 -- ---- a bad entry
 
@@ -171,6 +172,9 @@ link-invalid ts vs c l k ei ej e = rw (e, ei, ej, add-one k)
 pub next-valid : (ts : List ℕ) (vs : List ℤ) (c : Criterion) (l : List ℕ) (k : ℕ) {i j : ℕ} → i ≡ entry l k → j ≡ entry l (k + 1) → j ≡ i + 1 → false ≡ invalidAt ts vs c l k
 next-valid ts vs c l k {i} {j} ei ej e =
     link-invalid ts vs c l k ei ej (subst (λ (n : ℕ). true ≡ valid ts vs c i n) (sym (e ∙ add-one i)) (sym (steps-valid ts vs c i)))
+
+pub link-error-at : (ts : List ℕ) (vs : List ℤ) (l : List ℕ) (k : ℕ) {i j : ℕ} {r : Ratio} → i ≡ entry l k → j ≡ entry l (k + 1) → r ≡ linkError ts vs i j → r ≡ errorAt ts vs l k
+link-error-at ts vs l k ei ej e = e ∙ rw (ei, ej, add-one k)
 
 module _ (ts : List ℕ) (vs : List ℤ) (c : Criterion) (l : List ℕ) where
   -- no link is invalid exactly if all are valid

@@ -1,5 +1,6 @@
 -- Proposed lists (document 01, "When the engine declines", row 6, and judge).
 --   badAt, listRow           a bad entry; the row "proposed list no kept list"
+--   errorAt                  the error of a link
 --   invalidAt, firstInvalid  an invalid link; the first one's position, the number of links where there is none
 -- Laws are in ProposedLaws. Assumes nothing.
 use mathlib.Core.Bool.{Bool, cond, not, _&&_, _||_}
@@ -13,7 +14,8 @@ use Rattle.refusal.specs.declared.Refusal.the-variants.{List as NoKeptList}
 use Rattle.refusal.specs.declared.Checked.{Checked}
 use Rattle.refusal.specs.Table.{row, placed, _thenCheck_}
 use Rattle.trace.specs.declared.Criterion.{Criterion}
-use Rattle.trace.specs.Link.{valid}
+use Rattle.ratio.specs.declared.Ratio.{Ratio}
+use Rattle.trace.specs.Link.{valid, linkError}
 
 -- the entry at position k
 abbrev pub entry : List ℕ → ℕ → ℕ
@@ -37,3 +39,6 @@ invalidAt ts vs c l k = not (valid ts vs c (entry l k) (entry l (suc k)))
 
 unfoldable pub firstInvalid : List ℕ → List ℤ → Criterion → List ℕ → ℕ
 firstInvalid ts vs c l = first (invalidAt ts vs c l) 0 (length l - 1)
+
+abbrev pub errorAt : List ℕ → List ℤ → List ℕ → ℕ → Ratio
+errorAt ts vs l k = linkError ts vs (entry l k) (entry l (suc k))

@@ -1,12 +1,14 @@
-// Proposed lists of samples: whether one is a kept list, and its first invalid link.
+// Proposed lists of samples: whether one is a kept list, its first invalid link, and its error.
 ghost use mathlib.Core.Path.{_≡_};
 ghost use Prim.Native.Nat.{_-_, _<_, _≤_};
 ghost use lib.ListN.{length};
 ghost use Rattle.lists.specs.First.{first};
 ghost use Rattle.kept.specs.Kept.{KeptList};
 ghost use Rattle.trace.specs.Trace.{Trace};
-ghost use Rattle.trace.specs.Link.{Bounded};
-ghost use Rattle.proposed.specs.Proposed.{badAt, endRow, listRow, invalidAt, firstInvalid};
+ghost use Rattle.trace.specs.Link.{Bounded, criterion, listError};
+ghost use Rattle.proposed.specs.Proposed.{badAt, endRow, listRow, invalidAt, firstInvalid, errorAt};
+use ratio::Ratio;
+use ratio::order::greater;
 use refusal::Checked;
 use refusal::Refusal;
 use trace::Criterion;
@@ -97,4 +99,29 @@ pub fn first_invalid(ticks: &[u32], values: &[i16], c: Criterion, list: &[u16]) 
         k += 1;
     }
     k
+}
+
+// The error of the link at position k.
+fn error_at(ticks: &[u32], values: &[i16], list: &[u16], k: usize) -> Ratio
+    requires { ⌜ Trace (now ticks) (now values) × KeptList (length (now ticks) - 1) (now list) × (k < length (now list) - 1) ⌝ }
+    ensures is { λ r. ⌜ r ≡ errorAt (now (ticks .entry)) (now (values .entry)) (now (list .entry)) k ⌝ }
+    ensures allowed { λ r. ⌜ Bounded (criterion r) ⌝ }
+{
+    trace::links::link_error(ticks, values, wide(list[k]), wide(list[k + 1]))
+}
+
+// The error of a kept list: that of its worst link.
+pub fn list_error(ticks: &[u32], values: &[i16], list: &[u16]) -> Ratio
+    requires { ⌜ Trace (now ticks) (now values) × KeptList (length (now ticks) - 1) (now list) ⌝ }
+    ensures is { λ r. ⌜ r ≡ listError (now (ticks .entry)) (now (values .entry)) (now (list .entry)) ⌝ }
+    ensures allowed { λ r. ⌜ Bounded (criterion r) ⌝ }
+{
+    let mut worst = Ratio { p: 0, q: 1 };
+    let mut k = 0;
+    while k + 1 < list.len() {
+        let e = error_at(ticks, values, list, k);
+        worst = greater(worst, e);
+        k += 1;
+    }
+    worst
 }

@@ -11,21 +11,11 @@ use Rattle.trace.specs.Trace.{tick, value}
 use Rattle.trace.specs.Link.{deviation}
 use Rattle.trace.specs.Level.{offset}
 use Rattle.trace.proofs.Line.{Above, Below}
-use Rattle.trace.proofs.Difference.{Diff, same, plus, negated, times, number, at-most}
+use Rattle.trace.proofs.Difference.{Diff, same, less, negated, times, distance, at-most}
 
 -- (u + s) times the height of a line from level a to level b, u ticks after its start and s before its end
 abbrev pub line : ℕ → ℕ → ℕ → ℕ → ℕ
 line a b u s = a * s + b * u
-
-less : {x y : ℤ} {a b c d : ℕ} → Diff x a b → Diff y c d → Diff (x -ℤ y) (a + d) (b + c)
-less h k = plus h (negated k)
-
-natural : (n : ℕ) → Diff (pos n) n 0
-natural n = omega arith
-
--- the ticks from m to n, for m ≤ n
-ticks : (m n : ℕ) → m ≤ n → pos n -ℤ pos m ≡ pos (n - m)
-ticks m n h = number (same (less (natural n) (natural m)) n m (omega arith)) h
 
 -- the base cancels
 cancel : (base a b c s t u : ℕ) → t ≡ u + s → (c + base) * t + (base + a) * u + (a * s + b * u) ≡ c * t + ((base + a) * t + (b + base) * u)
@@ -33,7 +23,7 @@ cancel base a b c s t u e = omega (arith, ap (λ (x : ℕ). a * x) e)
 
 module _ {x y z : ℤ} {base a b c : ℕ} (hx : Diff x a base) (hy : Diff y b base) (hz : Diff z c base) (r s t : ℕ) (rs : r ≤ s) (st : s ≤ t) where
   deviation-diff : Diff ((z -ℤ x) *ℤ (pos t -ℤ pos r) -ℤ (y -ℤ x) *ℤ (pos s -ℤ pos r)) (c * (t - r)) (line a b (s - r) (t - s))
-  deviation-diff = rw (ticks r t (omega arith), ticks r s rs)
+  deviation-diff = rw (distance r t (omega arith), distance r s rs)
       (same (less (times (less hz hx) (t - r)) (times (less hy hx) (s - r))) (c * (t - r)) (line a b (s - r) (t - s))
       (cancel base a b c (t - s) (t - r) (s - r) (omega arith)))
 

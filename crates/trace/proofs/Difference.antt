@@ -6,7 +6,7 @@ use mathlib.Core.Logic.{_↔_}
 use Prim.Native.Nat.{ℕ, zero, suc, _+_, _-_, _*_, _≤_, _<_}
 use native.Mathlib.Nat.{mul-le-mul-right, le-of-mul-le-mul-right}
 use native.Mathlib.Omega.{arith}
-use lib.IntN.{ℤ, pos, negsuc, negℤ, subℕ, _+ℤ_, _*ℤ_, natAbs}
+use lib.IntN.{ℤ, pos, negsuc, negℤ, subℕ, _+ℤ_, _-ℤ_, _*ℤ_, natAbs}
 use lib.Dec.{ltb, leb→le, le→leb}
 use lib.Signed.{_≤ℤ_}
 use borrow.Author.Tests.{ltb-true, ltb-false}
@@ -46,6 +46,9 @@ negated {x = pos zero} h = omega arith
 negated {x = pos (suc n)} h = omega arith
 negated {x = negsuc n} h = omega arith
 
+pub less : {x y : ℤ} {a b c d : ℕ} → Diff x a b → Diff y c d → Diff (x -ℤ y) (a + d) (b + c)
+less h k = plus h (negated k)
+
 pub times : {x : ℤ} {a b : ℕ} → Diff x a b → (c : ℕ) → Diff (x *ℤ pos c) (a * c) (b * c)
 times {x = pos n} h c = omega (arith, ap (λ (m : ℕ). m * c) (h .diff))
 times {x = negsuc n} {a} {b} h c = negated (positive (omega (arith, ap (λ (m : ℕ). m * c) (h .diff))))
@@ -57,6 +60,13 @@ times {x = negsuc n} {a} {b} h c = negated (positive (omega (arith, ap (λ (m : 
 pub number : {z : ℤ} {a b : ℕ} → Diff z a b → b ≤ a → z ≡ pos (a - b)
 number {z = pos n} h k = ap pos (omega arith)
 number {z = negsuc n} h k = absurd (omega arith)
+
+natural : (n : ℕ) → Diff (pos n) n 0
+natural n = omega arith
+
+-- the number from m to n, for m ≤ n
+pub distance : (m n : ℕ) → m ≤ n → pos n -ℤ pos m ≡ pos (n - m)
+distance m n h = number (same (less (natural n) (natural m)) n m (omega arith)) h
 
 -- an upper bound, and a bound on the absolute value, times q
 pub at-most : {z : ℤ} {a b : ℕ} → Diff z a b → (m : ℕ) → z ≤ℤ pos m ↔ a ≤ b + m
@@ -73,7 +83,7 @@ size {z = pos n} h = omega arith
 size {z = negsuc n} h = omega arith
 
 -- every integer is a difference
-parts : (z : ℤ) → (a : ℕ) × (b : ℕ) × Diff z a b
+pub parts : (z : ℤ) → (a : ℕ) × (b : ℕ) × Diff z a b
 parts (pos n) = (n, 0, omega arith)
 parts (negsuc n) = (0, suc n, omega arith)
 

@@ -160,9 +160,28 @@ module _ {ts : List ℕ} {vs : List ℤ} {i j k : ℕ} {s : Start} {to e : Edge}
     tilt-slope (tilts (edge-at st hj) {p = 0} (link .trace) (omega arith) (link .inside) (omega arith) (omega arith)),
   )
 
-  pub distance-size : distanceOf e to ≡ natAbs (deviation ts vs i j k)
+  distance-size : distanceOf e to ≡ natAbs (deviation ts vs i j k)
   distance-size =
       let t = link .trace in
       let hj′ = edge-at st hj in
       let hk′ = edge-at st hk in
       sym (size (same (dev t ik kj (link .inside) hj′ hk′) (e .rise * to .run + middle * e .run) (to .rise * e .run + middle * to .run) (omega (arith, crossing t ik kj (link .inside) hj′ hk′))))
+
+  -- at most 65,535 for each tick of the link, as values have 16 bits
+  distance-bound : distanceOf e to ≤ 65535 * (tick ts j - tick ts i)
+  distance-bound =
+      let t = link .trace in
+      let hj′ = edge-at st hj in
+      let hk′ = edge-at st hk in
+      let a = level (value vs i) in
+      let b = level (value vs j) in
+      let u = tick ts k - tick ts i in
+      let v = tick ts j - tick ts k in
+      let w = tick ts j - tick ts i in
+      let run : w ≡ u + v = omega (arith, ti t ik kj (link .inside) hj′ hk′, tj t ik kj (link .inside) hj′ hk′) in
+      let sample : level (value vs k) * w ≤ 65535 * w = mul-le-mul-right w (level-short (value vs k) (hk′ .to)) in
+      let on : line a b u v ≤ 65535 * w = omega (arith, mul-le-mul-right v (level-short (value vs i) (hj′ .from)), mul-le-mul-right u (level-short (value vs j) (hj′ .to))) in
+      rw (distance-size, size (dev t ik kj (link .inside) hj′ hk′)) (omega (arith, sample, on))
+
+  pub distance-measures : {d : ℕ} → d ≡ distanceOf e to → (d ≡ natAbs (deviation ts vs i j k)) × (d ≤ 65535 * (tick ts j - tick ts i))
+  distance-measures h = rw h (distance-size, distance-bound)

@@ -5,23 +5,24 @@ use mathlib.Core.Logic.{_↔_, ⊎-elim}
 use mathlib.Core.Bool.{true}
 use mathlib.Core.List.{List}
 use Prim.Native.Nat.{ℕ, zero, suc, _+_, _-_, _*_, _≤_, _<_, max}
-use native.Mathlib.Nat.{eq-or-lt-of-le, mul-le-mul-right, le-of-mul-le-mul-right}
+use native.Mathlib.Nat.{eq-or-lt-of-le, mul-le-mul-right, le-of-mul-le-mul-right, div-le-self}
 use native.Mathlib.Decide.{decLe}
 use native.Mathlib.Omega.{arith}
 use lib.IntN.{ℤ, natAbs}
 use lib.ListN.{length}
 use Rattle.ratio.specs.declared.Ratio.{Ratio}
-use Rattle.ratio.specs.Gcd.{lowest}
-use Rattle.ratio.specs.Order.{over, AtMost}
-use Rattle.ratio.proofs.Laws.{lowest-equal, lowest-pos, lowest-zero}
+use Rattle.ratio.specs.Gcd.{gcd, lowest}
+use Rattle.ratio.specs.Order.{over, AtMost, Small}
+use Rattle.ratio.proofs.Laws.{lowest-equal, lowest-pos, lowest-coprime, lowest-zero}
 use Rattle.kept.specs.Kept.{KeptList, AllValid}
 use Rattle.kept.specs.Error.{Errors}
-use Rattle.kept.proofs.KeptLaws.{each-zip, kept-links}
-use Rattle.kept.proofs.ErrorLaws.{error-within}
+use Rattle.kept.specs.Least.{Measures}
+use Rattle.kept.proofs.KeptLaws.{each-map, each-zip, kept-links}
+use Rattle.kept.proofs.ErrorLaws.{error-one, error-within}
 use Rattle.trace.specs.Trace.{tick, Trace}
-use Rattle.trace.specs.Link.{deviation, greatest, farthest, linkError, listError, Valid, valid, criterion, Linked}
-use Rattle.trace.proofs.Ticks.{later}
-use Rattle.trace.proofs.Validity.{valid-true, true-valid}
+use Rattle.trace.specs.Link.{deviation, greatest, farthest, linkError, listError, Valid, valid, criterion, Linked, Bounded}
+use Rattle.trace.proofs.Ticks.{later, span-bound}
+use Rattle.trace.proofs.Validity.{valid-true, true-valid, steps-valid}
 
 module _ (f : ℕ → ℕ) where
   -- one number more
@@ -65,6 +66,14 @@ module _ {ts : List ℕ} {vs : List ℤ} {i j : ℕ} (h : Linked ts vs i j) wher
   unfolding linkError
   link-error-pos = lowest-pos (farthest ts vs i j) _ run-pos
 
+  pub link-error-lowest : gcd (linkError ts vs i j .p) (linkError ts vs i j .q) ≡ 1
+  unfolding linkError
+  link-error-lowest = lowest-coprime (farthest ts vs i j) _ run-pos
+
+  pub link-error-small : linkError ts vs i j .q ≤ 1048575
+  unfolding linkError
+  link-error-small = omega (arith, div-le-self (tick ts j - tick ts i) (gcd (farthest ts vs i j) (tick ts j - tick ts i)), span-bound (h .trace) i j (omega (arith, h .forward)) (h .inside))
+
   -- g/w = e, and g q ≤ p w, exactly if e ≤ p/q
   scale : (g w p q a b : ℕ) → 0 < w → 0 < b → a * w ≡ g * b → g * q ≤ p * w ↔ a * q ≤ p * b
   scale g w p q a b W B e = (
@@ -99,6 +108,19 @@ module _ {ts : List ℕ} {vs : List ℤ} (t : Trace ts vs) where
   pub link-errors : Errors (linkError ts vs) (length ts - 1)
   link-errors = record { positive = λ i j l u. link-error-pos (linked i j l u) }
 
+  -- a link is valid exactly up to its error, which is in lowest terms
+  pub trace-measures : Measures (λ x. valid ts vs (criterion x)) (linkError ts vs) (length ts - 1)
+  trace-measures = record {
+    errors = link-errors;
+    lowest = λ i j l u. link-error-lowest (linked i j l u);
+    valid = λ x i j l u. valid-error (linked i j l u) x;
+    steps = λ x i lt. steps-valid ts vs (criterion x) i;
+  }
+
+  -- a list's error has a denominator up to the longest span
+  pub list-error-small : (l : List ℕ) → KeptList (length ts - 1) l → listError ts vs l .q ≤ 1048575
+  list-error-small l k = error-one (linkError ts vs) (λ x. x .q ≤ 1048575) l (omega arith) (each-map (λ i j b. link-error-small (linked i j (b .0) (b .1))) l (kept-links (length ts - 1) l k))
+
   -- a kept list is within p/q exactly if its error is at most p/q
   pub within-error : (l : List ℕ) → KeptList (length ts - 1) l → (r : Ratio) → AllValid (valid ts vs (criterion r)) l ↔ AtMost (listError ts vs l) r
   within-error l k r =
@@ -108,25 +130,31 @@ module _ {ts : List ℕ} {vs : List ℤ} (t : Trace ts vs) where
         λ a. each-zip (λ i j a b. valid-error (linked i j (a .0) (a .1)) r .1 b) l links (e .1 a),
       )
 
+-- products of allowed tolerances fit
+pub allowed-small : {x : Ratio} → Bounded (criterion x) → Small x
+allowed-small b = record { p-bound = omega (arith, b .p-bound, b .q-bound); q-bound = b .q-bound }
+
 -- `far` is the greatest |deviation| of the samples of the link i to j before k
 pub record Measured (ts : List ℕ) (vs : List ℤ) (i j k far : ℕ) : Type 0 where
   pub low : i < k
   pub high : k ≤ j
   pub is : far ≡ greatest (suc i) (k - suc i) (λ m. natAbs (deviation ts vs i j m))
+  pub bound : far ≤ 65535 * (tick ts j - tick ts i)
 
 module _ {ts : List ℕ} {vs : List ℤ} {i j : ℕ} where
   pub measured-none : i < j → Measured ts vs i j (i + 1) 0
   unfolding greatest
-  measured-none h = record { low = omega arith; high = omega arith; is = let e : i + 1 - suc i ≡ 0 = omega arith in rw e }
+  measured-none h = record { low = omega arith; high = omega arith; is = let e : i + 1 - suc i ≡ 0 = omega arith in rw e; bound = omega arith }
 
-  pub measured-more : {k far d r : ℕ} → Measured ts vs i j k far → k < j → d ≡ natAbs (deviation ts vs i j k) → r ≡ max far d → Measured ts vs i j (k + 1) r
+  pub measured-more : {k far d r : ℕ} → Measured ts vs i j k far → k < j → (d ≡ natAbs (deviation ts vs i j k)) × (d ≤ 65535 * (tick ts j - tick ts i)) → r ≡ max far d → Measured ts vs i j (k + 1) r
   measured-more {k} {far} {d} m lt e f =
       let n : k + 1 - suc i ≡ suc (k - suc i) = omega (arith, m .low) in
       let at : suc i + (k - suc i) ≡ k = omega (arith, m .low) in
       record {
         low = omega (arith, m .low);
         high = omega arith;
-        is = rw (n, greatest-more _ (k - suc i) (suc i), at, ← e, ← (m .is)) f;
+        is = rw (n, greatest-more _ (k - suc i) (suc i), at, ← (e .0), ← (m .is)) f;
+        bound = omega (arith, m .bound, e .1);
       }
 
   pub measured-all : {k far run : ℕ} → Measured ts vs i j k far → j ≤ k → run ≡ tick ts j - tick ts i → lowest far run ≡ linkError ts vs i j
@@ -134,3 +162,11 @@ module _ {ts : List ℕ} {vs : List ℤ} {i j : ℕ} where
   measured-all {k} m le e =
       let at : k ≡ j = omega (arith, m .high) in
       rw (m .is, at, e)
+
+  -- the error is an allowed tolerance
+  pub measured-allowed : {k far run : ℕ} → Measured ts vs i j k far → 0 < run → run ≡ tick ts j - tick ts i → run ≤ 1048575 → Bounded (criterion (lowest far run))
+  measured-allowed {k} {far} {run} m pos e small = record {
+    positive = lowest-pos far run pos;
+    q-bound = omega (arith, div-le-self run (gcd far run));
+    p-bound = le-of-mul-le-mul-right {k = run} (omega (arith, lowest-equal far run, mul-le-mul-right (lowest far run .q) (rw (← e) at (m .bound)))) pos;
+  }

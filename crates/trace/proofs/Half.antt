@@ -27,10 +27,10 @@ module _ {a b u s p q : ℕ} where
   pub start-below : u ≡ 0 → Below a b a u s p q
   start-below e = rw e (record { le = omega arith })
 
-  pub end-above : s ≡ 0 → Above a b b u s p q
+  end-above : s ≡ 0 → Above a b b u s p q
   end-above e = rw e (record { le = omega arith })
 
-  pub end-below : s ≡ 0 → Below a b b u s p q
+  end-below : s ≡ 0 → Below a b b u s p q
   end-below e = rw e (record { le = omega arith })
 
 -- what holds at i and j and between them holds from i to j
@@ -39,11 +39,11 @@ from-to P hi hj between k l u =
     ⊎-elim (λ e. subst P e hi) (λ m. ⊎-elim (λ e. subst P (sym e) hj) (λ n. between k m n) (eq-or-lt-of-le u)) (eq-or-lt-of-le l)
 
 module _ {ts : List ℕ} (rising : Rising ts) (vs : List ℤ) {i j a m b n : ℕ} (inside : j < length ts) (band : Band ts vs i j a m b n) where
-  band-high : (k : ℕ) → i ≤ k → k ≤ j → High ts vs i j a m k
+  pub band-high : (k : ℕ) → i ≤ k → k ≤ j → High ts vs i j a m k
   band-high = from-to (High ts vs i j a m) (start-above (omega arith)) (end-above (omega arith))
       (λ k l u. high rising vs i j k a m (omega arith) (omega arith) inside .0 (band .above k l u))
 
-  band-low : (k : ℕ) → i ≤ k → k ≤ j → Low ts vs i j b n k
+  pub band-low : (k : ℕ) → i ≤ k → k ≤ j → Low ts vs i j b n k
   band-low = from-to (Low ts vs i j b n) (start-below (omega arith)) (end-below (omega arith))
       (λ k l u. low rising vs i j k b n (omega arith) (omega arith) inside .0 (band .below k l u))
 

@@ -1,7 +1,7 @@
 // Links of a trace: the test of one, and its error. Each is one pass over the link's samples.
 ghost use mathlib.Core.Path.{_≡_};
 ghost use Prim.Native.Nat.{_≤_, max};
-ghost use Rattle.trace.specs.Link.{Linked, Bounded, valid, linkError};
+ghost use Rattle.trace.specs.Link.{Linked, Bounded, valid, criterion, linkError};
 ghost use Rattle.trace.specs.Edge.{Slope, Tilt, inBand, distanceOf};
 use crate::Criterion;
 use crate::Edge;
@@ -61,7 +61,8 @@ fn larger(a: u64, b: u64) -> u64
 // The error of the link i to j.
 pub fn link_error(ticks: &[u32], values: &[i16], i: usize, j: usize) -> Ratio
     requires { ⌜ Linked (now ticks) (now values) i j ⌝ }
-    ensures { λ r. ⌜ r ≡ linkError (now (ticks .entry)) (now (values .entry)) i j ⌝ }
+    ensures is { λ r. ⌜ r ≡ linkError (now (ticks .entry)) (now (values .entry)) i j ⌝ }
+    ensures allowed { λ r. ⌜ Bounded (criterion r) ⌝ }
 {
     let from = start_at(ticks, values, i, 1);
     let to = edge_to(ticks, values, from, j, 1);

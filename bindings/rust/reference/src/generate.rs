@@ -2,6 +2,8 @@
 //!
 //! - [`Random`]: numbers from a seed.
 //! - [`Trace`], [`Kind`], [`trace`]: traces within the limits, of several kinds.
+//! - [`Shape`], [`adversarial`]: traces on which a wrong method differs from a right one.
+//! - [`any_trace`]: of either sort.
 //! - [`kept_list`], [`damaged`]: kept lists, and lists with one or more faults.
 //! - [`just_below`]: the tolerance nearest below a link's error.
 //! - [`content`]: contents of records.
@@ -152,6 +154,78 @@ fn values(kind: Kind, samples: usize, random: &mut Random) -> Vec<i16> {
         .collect()
 }
 
+/// A shape on which a wrong method differs from a right one.
+#[derive(Clone, Copy, Debug, PartialEq)]
+pub enum Shape {
+    /// A straight line in whole values, with a few samples one off: cones stay barely open.
+    Line,
+    /// Ever steeper: each sample closes the cone on one side.
+    Bow,
+    /// Up and down by the same height, with a few samples on the line: validity falls and rises again.
+    Swing,
+    /// On the line at 0, 2, 4, 8, .. samples from every start of a stretch, beside it elsewhere: a
+    /// doubling search passes over invalid links.
+    Doubling,
+    /// The ends of the range only: the greatest products.
+    Ends,
+    /// A kind with each value twice: several shortest lists.
+    Doubled,
+    /// A kind, then the same backwards: several shortest lists.
+    Mirrored,
+}
+
+/// Every shape.
+pub const SHAPES: [Shape; 7] = [
+    Shape::Line,
+    Shape::Bow,
+    Shape::Swing,
+    Shape::Doubling,
+    Shape::Ends,
+    Shape::Doubled,
+    Shape::Mirrored,
+];
+
+/// A trace of this shape with 1 to 4,096 samples and ticks as those of `trace`.
+pub fn adversarial(shape: Shape, samples: usize, random: &mut Random) -> Trace {
+    let ticks = ticks(samples, random);
+    let kind = random.choose(&KINDS);
+    let of_kind = values(kind, samples, random);
+    let (low, high) = (i64::from(i16::MIN), i64::from(i16::MAX));
+    let span = i64::from(ticks[samples - 1] - ticks[0]).max(1);
+    let (from, to) = (random.within(low, high), random.within(low, high));
+    let height = random.choose(&[1, 3, 7, 500, high]);
+    let period = random.choose(&[8, 32, 4_096]);
+    let edge = random.below(samples as u64) as usize;
+    let values = (0..samples).map(|k| {
+        let at = i64::from(ticks[k] - ticks[0]);
+        let off = random.below(9) == 0;
+        let value = match shape {
+            Shape::Line => from + (to - from) * at / span + i64::from(off),
+            Shape::Bow => from + height * at / span * at / span + i64::from(off),
+            Shape::Swing if off => 0,
+            Shape::Swing => height * (k as i64 % 2),
+            Shape::Doubling if (k % period).is_power_of_two() || k % period == 0 => 0,
+            Shape::Doubling => random.choose(&[-height, height]),
+            Shape::Ends if k < edge || off => low,
+            Shape::Ends => high,
+            Shape::Doubled => of_kind[k / 2].into(),
+            Shape::Mirrored => of_kind[k.min(samples - 1 - k)].into(),
+        };
+        value.clamp(low, high) as i16
+    });
+    let values = values.collect();
+    Trace { ticks, values }
+}
+
+/// A trace of any kind or shape.
+pub fn any_trace(samples: usize, random: &mut Random) -> Trace {
+    if random.below(2) == 0 {
+        trace(random.choose(&KINDS), samples, random)
+    } else {
+        adversarial(random.choose(&SHAPES), samples, random)
+    }
+}
+
 /// A kept list of a trace with so many samples: few, some or most of them.
 pub fn kept_list(samples: usize, random: &mut Random) -> Vec<u16> {
     let one_in = random.choose(&[1, 2, 4, 16, 1_000]);
@@ -245,6 +319,10 @@ mod tests {
                 let Trace { ticks, values } = trace(kind, samples, random);
                 assert_eq!(trace_refusal(&ticks, &values), None, "{kind:?} {samples}");
                 assert_eq!(list_refusal(samples, &kept_list(samples, random)), None);
+            }
+            for shape in SHAPES {
+                let Trace { ticks, values } = adversarial(shape, samples, random);
+                assert_eq!(trace_refusal(&ticks, &values), None, "{shape:?} {samples}");
             }
         }
     }

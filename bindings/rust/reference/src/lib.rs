@@ -8,6 +8,7 @@
 //! - [`trace_refusal`], [`list_refusal`]: rows 1 to 3 and row 6 of the table of refusals.
 //! - [`judge`]: the call.
 //! - [`Method`], [`Reduced`], [`reduce`]: the calls walk, gallop and minimum.
+//! - [`Least`], [`least`]: the call.
 //! - [`kept_lists`]: every kept list.
 //! - [`fewest`]: how short a kept list within a fraction can be.
 //! - [`record`]: range codes and records.
@@ -20,6 +21,8 @@ use std::cmp::Reverse;
 
 /// The most samples a trace has.
 pub const SAMPLES: usize = 4_096;
+/// The most samples a trace has for least.
+pub const LEAST_SAMPLES: usize = 256;
 /// The greatest difference between the last tick and the first.
 pub const SPAN: u32 = 1_048_575;
 /// The greatest denominator of a tolerance.
@@ -385,6 +388,73 @@ fn minimum_by_table(last: usize, ends: impl Fn(usize) -> Vec<usize>) -> Vec<u16>
     stops(last, |i| next[i])
 }
 
+/// The least error over kept lists of at most so many samples, and the minimum's list at that error.
+#[derive(Clone, Debug, PartialEq, Eq)]
+pub struct Least {
+    pub list: Vec<u16>,
+    pub error: Fraction,
+}
+
+/// The first row that fits, or the least error and its list. The output has `room` entries.
+pub fn least(ticks: &[u32], values: &[i16], allowance: u64, room: usize) -> Result<Least, Row> {
+    let samples = ticks.len();
+    if samples > LEAST_SAMPLES {
+        return Err((1, 0));
+    }
+    if let Some(row) = trace_refusal(ticks, values) {
+        return Err(row);
+    }
+    if !(2..=SAMPLES as u64).contains(&allowance) {
+        return Err((5, 0));
+    }
+    if room < samples {
+        return Err((10, samples as u64));
+    }
+    let allowance = allowance as usize;
+    let error = match samples {
+        ..=TRIED => least_of_all(ticks, values, allowance),
+        _ => least_by_table(ticks, values, allowance),
+    };
+    let form = Form::Ratio(error.p as u64, error.q as u64);
+    let Reduced { list, .. } = reduce(Method::Minimum, ticks, values, form, room)?;
+    Ok(Least { list, error })
+}
+
+/// The lesser and the greater of two fractions.
+fn ordered(a: Fraction, b: Fraction) -> (Fraction, Fraction) {
+    if a.at_most(b) {
+        (a, b)
+    } else {
+        (b, a)
+    }
+}
+
+/// The least error of all kept lists of at most so many samples.
+fn least_of_all(ticks: &[u32], values: &[i16], allowance: usize) -> Fraction {
+    kept_lists(ticks.len())
+        .filter(|list| list.len() <= allowance)
+        .map(|list| list_error(ticks, values, &list))
+        .reduce(|a, b| ordered(a, b).0)
+        .expect("the ends alone are a kept list")
+}
+
+/// The same by tables: the least error of a list from sample 0 to each sample, with at most two samples,
+/// three, and so on. The trace has at least two samples.
+fn least_by_table(ticks: &[u32], values: &[i16], allowance: usize) -> Fraction {
+    let last = ticks.len() - 1;
+    let errors: Vec<Vec<Fraction>> = (0..=last)
+        .map(|j| (0..j).map(|i| link_error(ticks, values, i, j)).collect())
+        .collect();
+    let mut least: Vec<Fraction> = (1..=last).map(|j| errors[j][0]).collect();
+    least.insert(0, Fraction { p: 0, q: 1 });
+    for _ in 3..=allowance.min(last + 1) {
+        let through = |j: usize, i: usize| ordered(least[i], errors[j][i]).1;
+        let best = |j: usize| (0..j).map(|i| through(j, i)).reduce(|a, b| ordered(a, b).0);
+        least = (0..=last).map(|j| best(j).unwrap_or(least[0])).collect();
+    }
+    least[last]
+}
+
 /// How many samples the shortest kept list within the fraction has. Tries every link.
 pub fn fewest(ticks: &[u32], values: &[i16], fraction: Fraction) -> usize {
     // The fewest from sample 0 to each sample.
@@ -497,6 +567,37 @@ mod tests {
                 let by_table = minimum_by_table(samples - 1, ends);
                 assert_eq!(by_table, list, "{trace:?} {tolerance:?}");
                 assert_eq!(fewest(ticks, values, tolerance), list.len());
+            }
+        }
+    }
+
+    #[test]
+    fn least_errors() {
+        let zigzag = [0, 3, 0, 3, 0];
+        for (allowance, p, list) in [
+            (2, 3, &[0, 4][..]),
+            (3, 2, &[0, 3, 4]),
+            (4, 2, &[0, 3, 4]),
+            (5, 0, &[0, 1, 2, 3, 4]),
+            (4_096, 0, &[0, 1, 2, 3, 4]),
+        ] {
+            let least = least(&EVEN, &zigzag, allowance, 5).unwrap();
+            assert_eq!((least.error, &least.list[..]), (fraction(p, 1), list));
+        }
+        assert_eq!(least(&EVEN, &zigzag, 1, 5), Err((5, 0)));
+        assert_eq!(least(&[7], &[7], 2, 1).unwrap().list, [0]);
+    }
+
+    /// Trying every kept list and the tables agree.
+    #[test]
+    fn least_by_both() {
+        let random = &mut Random::new(7);
+        for _ in 0..1_000 {
+            let samples = random.within(2, 10) as usize;
+            let Trace { ticks, values } = trace(random.choose(&KINDS), samples, random);
+            for allowance in 2..=samples + 1 {
+                let error = least_of_all(&ticks, &values, allowance);
+                assert_eq!(least_by_table(&ticks, &values, allowance), error);
             }
         }
     }

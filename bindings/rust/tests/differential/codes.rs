@@ -1,4 +1,5 @@
-use crate::expand;
+use kovrelna_evidence::cases::codes;
+use kovrelna_evidence::compare::expand;
 use kovrelna_reference::generate::Random;
 use kovrelna_reference::record::code_value;
 
@@ -46,11 +47,7 @@ fn by_hand() {
 #[test]
 fn random_codes() {
     let random = &mut Random::new(14);
-    for _ in 0..2_000 {
-        let length = random.within(1, 40) as usize;
-        let codes: Vec<u8> = (0..length).map(|_| random.bits() as u8).collect();
-        expand(&codes, length + random.choose(&[0, 0, 1, 7])).unwrap();
-    }
+    (0..2_000).for_each(|_| codes(random));
 }
 
 /// Lengths and outputs: row 1, then row 10.

@@ -1,5 +1,5 @@
-use crate::{expand, hold, judge, noise, ratio, read, reduce, write};
 use kovrelna::Tolerance;
+use kovrelna_evidence::compare::{expand, hold, judge, least, noise, ratio, read, reduce, write};
 use kovrelna_reference::record::{end, first, long, short, tolerance, Content};
 use kovrelna_reference::{Fraction, Method, Reduced};
 
@@ -81,6 +81,20 @@ fn reductions() {
                 "{values:?} {method:?} {tolerance:?}"
             );
         }
+    }
+}
+
+#[test]
+fn least_errors() {
+    for (allowance, p, list) in [
+        (2, 3, &[0, 4][..]),
+        (3, 2, &[0, 3, 4]),
+        (4, 2, &[0, 3, 4]),
+        (5, 0, &[0, 1, 2, 3, 4]),
+    ] {
+        let least = least(&EVEN, &ZIGZAG, allowance, 5).unwrap();
+        let error = Fraction { p, q: 1 };
+        assert_eq!((least.error, &least.list[..]), (error, list), "{allowance}");
     }
 }
 

@@ -1,5 +1,6 @@
-use crate::{hold, judge, noise, ratio, reduce};
 use kovrelna::Tolerance::Counts;
+use kovrelna_evidence::cases::held_tolerances;
+use kovrelna_evidence::compare::{hold, judge, noise, ratio, reduce};
 use kovrelna_reference::generate::Random;
 use kovrelna_reference::{Row, METHODS};
 
@@ -193,18 +194,7 @@ fn grids() {
 #[test]
 fn random_tolerances() {
     let random = &mut Random::new(4);
-    for _ in 0..200_000 {
-        let bits = f64::from_bits(random.bits());
-        let near = random.below(2 * 128 * 1_024) as f64 / 128.0;
-        let multiple = random.below(2 * 16 * 64) as f64 / 16.0;
-        let most = random.choose(&[2, 64, 1_000, 1_048_577]);
-        let q = random.below(most);
-        let _ = hold(Counts(bits));
-        let _ = hold(noise(near, multiple));
-        let _ = hold(noise(bits, multiple));
-        let _ = hold(noise(near, bits));
-        let _ = hold(ratio(random.below(65_540 * q + 2), q));
-    }
+    (0..200_000).for_each(|_| held_tolerances(random));
 }
 
 /// A tolerance that is held is its own; one that is refused is refused by every call.

@@ -1,46 +1,6 @@
-use crate::{any_tolerance, exactly, judge, ratio};
-use kovrelna_reference::generate::{just_below, kept_list, trace, Random, Trace, KINDS};
-use kovrelna_reference::{link_error, Fraction};
-
-fn error(Trace { ticks, values }: &Trace, link: &[u16]) -> Fraction {
-    link_error(ticks, values, link[0].into(), link[1].into())
-}
-
-/// Judges the list at an arbitrary tolerance, and for one of its links and the worst at the error
-/// itself, one unit of the link's own fraction below it, and just below it. Counts the answers yes
-/// and no.
-fn judge_list(trace: &Trace, list: &[u16], random: &mut Random, answers: &mut [usize; 2]) {
-    let Trace { ticks, values } = trace;
-    let mut tolerances = vec![any_tolerance(random)];
-    let mut links: Vec<&[u16]> = list.windows(2).collect();
-    links.sort_by(|a, b| {
-        let (a, b) = (error(trace, a), error(trace, b));
-        (a.p * b.q).cmp(&(b.p * a.q))
-    });
-    if let Some(&worst) = links.last() {
-        let list_error = error(trace, worst);
-        assert_eq!(judge(ticks, values, list, exactly(list_error)), Ok(None));
-        for link in [worst, random.choose(&links)] {
-            let Fraction { p, q } = error(trace, link);
-            tolerances.push(exactly(Fraction { p, q }));
-            if p > 0 {
-                let run = i128::from(ticks[usize::from(link[1])] - ticks[usize::from(link[0])]);
-                let unit = Fraction {
-                    p: p * (run / q) - 1,
-                    q: run,
-                };
-                tolerances.extend([unit, just_below(Fraction { p, q })].map(exactly));
-            }
-        }
-    }
-    for tolerance in tolerances {
-        match judge(ticks, values, list, tolerance) {
-            Ok(None) => answers[0] += 1,
-            Ok(Some(_)) => answers[1] += 1,
-            Err(row) => panic!("refused {row:?}"),
-        }
-    }
-}
+use kovrelna_evidence::cases::judge_list;
+use kovrelna_evidence::compare::{judge, ratio};
+use kovrelna_reference::generate::{kept_list, trace, Random, Trace, KINDS};
 
 #[test]
 fn random_traces() {

@@ -1,8 +1,8 @@
-use crate::{any_tolerance, exactly, form, read, same, write};
 use kovrelna::Tolerance;
-use kovrelna_reference::generate::{content, just_below, kept_list, trace, Random, Trace, KINDS};
-use kovrelna_reference::record::{encode, end, first, long, short, tolerance, Content};
-use kovrelna_reference::{held, list_error, trace_refusal};
+use kovrelna_evidence::cases::{comparison, random_commands, round_trip};
+use kovrelna_evidence::compare::{exactly, read, same, write};
+use kovrelna_reference::generate::{content, trace, Random, KINDS};
+use kovrelna_reference::record::{encode, end, first, long, short, tolerance};
 
 /// A record's number of samples, or its fault's byte.
 fn samples(record: &[u8]) -> Result<usize, u64> {
@@ -291,29 +291,10 @@ fn extended() {
     }
 }
 
-/// Commands in any order, with any operands.
 #[test]
-fn random_commands() {
+fn commands() {
     let random = &mut Random::new(19);
-    let mut accepted = 0;
-    for _ in 0..30_000 {
-        let mut record = tolerance(random.below(3), 1 + random.below(2));
-        record.extend(first(random.bits() as u32, random.bits() as i16));
-        let mut given = 1;
-        for _ in 0..random.below(5) {
-            given += 1;
-            record.extend(match random.below(24) {
-                0 => tolerance(random.bits() & 0xff_ffff_ffff, random.bits() & 0xff_ffff),
-                1 => first(random.bits() as u32, random.bits() as i16),
-                2 => end(given),
-                3 => vec![random.bits() as u8],
-                4..=13 => short(random.bits() as u8, random.bits() as i8),
-                _ => long(random.below(1 << 20) as u32, random.bits() as i16),
-            });
-        }
-        record.extend(end(given));
-        accepted += usize::from(samples(&record).is_ok());
-    }
+    let accepted = (0..30_000).filter(|_| random_commands(random)).count();
     assert!((5_000..25_000).contains(&accepted), "{accepted}");
 }
 
@@ -337,47 +318,18 @@ fn outputs() {
     }
 }
 
-/// Writes, reads back, and writes what was read.
 #[test]
 fn round_trips() {
     let random = &mut Random::new(21);
-    // Written, refused as 7; short and long steps.
     let mut seen = [0; 4];
     for kind in KINDS {
         for _ in 0..3_000 {
-            let Trace { ticks, values } = trace(kind, random.within(1, 40) as usize, random);
-            let list = kept_list(ticks.len(), random);
-            let error = list_error(&ticks, &values, &list);
-            let mut tolerances = vec![any_tolerance(random), exactly(error)];
-            if error.p > 0 {
-                tolerances.push(exactly(just_below(error)));
-            }
-            for tolerance in tolerances {
-                let place = random.choose(&[0, 0, 1, 30]);
-                let size = place + 6 * list.len() + 13 + random.below(3) as usize;
-                let record = match write(&ticks, &values, &list, tolerance, size, place) {
-                    Ok(record) => record,
-                    Err((7, _)) => {
-                        seen[1] += 1;
-                        continue;
-                    }
-                    Err(row) => panic!("refused {row:?}"),
-                };
-                // A long step has three bytes more than a short one.
-                let long = (record.len() - 16) / 3 - list.len();
-                seen[0] += 1;
-                seen[2] += list.len() - 1 - long;
-                seen[3] += long;
-                let content = read(&record, list.len(), list.len() + 1).unwrap();
-                let kept = |&k: &u16| (ticks[usize::from(k)], values[usize::from(k)]);
-                assert_eq!(content.samples, list.iter().map(kept).collect::<Vec<_>>());
-                assert_eq!(Some(content.tolerance), held(form(tolerance)));
-                let (ticks, values) = content.trace();
-                let all: Vec<u16> = (0..list.len() as u16).collect();
-                let tolerance = exactly(content.tolerance);
-                let again = write(&ticks, &values, &all, tolerance, record.len(), 0);
-                assert_eq!(again, Ok(record));
-            }
+            let trace = trace(kind, random.within(1, 40) as usize, random);
+            let written = round_trip(&trace, random);
+            seen[0] += written.records;
+            seen[1] += written.refused;
+            seen[2] += written.short_steps;
+            seen[3] += written.long_steps;
         }
     }
     assert!(seen.iter().all(|&count| count > 1_000), "{seen:?}");
@@ -433,38 +385,5 @@ fn every_place() {
 #[test]
 fn comparisons() {
     let random = &mut Random::new(23);
-    for _ in 0..3_000 {
-        let samples = random.within(1, 12) as usize;
-        let one = content(samples, random);
-        let record = encode(&one);
-        // The same samples.
-        let tolerance = content(1, random).tolerance;
-        let other = Content {
-            tolerance,
-            ..one.clone()
-        };
-        assert_eq!(same(&record, &encode(&other)), Ok(true));
-        assert_eq!(same(&encode(&other), &record), Ok(true));
-        // Another value, another tick, other ticks, a sample fewer; where that is still a trace.
-        let at = random.below(samples as u64) as usize;
-        let mut others = vec![one.clone(); 4];
-        others[0].samples[at].1 ^= 1 << random.below(16);
-        others[1].samples[at].0 = one.samples[at].0.wrapping_add(1);
-        others[2]
-            .samples
-            .iter_mut()
-            .for_each(|sample| sample.0 ^= 1 << 31);
-        others[3].samples.remove(at);
-        for other in others {
-            let (ticks, values) = other.trace();
-            if trace_refusal(&ticks, &values).is_none() {
-                let other = encode(&other);
-                assert_eq!(same(&record, &other), Ok(false));
-                assert_eq!(same(&other, &record), Ok(false));
-            }
-        }
-        // Random pairs.
-        let other = content(random.within(1, 3) as usize, random);
-        same(&record, &encode(&other)).unwrap();
-    }
+    (0..3_000).for_each(|_| comparison(random));
 }

@@ -1,86 +1,10 @@
-use crate::{any_tolerance, exactly, form, judge, ratio, reduce};
-use kovrelna::Tolerance;
+use kovrelna_evidence::compare::{exactly, ratio, reduce};
+use kovrelna_evidence::reductions::{
+    any_tolerance, greedy, lists, shortest_lists, size_bounds, stop_probes, tolerances,
+};
 use kovrelna_reference::generate::{just_below, trace, Kind, Random, Trace, KINDS};
-use kovrelna_reference::Method::{self, Gallop, Minimum, Walk};
-use kovrelna_reference::{fewest, held, kept_lists, link_error, link_valid, Reduced, METHODS};
-
-/// The methods whose stops are maximal.
-const GREEDY: [Method; 2] = [Walk, Gallop];
-
-/// The probes of a stop that advances by r samples.
-fn stop_probes(r: usize) -> usize {
-    2 * r.ilog2() as usize + 1
-}
-
-/// Calls a greedy method and sees what holds of every greedy list: each link is valid; from the same
-/// start, the link to the sample after each stop is invalid; each stop of r samples takes its
-/// probes.
-fn greedy(method: Method, trace: &Trace, tolerance: Tolerance, room: usize) -> Reduced {
-    let Trace { ticks, values } = trace;
-    let reduced = reduce(method, ticks, values, tolerance, room).unwrap();
-    assert_eq!(judge(ticks, values, &reduced.list, tolerance), Ok(None));
-    let held = held(form(tolerance)).unwrap();
-    let mut probes = 0;
-    for link in reduced.list.windows(2) {
-        let (i, j) = (usize::from(link[0]), usize::from(link[1]));
-        assert!(
-            j == ticks.len() - 1 || !link_valid(ticks, values, i, j + 1, held),
-            "{method:?} stops too early at {j}\n{trace:?}\n{tolerance:?}"
-        );
-        probes += stop_probes(j - i);
-    }
-    if method == Gallop {
-        assert_eq!(reduced.probes, probes, "{trace:?}\n{tolerance:?}");
-    }
-    reduced
-}
-
-/// Calls every method and sees what holds of each list and of all: the links of minimum's list are
-/// valid, and no greedy list is shorter. Returns the lists of walk, gallop and minimum.
-fn lists(trace: &Trace, tolerance: Tolerance, room: usize) -> [Vec<u16>; 3] {
-    let Trace { ticks, values } = trace;
-    let [walk, gallop] = GREEDY.map(|method| greedy(method, trace, tolerance, room).list);
-    let minimum = reduce(Minimum, ticks, values, tolerance, room)
-        .unwrap()
-        .list;
-    assert_eq!(judge(ticks, values, &minimum, tolerance), Ok(None));
-    assert!(
-        minimum.len() <= walk.len() && minimum.len() <= gallop.len(),
-        "{minimum:?} is longer than {walk:?} or {gallop:?}\n{trace:?}\n{tolerance:?}"
-    );
-    [walk, gallop, minimum]
-}
-
-/// No kept list within the tolerance is shorter than minimum's, and none within half the tolerance
-/// is shorter than a greedy one.
-fn size_bounds(trace: &Trace, tolerance: Tolerance, [walk, gallop, minimum]: &[Vec<u16>; 3]) {
-    let tolerance = held(form(tolerance)).unwrap();
-    let fewest = |fraction| fewest(&trace.ticks, &trace.values, fraction);
-    let (whole, half) = (fewest(tolerance), fewest(tolerance.half()));
-    assert_eq!(minimum.len(), whole, "{trace:?}\n{tolerance:?}");
-    assert!(
-        walk.len() <= half && gallop.len() <= half,
-        "{walk:?} or {gallop:?}, {half} at half the tolerance\n{trace:?}\n{tolerance:?}"
-    );
-}
-
-/// An arbitrary tolerance; a link's error, and just below it.
-fn tolerances(Trace { ticks, values }: &Trace, random: &mut Random) -> Vec<Tolerance> {
-    let mut tolerances = vec![any_tolerance(random)];
-    if ticks.len() > 2 {
-        let within = random.below(ticks.len() as u64 - 2) as usize;
-        let i = random.choose(&[0, within]);
-        let longest = ticks.len() - 1 - i;
-        let most = random.choose(&[3, 8, longest]).min(longest);
-        let j = i + random.within(2, most as i64) as usize;
-        let error = link_error(ticks, values, i, j);
-        tolerances.push(exactly(error));
-        if error.p > 0 {
-            tolerances.push(exactly(just_below(error)));
-        }
-    }
-    tolerances
-}
+use kovrelna_reference::Method::Gallop;
+use kovrelna_reference::{link_error, METHODS};
 
 #[test]
 fn random_traces() {
@@ -237,17 +161,7 @@ fn ties() {
                     .collect();
                 for tolerance in tolerances(&trace, random) {
                     let [.., minimum] = lists(&trace, tolerance, samples);
-                    let passed = |list: &Vec<u16>| {
-                        judge(&trace.ticks, &trace.values, list, tolerance) == Ok(None)
-                    };
-                    let shortest: Vec<Vec<u16>> = kept_lists(samples)
-                        .filter(|list| list.len() == minimum.len() && passed(list))
-                        .collect();
-                    assert_eq!(
-                        shortest.iter().max(),
-                        Some(&minimum),
-                        "{trace:?} {tolerance:?}"
-                    );
+                    let shortest = shortest_lists(&trace, tolerance, &minimum);
                     let differ = |end| shortest.iter().any(|list| list[..end] != minimum[..end]);
                     match (differ(2), differ(minimum.len())) {
                         (false, false) => seen[0] += 1,

@@ -1,104 +1,259 @@
-use crate::{judge, noise, ratio, read, reduce, same, write};
+//! Document 01's table of refusals: every row of every call, alone, together with every set of later
+//! rows, and at its limits.
+
 use kovrelna::{Refusal, Tolerance};
-use kovrelna_reference::generate::{damaged, kept_list, trace, Random, Trace, KINDS};
+use kovrelna_evidence::calls::Call::{self, *};
+use kovrelna_evidence::calls::CALLS;
+use kovrelna_evidence::cases::random_faults;
+use kovrelna_evidence::compare::{
+    expand, hold, judge, least, noise, ratio, read, reduce, same, write,
+};
+use kovrelna_reference::generate::Random;
 use kovrelna_reference::record::{end, first, short, tolerance};
-use kovrelna_reference::{Row, METHODS};
+use kovrelna_reference::{Method, Row};
 
-/// The row with which every call that takes a trace refuses this one: the same for all, if any. The
-/// list is a kept list with valid links, and every output has room.
-fn refused(ticks: &[u32], values: &[i16], list: &[u16], tolerance: Tolerance) -> Option<Row> {
-    let row = judge(ticks, values, list, tolerance).err();
-    for method in METHODS {
-        let reduced = reduce(method, ticks, values, tolerance, ticks.len());
-        assert_eq!(reduced.err(), row, "{method:?}");
-    }
-    assert_eq!(write(ticks, values, list, tolerance, 100, 0).err(), row);
-    row
+/// What calls are lent; each takes the fields that concern it.
+#[derive(Clone, Debug)]
+struct Input {
+    ticks: Vec<u32>,
+    values: Vec<i16>,
+    list: Vec<u16>,
+    tolerance: Tolerance,
+    allowance: u64,
+    codes: Vec<u8>,
+    record: Vec<u8>,
+    second: Vec<u8>,
+    /// The entries of the output, and of the second one of read.
+    rooms: (usize, usize),
+    /// The bytes of the writer's buffer.
+    size: usize,
+    place: usize,
 }
 
-#[test]
-fn the_table() {
-    let cases = [
-        (Refusal::Length, 1, 0),
-        (Refusal::Tick(21), 2, 21),
-        (Refusal::Span(31), 3, 31),
-        (Refusal::Tolerance, 4, 0),
-        (Refusal::Allowance, 5, 0),
-        (Refusal::List(61), 6, 61),
-        (Refusal::Link(71), 7, 71),
-        (Refusal::Record(81), 8, 81),
-        (Refusal::SecondRecord(91), 9, 91),
-        (Refusal::Room(101), 10, 101),
-    ];
-    for (refusal, number, returned) in cases {
-        assert_eq!((refusal.number(), refusal.returned()), (number, returned));
-        let words = refusal.to_string();
-        assert!(
-            returned == 0 || words.contains(&returned.to_string()),
-            "{words}"
-        );
+/// Eight samples or codes, and outputs with exactly enough room: no call refuses it.
+fn accepted() -> Input {
+    let mut record = [tolerance(1, 2), first(7, 7)].concat();
+    record.extend(short(1, 1).repeat(7));
+    record.extend(end(8));
+    Input {
+        ticks: (10..18).collect(),
+        values: vec![0; 8],
+        list: vec![0, 7],
+        tolerance: ratio(0, 1),
+        allowance: 2,
+        codes: vec![9; 8],
+        second: record.clone(),
+        record,
+        rooms: (8, 8),
+        size: 22,
+        place: 0,
     }
 }
 
+/// The row with which the call refuses, which is the reference's too; nothing that was lent is changed
+/// then.
+fn refused(call: Call, input: &Input) -> Option<Row> {
+    let Input {
+        ticks,
+        values,
+        list,
+        codes,
+        record,
+        second,
+        ..
+    } = input;
+    let (tolerance, (room, second_room)) = (input.tolerance, input.rooms);
+    let reduced = |method| reduce(method, ticks, values, tolerance, room).err();
+    match call {
+        Hold => hold(tolerance).err(),
+        Judge => judge(ticks, values, list, tolerance).err(),
+        Walk => reduced(Method::Walk),
+        Gallop => reduced(Method::Gallop),
+        Minimum => reduced(Method::Minimum),
+        Least => least(ticks, values, input.allowance, room).err(),
+        Expand => expand(codes, room).err(),
+        Write => write(ticks, values, list, tolerance, input.size, input.place).err(),
+        Read => read(record, room, second_room).err(),
+        Same => same(record, second).err(),
+    }
+}
+
+/// The calls that take a trace, one of up to 4,096 samples, a tolerance, a list; and those with an
+/// output of an entry for each sample or code.
+const TRACES: &[Call] = &[Judge, Walk, Gallop, Minimum, Least, Write];
+const LONG_TRACES: &[Call] = &[Judge, Walk, Gallop, Minimum, Write];
+const TOLERANCES: &[Call] = &[Hold, Judge, Walk, Gallop, Minimum, Write];
+const LISTS: &[Call] = &[Judge, Write];
+const OUTPUTS: &[Call] = &[Walk, Gallop, Minimum, Least, Expand, Read];
+
+/// A fault: the calls that refuse it, the row, and how it comes into an input. For each call and row
+/// there is one. They concern different things, so that any of them can come together.
+type Fault = (&'static [Call], Row, Change);
+type Change = fn(&mut Input);
+
+const FAULTS: &[Fault] = &[
+    (TRACES, (1, 0), |input| input.values.push(0)),
+    (&[Expand], (1, 0), |input| input.codes = vec![9; 4_097]),
+    (TRACES, (2, 6), |input| input.ticks[6] = input.ticks[5]),
+    // Its sample comes before that of row 2.
+    (TRACES, (3, 3), |input| {
+        input.ticks[3..]
+            .iter_mut()
+            .for_each(|tick| *tick += 1_048_576)
+    }),
+    (TOLERANCES, (4, 0), |input| {
+        input.tolerance = Tolerance::Counts(f64::NAN)
+    }),
+    (&[Least], (5, 0), |input| input.allowance = 1),
+    (LISTS, (6, 1), |input| input.list = vec![0, 0, 7]),
+    (&[Write], (7, 0), |input| input.values[3] = 9),
+    (&[Read, Same], (8, 16), |input| input.record.truncate(18)),
+    (&[Same], (9, 19), |input| input.second.truncate(20)),
+    (OUTPUTS, (10, 8), |input| input.rooms.0 = 7),
+    (&[Write], (10, 22), |input| input.size = 21),
+];
+
+/// The faults of this call, in the table's order.
+fn faults(call: Call) -> Vec<(Row, Change)> {
+    let of_call = FAULTS.iter().filter(|(calls, ..)| calls.contains(&call));
+    of_call.map(|&(_, row, fault)| (row, fault)).collect()
+}
+
+/// Every row of every call: alone its number and value are answered.
 #[test]
-fn lengths() {
-    let lengths = [0usize, 1, 2, 4_095, 4_096, 4_097];
-    for samples in lengths {
-        let ticks: Vec<u32> = (0..samples as u32).collect();
-        let mut list: Vec<u16> = vec![0, samples.saturating_sub(1) as u16];
-        list.dedup();
-        for values in lengths {
-            let allowed = samples == values && (1..=4_096).contains(&samples);
-            let values = vec![7; values];
-            let row = refused(&ticks, &values, &list, ratio(0, 1));
-            let expected = (!allowed).then_some((1, 0));
-            assert_eq!(row, expected, "{samples} {}", values.len());
-            if !allowed {
-                // Later rows fail too.
-                let (ticks, none) = (vec![5; samples], ratio(0, 0));
-                assert_eq!(judge(&ticks, &values, &[], none), Err((1, 0)));
-                assert_eq!(write(&ticks, &values, &[], none, 0, 9), Err((1, 0)));
-                for method in METHODS {
-                    assert_eq!(reduce(method, &ticks, &values, none, 0), Err((1, 0)));
-                }
-            }
+fn every_row_of_every_call() {
+    for call in CALLS {
+        assert_eq!(refused(call, &accepted()), None, "{call:?}");
+        let faults = faults(call);
+        let numbers: Vec<u32> = faults.iter().map(|((number, _), _)| *number).collect();
+        assert_eq!(numbers, call.rows(), "{call:?}");
+        for (row, fault) in faults {
+            let mut input = accepted();
+            fault(&mut input);
+            assert_eq!(refused(call, &input), Some(row), "{call:?} {input:?}");
         }
     }
 }
 
+/// Every set of rows of every call: the first row is answered, with its own value.
 #[test]
-fn ticks() {
-    const MAX: u32 = u32::MAX;
-    let cases: [(&[u32], Option<Row>); 17] = [
-        (&[0, 1, 1_048_574, 1_048_575], None),
-        (&[MAX - 3, MAX - 2, MAX - 1, MAX], None),
-        (&[MAX - 1_048_575, MAX - 1_048_574, MAX - 1, MAX], None),
-        (&[7, 8, 1_048_582, 1_048_583], Some((3, 3))),
-        (&[7, 8, 1_048_583, 1_048_584], Some((3, 2))),
-        (&[MAX - 1_048_576, MAX - 2, MAX - 1, MAX], Some((3, 3))),
-        (&[0, MAX - 2, MAX - 1, MAX], Some((3, 1))),
-        (&[0, 0, 1, 2], Some((2, 1))),
-        (&[0, 1, 1, 2], Some((2, 2))),
-        (&[0, 1, 2, 2], Some((2, 3))),
-        (&[0, 5, 4, 3], Some((2, 2))),
-        (&[1, 0, 2, 3], Some((2, 1))),
-        (&[MAX, MAX, MAX, MAX], Some((2, 1))),
-        // Ticks do not wrap around.
-        (&[MAX - 2, MAX - 1, MAX, 0], Some((2, 3))),
-        // Row 2 before row 3, whichever comes first in the trace.
-        (&[0, 2_000_000, 2_000_001, 2_000_001], Some((2, 3))),
-        (&[0, 2_000_000, 1, 2], Some((2, 2))),
-        (&[0, 1, 1, 2_000_000], Some((2, 2))),
-    ];
-    for (ticks, row) in cases {
-        let answer = refused(ticks, &[0; 4], &[0, 3], ratio(0, 1));
-        assert_eq!(answer, row, "{ticks:?}");
+fn the_first_row_is_answered() {
+    for call in CALLS {
+        let faults = faults(call);
+        for set in 1usize..1 << faults.len() {
+            let mut input = accepted();
+            let chosen = faults.iter().enumerate().filter(|(k, _)| set >> k & 1 == 1);
+            chosen.for_each(|(_, (_, fault))| fault(&mut input));
+            let (row, _) = faults[set.trailing_zeros() as usize];
+            assert_eq!(refused(call, &input), Some(row), "{call:?} {input:?}");
+        }
     }
 }
 
+/// An entry of the table: calls, an input, and the row with which they refuse it, if any.
+type Entry = (&'static [Call], Input, Option<Row>);
+
+/// The limits of every row: what is just allowed and what is just refused, and of several faults of one
+/// row the value of the first.
 #[test]
-fn tolerances() {
-    for (tolerance, allowed) in [
+fn limits() {
+    let parts = [
+        lengths(),
+        ticks(),
+        tolerances(),
+        allowances(),
+        lists(),
+        links(),
+        records(),
+        rooms(),
+    ];
+    for (calls, input, row) in parts.concat() {
+        for &call in calls {
+            assert_eq!(refused(call, &input), row, "{call:?} {input:?}");
+        }
+    }
+}
+
+fn lengths() -> Vec<Entry> {
+    let lengths = [0usize, 1, 2, 4_095, 4_096, 4_097];
+    let mut entries: Vec<Entry> = Vec::new();
+    for samples in lengths {
+        let mut list: Vec<u16> = vec![0, samples.saturating_sub(1) as u16];
+        list.dedup();
+        for values in lengths {
+            let allowed = samples == values && (1..=4_096).contains(&samples);
+            let row = (!allowed).then_some((1, 0));
+            let input = Input {
+                ticks: (0..samples as u32).collect(),
+                values: vec![7; values],
+                list: list.clone(),
+                rooms: (samples, samples),
+                size: 100,
+                ..accepted()
+            };
+            entries.push((LONG_TRACES, input.clone(), row));
+            if !allowed {
+                // Later rows fail too.
+                let input = Input {
+                    ticks: vec![5; samples],
+                    list: Vec::new(),
+                    tolerance: ratio(0, 0),
+                    rooms: (0, 0),
+                    size: 0,
+                    ..input
+                };
+                entries.push((LONG_TRACES, input, row));
+            }
+        }
+        let allowed = (1..=4_096).contains(&samples);
+        let input = Input {
+            codes: vec![3; samples],
+            rooms: (samples, 0),
+            ..accepted()
+        };
+        entries.push((&[Expand], input, (!allowed).then_some((1, 0))));
+    }
+    entries
+}
+
+fn ticks() -> Vec<Entry> {
+    const MAX: u32 = u32::MAX;
+    let cases = [
+        ([0, 1, 1_048_574, 1_048_575], None),
+        ([MAX - 3, MAX - 2, MAX - 1, MAX], None),
+        ([MAX - 1_048_575, MAX - 1_048_574, MAX - 1, MAX], None),
+        ([7, 8, 1_048_582, 1_048_583], Some((3, 3))),
+        ([7, 8, 1_048_583, 1_048_584], Some((3, 2))),
+        ([MAX - 1_048_576, MAX - 2, MAX - 1, MAX], Some((3, 3))),
+        ([0, MAX - 2, MAX - 1, MAX], Some((3, 1))),
+        ([0, 0, 1, 2], Some((2, 1))),
+        ([0, 1, 1, 2], Some((2, 2))),
+        ([0, 1, 2, 2], Some((2, 3))),
+        ([0, 5, 4, 3], Some((2, 2))),
+        ([1, 0, 2, 3], Some((2, 1))),
+        ([MAX, MAX, MAX, MAX], Some((2, 1))),
+        // Ticks do not wrap around.
+        ([MAX - 2, MAX - 1, MAX, 0], Some((2, 3))),
+        // Row 2 before row 3, whichever comes first in the trace.
+        ([0, 2_000_000, 2_000_001, 2_000_001], Some((2, 3))),
+        ([0, 2_000_000, 1, 2], Some((2, 2))),
+        ([0, 1, 1, 2_000_000], Some((2, 2))),
+    ];
+    let entry = |(ticks, row): ([u32; 4], _)| {
+        let input = Input {
+            ticks: ticks.to_vec(),
+            values: vec![0; 4],
+            list: vec![0, 3],
+            size: 100,
+            ..accepted()
+        };
+        (TRACES, input, row)
+    };
+    cases.map(entry).to_vec()
+}
+
+fn tolerances() -> Vec<Entry> {
+    let cases = [
         (ratio(0, 1), true),
         (ratio(65_535 * 1_048_575, 1_048_575), true),
         (ratio(65_535 * 1_048_575 + 1, 1_048_575), false),
@@ -113,15 +268,50 @@ fn tolerances() {
         (noise(1_023.0, 63.125), false),
         (noise(f64::INFINITY, 0.0), false),
         (noise(0.0, -0.125), false),
-    ] {
-        let row = (!allowed).then_some((4, 0));
-        let answer = refused(&[0, 1, 2], &[0; 3], &[0, 2], tolerance);
-        assert_eq!(answer, row, "{tolerance:?}");
-    }
+    ];
+    let entry = |(tolerance, allowed): (_, bool)| {
+        let input = Input {
+            tolerance,
+            ..accepted()
+        };
+        (TOLERANCES, input, (!allowed).then_some((4, 0)))
+    };
+    cases.map(entry).to_vec()
 }
 
-#[test]
-fn lists() {
+/// Allowances, and the lengths of traces for least.
+fn allowances() -> Vec<Entry> {
+    let mut entries: Vec<Entry> = Vec::new();
+    for (allowance, allowed) in [
+        (0, false),
+        (1, false),
+        (2, true),
+        (8, true),
+        (4_096, true),
+        (4_097, false),
+        (1 << 32 | 2, false),
+        (u64::MAX, false),
+    ] {
+        let input = Input {
+            allowance,
+            ..accepted()
+        };
+        entries.push((&[Least], input, (!allowed).then_some((5, 0))));
+    }
+    for samples in [0, 1, 2, 255, 256, 257, 4_096, 4_097] {
+        let allowed = (1..=256).contains(&samples);
+        let input = Input {
+            ticks: (0..samples as u32).collect(),
+            values: vec![7; samples],
+            rooms: (samples, 0),
+            ..accepted()
+        };
+        entries.push((&[Least], input, (!allowed).then_some((1, 0))));
+    }
+    entries
+}
+
+fn lists() -> Vec<Entry> {
     let cases: [(&[u16], Option<u64>); 27] = [
         (&[0, 5], None),
         (&[0, 2, 5], None),
@@ -158,52 +348,71 @@ fn lists() {
         (&[0, 2, 1, 6], Some(2)),
         (&[0, 1, 2, 3, 4, 5, 6, 6, 0], Some(6)),
     ];
-    let ticks = [0, 1, 2, 3, 4, 5];
+    let mut entries: Vec<Entry> = Vec::new();
     for (list, position) in cases {
         let row = position.map(|position| (6, position));
-        let answers = |values: &[i16; 6], size| {
-            let judged = judge(&ticks, values, list, ratio(0, 1)).err();
-            let written = write(&ticks, values, list, ratio(0, 1), size, 0).err();
-            [judged, written]
+        let input = Input {
+            ticks: (0..6).collect(),
+            values: vec![0; 6],
+            list: list.to_vec(),
+            size: 50,
+            ..accepted()
         };
-        assert_eq!(answers(&[0; 6], 50), [row; 2], "{list:?}");
+        entries.push((LISTS, input.clone(), row));
         if row.is_some() {
             // Invalid links before the bad entry do not matter, nor does the room.
-            assert_eq!(answers(&[0, 9, 0, 8, 1, 9], 0), [row; 2], "{list:?}");
+            let values = vec![0, 9, 0, 8, 1, 9];
+            let input = Input {
+                values,
+                size: 0,
+                ..input
+            };
+            entries.push((LISTS, input, row));
         }
     }
+    entries.extend(lists_of_the_shortest_and_longest_traces());
+    entries
 }
 
-#[test]
-fn lists_of_the_shortest_and_longest_traces() {
-    let one: [(&[u16], Result<_, Row>); 5] = [
-        (&[0], Ok(None)),
-        (&[], Err((6, 0))),
-        (&[1], Err((6, 0))),
-        (&[0, 0], Err((6, 1))),
-        (&[0, 1], Err((6, 1))),
+fn lists_of_the_shortest_and_longest_traces() -> Vec<Entry> {
+    let one: [(&[u16], Option<Row>); 5] = [
+        (&[0], None),
+        (&[], Some((6, 0))),
+        (&[1], Some((6, 0))),
+        (&[0, 0], Some((6, 1))),
+        (&[0, 1], Some((6, 1))),
     ];
-    for (list, expected) in one {
-        assert_eq!(judge(&[u32::MAX], &[-1], list, ratio(0, 1)), expected);
-    }
-    let ticks: Vec<u32> = (0..4_096).collect();
-    let values: Vec<i16> = (0..4_096).map(|k| k * 7 % 50).collect();
-    let every: Vec<u16> = (0..=u16::MAX).collect();
-    for (length, expected) in [
-        (4_096, Ok(None)),
-        (4_095, Err((6, 4_095))),
-        (4_097, Err((6, 4_096))),
-        (65_536, Err((6, 4_096))),
-    ] {
-        let answer = judge(&ticks, &values, &every[..length], ratio(0, 1));
-        assert_eq!(answer, expected, "{length}");
-    }
+    let shortest = one.map(|(list, row)| {
+        let input = Input {
+            ticks: vec![u32::MAX],
+            values: vec![-1],
+            list: list.to_vec(),
+            ..accepted()
+        };
+        (LISTS, input, row)
+    });
+    let most = [
+        (4_096, None),
+        (4_095, Some((6, 4_095))),
+        (4_097, Some((6, 4_096))),
+        (65_536, Some((6, 4_096))),
+    ];
+    let longest = most.map(|(length, row)| {
+        let input = Input {
+            ticks: (0..4_096).collect(),
+            values: (0..4_096).map(|k| k * 7 % 50).collect(),
+            list: (0..=u16::MAX).take(length).collect(),
+            size: 24_589,
+            ..accepted()
+        };
+        (LISTS, input, row)
+    });
+    [shortest.to_vec(), longest.to_vec()].concat()
 }
 
 /// Of several invalid links the writer names the first.
-#[test]
-fn links() {
-    let (ticks, values): (Vec<u32>, Vec<i16>) = (0..9).zip([0, 1, 0, 2, 0, 3, 0, 4, 0]).unzip();
+fn links() -> Vec<Entry> {
+    let mut entries: Vec<Entry> = Vec::new();
     for (p, link) in [
         (0, Some(0)),
         (1, Some(1)),
@@ -213,127 +422,110 @@ fn links() {
     ] {
         let row = link.map(|link| (7, link));
         for (size, room) in [(31, None), (30, Some((10, 31))), (0, Some((10, 31)))] {
-            let answer = write(&ticks, &values, &[0, 2, 4, 6, 8], ratio(p, 1), size, 0);
-            assert_eq!(answer.err(), row.or(room), "{p} {size}");
+            let input = Input {
+                ticks: (0..9).collect(),
+                values: vec![0, 1, 0, 2, 0, 3, 0, 4, 0],
+                list: vec![0, 2, 4, 6, 8],
+                tolerance: ratio(p, 1),
+                size,
+                ..accepted()
+            };
+            entries.push((&[Write], input, row.or(room)));
         }
     }
+    entries
 }
 
-/// Rows 1 to 4 as `faulty` brings them about.
-const ROWS: [Row; 4] = [(1, 0), (2, 6), (3, 3), (4, 0)];
-
-/// Eight samples and a tolerance with this set of faults. Row 3's sample comes before row 2's.
-fn faulty(faults: usize) -> (Trace, Tolerance) {
-    let mut ticks: Vec<u32> = (10..18).collect();
-    let mut values = vec![0; 8];
-    let mut tolerance = ratio(0, 1);
-    if faults & 1 != 0 {
-        values.push(0);
-    }
-    if faults & 4 != 0 {
-        ticks[3..].iter_mut().for_each(|tick| *tick += 1_048_576);
-    }
-    if faults & 2 != 0 {
-        ticks[6] = ticks[5];
-    }
-    if faults & 8 != 0 {
-        tolerance = Tolerance::Counts(f64::NAN);
-    }
-    (Trace { ticks, values }, tolerance)
-}
-
-/// Every set of faults among rows 1 to 4 and a later one: the lowest row answers, with its own value.
-#[test]
-fn the_first_row_answers() {
-    for faults in 0..1 << ROWS.len() {
-        let (Trace { ticks, values }, tolerance) = faulty(faults);
-        let first = ROWS.get(faults.trailing_zeros() as usize).copied();
-        for (list, row) in [(&[0, 7][..], None), (&[0, 0, 7], Some((6, 1)))] {
-            let answer = judge(&ticks, &values, list, tolerance);
-            assert_eq!(answer.err(), first.or(row), "faults {faults:b} {list:?}");
-        }
-        for (room, row) in [(8, None), (7, Some((10, 8))), (0, Some((10, 8)))] {
-            for method in METHODS {
-                let answer = reduce(method, &ticks, &values, tolerance, room);
-                assert_eq!(answer.err(), first.or(row), "faults {faults:b} {room}");
-            }
-        }
-        // The writer's later rows, in every set.
-        for later in 0..8usize {
-            let list = [&[0, 7][..], &[0, 0, 7]][later & 1];
-            let mut values = values.clone();
-            values[3] = [0, 9][later >> 1 & 1];
-            let size = [22, 21][later >> 2 & 1];
-            let row = [(6, 1), (7, 0), (10, 22)].get(later.trailing_zeros() as usize);
-            let answer = write(&ticks, &values, list, tolerance, size, 0);
-            let expected = first.or(row.copied());
-            assert_eq!(answer.err(), expected, "faults {faults:b} {later:b}");
-        }
-    }
-}
-
-/// Rows 8 and 10 of read, 8 and 9 of same, alone and together.
-#[test]
-fn records() {
-    let record = [tolerance(1, 2), first(7, 7), short(1, 1), end(2)].concat();
-    let cut = &record[..18];
-    for (ticks, values) in [(2, 2), (1, 2), (2, 1), (0, 0), (9, 0)] {
-        let row = (ticks < 2 || values < 2).then_some((10, 2));
-        assert_eq!(read(&record, ticks, values).err(), row, "{ticks} {values}");
-        assert_eq!(read(cut, ticks, values).err(), Some((8, 16)));
-    }
-    assert_eq!(same(&record, &record), Ok(true));
-    assert_eq!(same(cut, &record), Err((8, 16)));
-    assert_eq!(same(&record, cut), Err((9, 16)));
-    assert_eq!(same(cut, &record[..20]), Err((8, 16)));
-    assert_eq!(same(&record[..20], cut), Err((8, 19)));
-    assert_eq!(same(&[], &[]), Err((8, 0)));
-    assert_eq!(same(&record, &[]), Err((9, 0)));
-}
-
-#[test]
-fn random_faults() {
-    let random = &mut Random::new(3);
-    // How often judge, the reductions and write answer with each row; 0 for none.
-    let mut seen = [[0; 11]; 3];
-    for _ in 0..20_000 {
-        let samples = random.within(1, 12) as usize;
-        let Trace { mut ticks, values } = trace(random.choose(&KINDS), samples, random);
-        let mut list = kept_list(samples, random);
-        let mut tolerance = ratio(random.below(10), 1);
-        let at = random.below(samples as u64) as usize;
-        let mut room = samples + random.below(3) as usize;
-        for _ in 0..random.below(3) {
-            match random.below(7) {
-                0 => drop(ticks.pop()),
-                1 => ticks.push(u32::MAX),
-                2 => ticks[..=at].rotate_right(1),
-                3 => ticks[at..].iter_mut().for_each(|tick| *tick |= 1 << 20),
-                4 => list = damaged(&list, samples, random),
-                5 => room = at,
-                _ => tolerance = random.choose(&[ratio(1, 0), noise(0.0, -1.0)]),
-            }
-            if ticks.len() != samples {
-                break;
-            }
-        }
-        let number = |row: Option<Row>| row.map_or(0, |(number, _)| number as usize);
-        let judged = judge(&ticks, &values, &list, tolerance);
-        seen[0][number(judged.err())] += 1;
-        for method in METHODS {
-            let reduced = reduce(method, &ticks, &values, tolerance, room);
-            seen[1][number(reduced.err())] += 1;
-        }
-        let size = 6 * room + 13;
-        let written = write(&ticks, &values, &list, tolerance, size, at);
-        seen[2][number(written.err())] += 1;
-    }
-    let rows: [&[usize]; 3] = [
-        &[0, 1, 2, 3, 4, 6],
-        &[0, 1, 2, 3, 4, 10],
-        &[0, 1, 2, 3, 4, 6, 7, 10],
+fn records() -> Vec<Entry> {
+    let whole = accepted().record;
+    let cases: [(&[u8], &[u8], Option<Row>); 7] = [
+        (&whole, &whole, None),
+        (&whole[..18], &whole, Some((8, 16))),
+        (&whole, &whole[..18], Some((9, 16))),
+        (&whole[..18], &whole[..20], Some((8, 16))),
+        (&whole[..20], &whole[..18], Some((8, 19))),
+        (&[], &[], Some((8, 0))),
+        (&whole, &[], Some((9, 0))),
     ];
-    for (seen, rows) in seen.iter().zip(rows) {
-        assert!(rows.iter().all(|&row| seen[row] > 500), "{seen:?}");
+    let entry = |(record, second, row): (&[u8], &[u8], _)| -> Entry {
+        let input = Input {
+            record: record.to_vec(),
+            second: second.to_vec(),
+            ..accepted()
+        };
+        (&[Same], input, row)
+    };
+    cases.map(entry).to_vec()
+}
+
+fn rooms() -> Vec<Entry> {
+    let rooms = |calls, rooms, enough: bool| -> Entry {
+        let input = Input {
+            rooms,
+            ..accepted()
+        };
+        (calls, input, (!enough).then_some((10, 8)))
+    };
+    let places = |size, place, enough: bool| -> Entry {
+        let input = Input {
+            size,
+            place,
+            ..accepted()
+        };
+        (&[Write], input, (!enough).then_some((10, 22)))
+    };
+    vec![
+        rooms(OUTPUTS, (8, 8), true),
+        rooms(OUTPUTS, (9, 8), true),
+        rooms(OUTPUTS, (7, 9), false),
+        rooms(OUTPUTS, (0, 0), false),
+        rooms(&[Read], (8, 9), true),
+        rooms(&[Read], (8, 7), false),
+        rooms(&[Read], (9, 0), false),
+        places(23, 1, true),
+        places(22, 1, false),
+        places(0, 0, false),
+        // A place past the end counts as an empty part.
+        places(22, 23, false),
+        places(22, usize::MAX, false),
+    ]
+}
+
+/// Numbers, values and words.
+#[test]
+fn numbers() {
+    let cases = [
+        (Refusal::Length, 1, 0),
+        (Refusal::Tick(21), 2, 21),
+        (Refusal::Span(31), 3, 31),
+        (Refusal::Tolerance, 4, 0),
+        (Refusal::Allowance, 5, 0),
+        (Refusal::List(61), 6, 61),
+        (Refusal::Link(71), 7, 71),
+        (Refusal::Record(81), 8, 81),
+        (Refusal::SecondRecord(91), 9, 91),
+        (Refusal::Room(101), 10, 101),
+    ];
+    for (refusal, number, returned) in cases {
+        assert_eq!((refusal.number(), refusal.returned()), (number, returned));
+        let words = refusal.to_string();
+        assert!(
+            returned == 0 || words.contains(&returned.to_string()),
+            "{words}"
+        );
+    }
+}
+
+#[test]
+fn faults_at_random() {
+    let random = &mut Random::new(3);
+    (0..20_000).for_each(|_| random_faults(random));
+    for &call in TRACES {
+        let counts = call.counts();
+        let seen = |row: u32| counts[row as usize] > 50;
+        assert!(
+            seen(0) && call.rows().iter().all(|&row| seen(row)),
+            "{call:?} {counts:?}"
+        );
     }
 }

@@ -1,0 +1,53 @@
+#!/bin/sh
+# Installs into a temporary place, builds example.c there through pkg-config, with the shared
+# library and with the archive, and compares what it prints with example.txt. Then checks what the
+# shared library exports, that every version is the same, and that make uninstall leaves nothing.
+# Run from the repository's root: test-install.sh VERSION.
+set -eu
+version=$1
+work=$(mktemp -d)
+trap 'rm -rf "$work"' EXIT
+prefix=$work/prefix
+
+fail() {
+  echo "install: $*" >&2
+  exit 1
+}
+
+# The files below a folder, one a line.
+files() { (cd "$1" && find . ! -type d | sort); }
+
+make --no-print-directory install PREFIX="$prefix" >/dev/null
+export PKG_CONFIG_PATH="$prefix/lib/pkgconfig"
+found=$(pkg-config --modversion kovrelna)
+[ "$found" = "$version" ] || fail "pkg-config has version $found, not $version"
+
+cflags="-std=c99 -O2 -Wall -Wextra -Wpedantic -Werror $(pkg-config --cflags kovrelna)"
+${CC:-cc} $cflags bindings/c/example.c $(pkg-config --libs kovrelna) -o "$work/shared"
+${CC:-cc} $cflags bindings/c/example.c "$(pkg-config --variable=archive kovrelna)" -o "$work/static"
+LD_LIBRARY_PATH="$prefix/lib" "$work/shared" | diff bindings/c/example.txt - \
+  || fail "the example prints something else with the shared library"
+"$work/static" | diff bindings/c/example.txt - \
+  || fail "the example prints something else with the archive"
+if "$work/shared" >/dev/null 2>&1; then fail "the example does not load the shared library"; fi
+
+# Exported: what the header declares. Needed from outside: no allocation.
+sed -n 's/^kovrelna_[a-z]* \(kovrelna_[a-z]*\)(.*/\1/p' "$prefix/include/kovrelna.h" | sort \
+  >"$work/declared"
+nm -D --defined-only "$prefix/lib/libkovrelna.so" | sed 's/.* //' | sort >"$work/exported"
+diff "$work/declared" "$work/exported" || fail "the header declares other calls than are exported"
+nm -D --undefined-only "$prefix/lib/libkovrelna.so" | sed 's/@.*//' >"$work/needed"
+if grep -wE 'malloc|calloc|realloc|free' "$work/needed"; then fail "the library allocates"; fi
+
+for file in bindings/rust/Cargo.toml bindings/python/pyproject.toml; do
+  grep -qx "version = \"$version\"" "$file" || fail "$file has another version than $version"
+done
+
+make --no-print-directory install DESTDIR="$work/stage" PREFIX=/opt/kovrelna >/dev/null
+files "$prefix" >"$work/installed"
+files "$work/stage/opt/kovrelna" | diff "$work/installed" - || fail "DESTDIR has other files"
+grep -qx 'prefix=/opt/kovrelna' "$work/stage/opt/kovrelna/lib/pkgconfig/kovrelna.pc" \
+  || fail "DESTDIR is in kovrelna.pc"
+make --no-print-directory uninstall PREFIX="$prefix" >/dev/null
+[ -z "$(files "$prefix")" ] || fail "uninstall leaves $(files "$prefix")"
+echo "install: ok"

@@ -1,0 +1,471 @@
+"""Reduced traces: the proved library Kovrelna, over its shared library.
+
+- `Ratio`, `Counts`, `Noise`, `hold`: a tolerance, and the fraction it is held as.
+- `Verdict`, `judge`: whether every link of a proposed list is valid.
+- `walk`, `Galloped`, `gallop`, `minimum`: kept lists with every link valid.
+- `Least`, `least`: the least error that so many samples allow.
+- `expand`: the values of range codes.
+- `write`, `Content`, `read`, `same`: records of kept samples.
+- `Refusal`: why a call declined.
+
+A trace is two lists of equal length: ticks (unsigned, 32 bits) and values (ADC counts; signed, 16
+bits). It has 1 to 4,096 samples, numbered from 0. Ticks rise strictly; the last minus the first is
+at most 1,048,575.
+
+A link goes from sample i to a later sample j. Its deviation at a sample k between them is the
+vertical distance from value k to the straight line through samples i and j, an exact fraction. The
+link's error is the greatest of these, 0 where nothing lies between. A link is valid if its error is
+at most the tolerance; equality is valid.
+
+A kept list (unsigned, 16 bits) begins with sample 0, rises strictly and ends with the last sample.
+Its links join neighbouring entries and are counted from 0.
+
+Lists are lent as buffers and not copied: arrays of numpy, array.array, bytes, bytearray,
+memoryview, or anything else with a one-dimensional, contiguous, aligned buffer of these elements.
+Other elements raise TypeError; nothing is converted. Only a list, a tuple or a range of whole
+numbers is copied into such a buffer; a number that does not fit raises OverflowError.
+
+An output is a buffer that the caller lends, or is made anew: an array of numpy if the ticks (the
+codes, the record) are one, otherwise an array.array. Of a lent output only the entries used change,
+and the call returns a view of these. It overlaps no other list; one that does raises ValueError.
+
+A call may run at the same time as others on any threads. Nothing else may write to a lent list
+before the call returns.
+
+>>> ticks, values = [0, 1, 3], [0, 1, 1]
+>>> kept = walk(ticks, values, Ratio(4, 6))
+>>> kept.tolist()
+[0, 2]
+>>> judge(ticks, values, kept, Ratio(665, 1000))
+Verdict(passed=False, link=0)
+>>> judge(ticks, values, [0, 1], Ratio(4, 6))
+Traceback (most recent call last):
+    ...
+kovrelna.Refusal: refused as 6: no kept list: it is wrong or ends at position 2
+"""
+
+import numbers
+import operator
+from dataclasses import dataclass
+from fractions import Fraction
+from typing import Any, NamedTuple, Optional, Union
+
+from . import _library
+from ._lists import BYTE, ENTRY, TICK, VALUE, Loan, new, used
+
+__all__ = [
+    "Content",
+    "Counts",
+    "Galloped",
+    "Least",
+    "Noise",
+    "Ratio",
+    "Refusal",
+    "Verdict",
+    "expand",
+    "gallop",
+    "hold",
+    "judge",
+    "least",
+    "minimum",
+    "read",
+    "same",
+    "walk",
+    "write",
+]
+
+# The most samples that a trace has.
+_SAMPLES = 4096
+
+# A buffer, or a list, a tuple or a range of whole numbers.
+Lent = Any
+# A buffer that can be written.
+Output = Any
+
+
+class Refusal(ValueError):
+    """A call declined. It checks the rows that concern it in rising number and answers with the
+    first that fits; a refused call leaves every list as it was.
+
+    | Number | Cause | Value |
+    |---|---|---|
+    | 1 | no samples or codes, too many (for `least`, over 256), or not as many values as ticks | 0 |
+    | 2 | a tick is not above the one before | its sample |
+    | 3 | the span is too long | the first sample over 1,048,575 ticks after the first |
+    | 4 | the tolerance is not allowed | 0 |
+    | 5 | the allowance is below 2 or above 4,096 | 0 |
+    | 6 | the proposed list is no kept list | the position of the first bad entry; the list's length \
+if it only stops short; 0 if it is empty |
+    | 7 | the list to be written has an invalid link | the position of the first |
+    | 8 | the record is faulty | the fault's byte |
+    | 9 | the second record of a comparison is faulty | the fault's byte |
+    | 10 | the output is too short | the entries or bytes needed |
+
+    A bad entry is a first one that is not 0, one that is not above the entry before it, or one beyond
+    the trace.
+
+    >>> try:
+    ...     walk([5, 5], [0, 0], 1)
+    ... except Refusal as refusal:
+    ...     print(refusal.number, refusal.value)
+    ...     print(refusal)
+    2 1
+    refused as 2: the tick of sample 1 is not above the one before
+    """
+
+    _WORDS = {
+        1: "no samples or codes, too many, or not as many values as ticks",
+        2: "the tick of sample {} is not above the one before",
+        3: "sample {} is over 1,048,575 ticks after the first",
+        4: "the tolerance is not allowed",
+        5: "the allowance is below 2 or above 4,096",
+        6: "no kept list: it is wrong or ends at position {}",
+        7: "link {} is invalid",
+        8: "the record is faulty at byte {}",
+        9: "the second record is faulty at byte {}",
+        10: "the output is too short: {} entries or bytes are needed",
+    }
+
+    def __init__(self, number: int, value: int) -> None:
+        super().__init__(number, value)
+        self.number = number
+        self.value = value
+
+    def __str__(self) -> str:
+        return f"refused as {self.number}: {self._WORDS[self.number].format(self.value)}"
+
+
+def _check(answer: Any) -> None:
+    if answer.number != 0:
+        raise Refusal(answer.number, answer.value)
+
+
+@dataclass(frozen=True)
+class Ratio:
+    """The tolerance p/q; `q` from 1 to 1,048,575, `p` from 0 to 65,535 times `q`."""
+
+    p: int
+    q: int
+
+
+@dataclass(frozen=True)
+class Counts:
+    """A tolerance from 0 to 65,535 of which 64 times is whole."""
+
+    counts: float
+
+
+@dataclass(frozen=True)
+class Noise:
+    """A channel's noise times the multiple wanted, exactly: the noise from 0 to 1,023 and 64 times
+    it whole, the multiple from 0 to 63 and 8 times it whole."""
+
+    noise: float
+    multiple: float
+
+
+# A whole number and a Fraction are ratios, a float is counts.
+Tolerance = Union[Ratio, Counts, Noise, int, Fraction, float]
+
+
+def _tolerance(tolerance: Tolerance) -> _library.Tolerance:
+    if isinstance(tolerance, Ratio):
+        return _ratio(tolerance.p, tolerance.q)
+    if isinstance(tolerance, Counts):
+        return _library.Tolerance(1, 0, 0, tolerance.counts, 0.0)
+    if isinstance(tolerance, Noise):
+        return _library.Tolerance(2, 0, 0, tolerance.noise, tolerance.multiple)
+    if isinstance(tolerance, numbers.Rational):
+        return _ratio(tolerance.numerator, tolerance.denominator)
+    if isinstance(tolerance, numbers.Real):
+        return _library.Tolerance(1, 0, 0, float(tolerance), 0.0)
+    raise TypeError(
+        "tolerance must be Ratio, Counts, Noise, a whole number, a Fraction or a float, "
+        f"not {type(tolerance).__name__}"
+    )
+
+
+def _ratio(p: Any, q: Any) -> _library.Tolerance:
+    """A ratio that does not fit the library's fields is lent as 0/0, which is not allowed
+    either."""
+    p, q = operator.index(p), operator.index(q)
+    if not (0 <= p < 2**64 and 0 <= q < 2**64):
+        p, q = 0, 0
+    return _library.Tolerance(0, p, q, 0.0, 0.0)
+
+
+def hold(tolerance: Tolerance) -> Fraction:
+    """The tolerance as the reduced fraction under which it is held. Refusal: 4.
+
+    >>> hold(Noise(1.5, 2.125))
+    Fraction(51, 16)
+    >>> hold(0.75)
+    Fraction(3, 4)
+    >>> hold(Counts(float("nan")))
+    Traceback (most recent call last):
+        ...
+    kovrelna.Refusal: refused as 4: the tolerance is not allowed
+    """
+    answer = _library.hold(_tolerance(tolerance))
+    _check(answer)
+    return Fraction(answer.p, answer.q)
+
+
+@dataclass(frozen=True)
+class Verdict:
+    """What `judge` says of a kept list. True exactly if it has passed."""
+
+    passed: bool
+    """Whether every link is valid."""
+    link: Optional[int]
+    """The position of the first invalid link, counted from 0, if there is one."""
+
+    def __bool__(self) -> bool:
+        return self.passed
+
+
+def judge(ticks: Lent, values: Lent, proposed: Lent, tolerance: Tolerance) -> Verdict:
+    """Whether every link of the proposed list is valid on this trace. Refusals: 1, 2, 3, 4, 6.
+
+    >>> ticks, values = range(5), [0, 3, 0, 3, 0]
+    >>> judge(ticks, values, [0, 3, 4], 2)
+    Verdict(passed=True, link=None)
+    >>> judge(ticks, values, [0, 1, 2, 4], 2)
+    Verdict(passed=False, link=2)
+    """
+    with Loan() as loan:
+        answer = _library.judge(
+            *loan.input("ticks", ticks, TICK),
+            *loan.input("values", values, VALUE),
+            *loan.input("proposed", proposed, ENTRY),
+            _tolerance(tolerance),
+        )
+    _check(answer)
+    return Verdict(True, None) if answer.passed else Verdict(False, answer.value)
+
+
+def _reduce(call: Any, ticks: Lent, values: Lent, third: Any, out: Optional[Output]) -> Any:
+    """The answer of a call that keeps samples, and the kept list."""
+    with Loan() as loan:
+        trace = loan.input("ticks", ticks, TICK) + loan.input("values", values, VALUE)
+        room = new(ENTRY, min(trace[1], _SAMPLES), ticks) if out is None else out
+        answer = call(*trace, third, *loan.output("out", room, ENTRY))
+    _check(answer)
+    return answer, used(room, ENTRY, 0, answer.value, out is None)
+
+
+def walk(ticks: Lent, values: Lent, tolerance: Tolerance, out: Optional[Output] = None) -> Any:
+    """From sample i, beginning with 0, tests the links to i+1, i+2, ... and keeps the sample before
+    the first invalid one, or the last sample if none is invalid; goes on from there.
+
+    Returns the kept list. No kept list whose links are all valid at half the tolerance has fewer
+    samples. Refusals: 1, 2, 3, 4, and 10 if `out` has fewer entries than the trace has samples.
+
+    >>> from array import array
+    >>> ticks, values = range(5), [0, 2, 0, -2, 0]
+    >>> walk(ticks, values, 2)
+    array('H', [0, 2, 4])
+    >>> out = array("H", [9, 9, 9, 9, 9, 9])
+    >>> walk(ticks, values, 2, out).tolist()
+    [0, 2, 4]
+    >>> out
+    array('H', [0, 2, 4, 9, 9, 9])
+    """
+    return _reduce(_library.walk, ticks, values, _tolerance(tolerance), out)[1]
+
+
+class Galloped(NamedTuple):
+    """What `gallop` returns."""
+
+    kept: Any
+    """The kept list."""
+    probes: int
+    """The probe total."""
+
+
+def gallop(
+    ticks: Lent, values: Lent, tolerance: Tolerance, out: Optional[Output] = None
+) -> Galloped:
+    """From sample i, beginning with 0, probes the links to i+2, i+4, i+8, ... until one is invalid.
+    Low is the last valid offset, or 1; high is the invalid one. While low < high - 1, probes the
+    offset (low + high) / 2, rounded down, and moves low there if that link is valid, high if not.
+    Keeps sample i + low and goes on from there.
+
+    A probe past the last sample is invalid, and counts. A stop that advances by r samples takes at
+    most 2 floor(log2 r) + 1 probes. The promise of the kept list and the refusals are those of
+    `walk`.
+
+    >>> gallop(range(5), [0, 2, 0, -2, 0], 2)
+    Galloped(kept=array('H', [0, 4]), probes=5)
+    """
+    answer, kept = _reduce(_library.gallop, ticks, values, _tolerance(tolerance), out)
+    return Galloped(kept, answer.probes)
+
+
+def minimum(ticks: Lent, values: Lent, tolerance: Tolerance, out: Optional[Output] = None) -> Any:
+    """The kept list of valid links with fewest samples. Of several, the one whose second sample is
+    latest, then its third, and so on. The refusals are those of `walk`.
+
+    >>> minimum(range(5), [0, 3, 0, 3, 0], 2)
+    array('H', [0, 3, 4])
+    """
+    return _reduce(_library.minimum, ticks, values, _tolerance(tolerance), out)[1]
+
+
+class Least(NamedTuple):
+    """What `least` returns."""
+
+    kept: Any
+    """The kept list."""
+    error: Fraction
+    """Its error: the least there is."""
+
+
+def least(ticks: Lent, values: Lent, allowance: int, out: Optional[Output] = None) -> Least:
+    """The least error over the kept lists of at most `allowance` samples, and the kept list that
+    `minimum` finds at that error. Traces here have at most 256 samples.
+
+    Refusals: 1, 2, 3, 5, and 10 if `out` has fewer entries than the trace has samples.
+
+    >>> least(range(5), [0, 3, 0, 3, 0], 3)
+    Least(kept=array('H', [0, 3, 4]), error=Fraction(2, 1))
+    """
+    allowance = operator.index(allowance)
+    # One that does not fit the library's number is lent as 0, which is not allowed either.
+    lent = allowance if 0 <= allowance < 2**64 else 0
+    answer, kept = _reduce(_library.least, ticks, values, lent, out)
+    return Least(kept, Fraction(answer.p, answer.q))
+
+
+def expand(codes: Lent, out: Optional[Output] = None) -> Any:
+    """The value of each range code: a code is one byte, 32 e + m with m below 32, and its value is
+    2^e times (m + 32), minus 32. Every code is legal. Refusals: 1 if there are no codes or more
+    than 4,096; 10 with the number of values.
+
+    >>> expand(bytes([31, 32, 63, 64, 255]))
+    array('h', [31, 32, 94, 96, 8032])
+    """
+    with Loan() as loan:
+        lent = loan.input("codes", codes, BYTE)
+        room = new(VALUE, min(lent[1], _SAMPLES), codes) if out is None else out
+        answer = _library.expand(*lent, *loan.output("out", room, VALUE))
+    _check(answer)
+    return used(room, VALUE, 0, answer.value, out is None)
+
+
+def write(
+    ticks: Lent,
+    values: Lent,
+    kept: Lent,
+    tolerance: Tolerance,
+    buffer: Optional[Output] = None,
+    place: int = 0,
+) -> Any:
+    """The record of the kept samples and the tolerance: new bytes, or written into the buffer from
+    the byte at `place` on, where the bytes before and after the record keep their values; then a
+    view of the record is returned.
+
+    A record consists of commands of one byte, here hexadecimal, with fixed operands, high byte
+    first, signed ones in two's complement:
+
+    | Byte | Operands |
+    |---|---|
+    | 54 | tolerance: p (5 bytes), q (3) |
+    | 41 | first sample: tick (4), value (2) |
+    | 53 | short step: advance (1, from 1), change of value (1, signed) |
+    | 4C | long step: advance (3, from 1), new value (2) |
+    | 45 | end: the number of samples given (2) |
+
+    They come in the order 54, 41, any steps, 45, and nothing more. The tolerance is in lowest
+    terms. A step is short exactly if its advance is at most 255 and its change from -128 to 127. A
+    record has at most 24,589 bytes.
+
+    Refusals: 1, 2, 3, 4, 6, 7, and 10 with the record's length; from a place past the end of the
+    buffer there is no room.
+
+    >>> write([0, 1, 3], [0, 1, 1], [0, 2], Ratio(2, 3)).hex(" ")
+    '54 00 00 00 00 02 00 00 03 41 00 00 00 00 00 00 53 03 01 45 00 02'
+    >>> event = bytearray(30)
+    >>> len(write([0, 1, 3], [0, 1, 1], [0, 2], Ratio(2, 3), event, 8))
+    22
+    >>> event.hex()
+    '000000000000000054000000000200000341000000000000530301450002'
+    """
+    place = operator.index(place)
+    if place < 0 or (buffer is None and place != 0):
+        raise ValueError(f"place must be from 0 on, and 0 without a buffer, not {place}")
+    with Loan() as loan:
+        trace = loan.input("ticks", ticks, TICK) + loan.input("values", values, VALUE)
+        entries = loan.input("kept", kept, ENTRY)
+        # The longest record of so many samples.
+        room = bytearray(13 + 6 * min(entries[1], _SAMPLES)) if buffer is None else buffer
+        lent = loan.output("buffer", room, BYTE)
+        start = min(place, lent[1])
+        answer = _library.write(*trace, *entries, _tolerance(tolerance), *lent, start)
+    _check(answer)
+    if buffer is None:
+        return bytes(room[: answer.value])
+    return used(buffer, BYTE, place, answer.value)
+
+
+class Content(NamedTuple):
+    """What `read` returns."""
+
+    ticks: Any
+    """The ticks of the record's samples."""
+    values: Any
+    """Their values."""
+    tolerance: Fraction
+    """The record's tolerance."""
+
+
+def read(
+    record: Lent, ticks: Optional[Output] = None, values: Optional[Output] = None
+) -> Content:
+    """What a record holds, as `write` describes it.
+
+    Refusals: 8; 10 with the number of samples, as each output needs an entry for each. A fault lies
+    at the first byte of the first command that breaks a rule or is cut off, at the first byte after
+    a whole 45 command, or at the record's end where a command is missing.
+
+    >>> record = write([0, 1, 3], [0, 1, 1], [0, 2], Ratio(2, 3))
+    >>> read(record)
+    Content(ticks=array('I', [0, 3]), values=array('h', [0, 1]), tolerance=Fraction(2, 3))
+    >>> read(record[:18])
+    Traceback (most recent call last):
+        ...
+    kovrelna.Refusal: refused as 8: the record is faulty at byte 16
+    """
+    with Loan() as loan:
+        lent = loan.input("record", record, BYTE)
+        # A sample takes at least 3 bytes.
+        samples = min(lent[1] // 3, _SAMPLES)
+        to_ticks = new(TICK, samples, record) if ticks is None else ticks
+        to_values = new(VALUE, samples, record) if values is None else values
+        answer = _library.read(
+            *lent,
+            *loan.output("ticks", to_ticks, TICK),
+            *loan.output("values", to_values, VALUE),
+        )
+    _check(answer)
+    return Content(
+        used(to_ticks, TICK, 0, answer.value, ticks is None),
+        used(to_values, VALUE, 0, answer.value, values is None),
+        Fraction(answer.p, answer.q),
+    )
+
+
+def same(first: Lent, second: Lent) -> bool:
+    """Whether two records have the same samples, whatever their tolerances. Refusals: 8 for the
+    first record, then 9 for the second.
+
+    >>> records = [write([0, 1, 3], [0, 1, 1], [0, 2], counts) for counts in (1.0, 2.5)]
+    >>> same(*records)
+    True
+    """
+    with Loan() as loan:
+        answer = _library.same(
+            *loan.input("first", first, BYTE), *loan.input("second", second, BYTE)
+        )
+    _check(answer)
+    return bool(answer.passed)

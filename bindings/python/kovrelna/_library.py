@@ -1,0 +1,78 @@
+"""The shared library: where it is found, and its structs and calls as kovrelna.h declares them.
+
+Assumes that the library found is the one of that header.
+"""
+
+import ctypes
+import os
+from ctypes import Structure, c_double, c_size_t, c_uint32, c_uint64, c_void_p
+
+NAME = "libkovrelna.so.0"
+
+
+class Tolerance(Structure):
+    _fields_ = [
+        ("form", c_uint64),
+        ("p", c_uint64),
+        ("q", c_uint64),
+        ("x", c_double),
+        ("y", c_double),
+    ]
+
+
+class Answer(Structure):
+    _fields_ = [("number", c_uint32), ("value", c_uint64)]
+
+
+class Galloped(Structure):
+    _fields_ = [("number", c_uint32), ("value", c_uint64), ("probes", c_uint64)]
+
+
+class Verdict(Structure):
+    _fields_ = [("number", c_uint32), ("passed", c_uint32), ("value", c_uint64)]
+
+
+class Fractional(Structure):
+    """An answer with a fraction: those of hold, least and read."""
+
+    _fields_ = [("number", c_uint32), ("value", c_uint64), ("p", c_uint64), ("q", c_uint64)]
+
+
+def _load():
+    """The library that KOVRELNA_LIBRARY names, else the one beside this file, else the one that the
+    system's loader finds."""
+    beside = os.path.join(os.path.dirname(os.path.abspath(__file__)), NAME)
+    path = os.environ.get("KOVRELNA_LIBRARY") or (beside if os.path.exists(beside) else NAME)
+    try:
+        return ctypes.CDLL(path)
+    except OSError as error:
+        raise ImportError(
+            f"the shared library of Kovrelna cannot be loaded ({error}): install it where the "
+            f"system's loader looks, or set KOVRELNA_LIBRARY to its path"
+        ) from error
+
+
+_LIBRARY = _load()
+_LIST = (c_void_p, c_size_t)
+
+
+def _declare(name, answer, *parameters):
+    try:
+        call = getattr(_LIBRARY, f"kovrelna_{name}")
+    except AttributeError as error:
+        raise ImportError(f"{_LIBRARY._name} is no library of this version: {error}") from error
+    call.restype = answer
+    call.argtypes = parameters
+    return call
+
+
+hold = _declare("hold", Fractional, Tolerance)
+judge = _declare("judge", Verdict, *_LIST, *_LIST, *_LIST, Tolerance)
+walk = _declare("walk", Answer, *_LIST, *_LIST, Tolerance, *_LIST)
+gallop = _declare("gallop", Galloped, *_LIST, *_LIST, Tolerance, *_LIST)
+minimum = _declare("minimum", Answer, *_LIST, *_LIST, Tolerance, *_LIST)
+least = _declare("least", Fractional, *_LIST, *_LIST, c_uint64, *_LIST)
+expand = _declare("expand", Answer, *_LIST, *_LIST)
+write = _declare("write", Answer, *_LIST, *_LIST, *_LIST, Tolerance, *_LIST, c_size_t)
+read = _declare("read", Fractional, *_LIST, *_LIST, *_LIST)
+same = _declare("same", Verdict, *_LIST, *_LIST)

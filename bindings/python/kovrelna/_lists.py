@@ -1,0 +1,186 @@
+"""Lists as they are lent to a call and as they come back.
+
+- `Item`: what the elements of a list are; `TICK`, `VALUE`, `ENTRY`, `BYTE`.
+- `Loan`: the lists lent to one call, as addresses and lengths. Buffers are not copied.
+- `new`, `used`: a new output; the elements that a call has written.
+
+Assumes CPython, whose buffers are reached through its C interface.
+"""
+
+import array
+import ctypes
+import operator
+import sys
+from typing import Any, List, NamedTuple, Optional, Tuple
+
+
+class Item(NamedTuple):
+    """An element: the type code of module array, bytes, the least and the greatest number."""
+
+    code: str
+    size: int
+    least: int
+    most: int
+
+    def __str__(self) -> str:
+        kind = "unsigned" if self.least == 0 else "signed"
+        numpy = f"{'u' if self.least == 0 else ''}int{8 * self.size}"
+        return f"{kind} {8 * self.size}-bit integers (array type code {self.code!r}, numpy {numpy})"
+
+    def fits(self, view: memoryview) -> bool:
+        """Whether the elements of the buffer are such ones, in this machine's byte order."""
+        codes = set("BHILQN" if self.least == 0 else "bhilqn")
+        if self == BYTE:
+            codes.add("c")
+        return view.format.lstrip(ORDERS) in codes and view.itemsize == self.size
+
+
+# The prefixes of a format that mean this machine's byte order.
+ORDERS = "@=<" if sys.byteorder == "little" else "@=>!"
+
+TICK = Item("I", 4, 0, 2**32 - 1)
+VALUE = Item("h", 2, -(2**15), 2**15 - 1)
+ENTRY = Item("H", 2, 0, 2**16 - 1)
+BYTE = Item("B", 1, 0, 2**8 - 1)
+
+
+class _Buffer(ctypes.Structure):
+    """Py_buffer of the interpreter's C interface."""
+
+    _fields_ = [
+        ("buf", ctypes.c_void_p),
+        ("obj", ctypes.c_void_p),
+        ("len", ctypes.c_ssize_t),
+        ("itemsize", ctypes.c_ssize_t),
+        ("readonly", ctypes.c_int),
+        ("ndim", ctypes.c_int),
+        ("format", ctypes.c_void_p),
+        ("shape", ctypes.c_void_p),
+        ("strides", ctypes.c_void_p),
+        ("suboffsets", ctypes.c_void_p),
+        ("internal", ctypes.c_void_p),
+    ]
+
+
+_SIMPLE = 0
+_get_buffer = ctypes.pythonapi.PyObject_GetBuffer
+_get_buffer.argtypes = (ctypes.py_object, ctypes.POINTER(_Buffer), ctypes.c_int)
+_release_buffer = ctypes.pythonapi.PyBuffer_Release
+_release_buffer.argtypes = (ctypes.POINTER(_Buffer),)
+_release_buffer.restype = None
+
+
+class _Lent(NamedTuple):
+    name: str
+    view: memoryview
+    buffer: _Buffer
+    output: bool
+
+    def overlaps(self, other: "_Lent") -> bool:
+        ends = [lent.buffer.buf + lent.buffer.len for lent in (self, other)]
+        return self.buffer.buf < ends[1] and other.buffer.buf < ends[0]
+
+
+class Loan:
+    """The lists lent to one call. In a `with` statement: they cannot be resized until it ends."""
+
+    def __init__(self) -> None:
+        self._lent: List[_Lent] = []
+
+    def __enter__(self) -> "Loan":
+        return self
+
+    def __exit__(self, *exception: object) -> None:
+        for lent in self._lent:
+            _release_buffer(ctypes.byref(lent.buffer))
+            lent.view.release()
+
+    def input(self, name: str, given: Any, item: Item) -> Tuple[Optional[int], int]:
+        """The address and the length of a buffer, or of a copy of a list, a tuple or a range."""
+        if isinstance(given, (list, tuple, range)):
+            given = _converted(name, given, item)
+        return self._lend(name, given, item, False)
+
+    def output(self, name: str, given: Any, item: Item) -> Tuple[Optional[int], int]:
+        """The address and the length of a buffer that can be written and overlaps no other list."""
+        return self._lend(name, given, item, True)
+
+    def _lend(self, name: str, given: Any, item: Item, output: bool) -> Tuple[Optional[int], int]:
+        view = _view(name, given, item, output)
+        if len(view) == 0:
+            view.release()
+            return None, 0
+        buffer = _Buffer()
+        _get_buffer(view, ctypes.byref(buffer), _SIMPLE)
+        lent = _Lent(name, view, buffer, output)
+        self._lent.append(lent)
+        if buffer.buf % item.size != 0:
+            raise ValueError(f"{name} must begin at a multiple of {item.size} bytes in memory")
+        for other in self._lent[:-1]:
+            if (output or other.output) and lent.overlaps(other):
+                raise ValueError(f"{name} and {other.name} overlap in memory")
+        return buffer.buf, len(view)
+
+
+def _view(name: str, given: Any, item: Item, output: bool) -> memoryview:
+    """The buffer, if it is one of such elements."""
+    try:
+        view = memoryview(given)
+    except (TypeError, ValueError, BufferError) as error:
+        fault = f"{type(given).__name__} is none ({error})"
+        if not output:
+            fault += ", nor a list, a tuple or a range of whole numbers"
+    else:
+        if view.ndim != 1:
+            fault = f"it has {view.ndim} dimensions, not 1"
+        elif not item.fits(view):
+            fault = f"it has format {view.format!r} with {view.itemsize} bytes an item"
+        elif not view.c_contiguous:
+            fault = "it is not contiguous"
+        elif output and view.readonly:
+            fault = "it is read-only"
+        else:
+            return view
+        view.release()
+    raise TypeError(f"{name} must be a {'writable ' if output else ''}buffer of {item}: {fault}")
+
+
+def _converted(name: str, given: Any, item: Item) -> array.array:
+    """A copy of the list. A number out of range, or what is no whole number, is named."""
+    try:
+        return array.array(item.code, map(operator.index, given))
+    except (OverflowError, TypeError):
+        for position, element in enumerate(given):
+            try:
+                fits = item.least <= operator.index(element) <= item.most
+            except TypeError:
+                message = f"{name}[{position}] must be a whole number, not {element!r}"
+                raise TypeError(message) from None
+            if not fits:
+                message = f"{name}[{position}] must be from {item.least} to {item.most}"
+                raise OverflowError(f"{message}, not {element}") from None
+        raise
+
+
+def _is_numpy(given: Any) -> bool:
+    """Whether this is an array of numpy, which is not imported for that."""
+    numpy = sys.modules.get("numpy")
+    return numpy is not None and isinstance(given, numpy.ndarray)
+
+
+def new(item: Item, length: int, like: Any) -> Any:
+    """An output of so many elements: an array of numpy if `like` is one, else one of array."""
+    if _is_numpy(like):
+        return sys.modules["numpy"].empty(length, item.code)
+    return array.array(item.code, bytes(length * item.size))
+
+
+def used(room: Any, item: Item, start: int, length: int, made: bool = False) -> Any:
+    """So many elements of an output, from `start` on: a view of them, or an array that was made for
+    the call, cut to them."""
+    if _is_numpy(room):
+        return room[start : start + length]
+    if made:
+        del room[length:]
+        return room
+    return memoryview(room).cast("B").cast(item.code)[start : start + length]

@@ -1,0 +1,258 @@
+"""The slow reference: document 01 once more, with fractions, clear before fast. It knows nothing of
+the library that is compared with it.
+
+- `Refused`: a row of the table of refusals.
+- `held`: a tolerance. Its forms are ("ratio", p, q), ("counts", x) and ("noise", noise, multiple).
+- `judge`, `walk`, `gallop`, `minimum`, `least`, `expand`, `write`, `read`, `same`: the calls.
+"""
+
+import itertools
+from fractions import Fraction
+
+SAMPLES = 4096
+SPAN = 1048575
+
+
+class Refused(Exception):
+    """Its arguments are the number and the value."""
+
+
+def check_trace(ticks, values, most=SAMPLES):
+    """Rows 1 to 3."""
+    if len(ticks) != len(values) or not 1 <= len(ticks) <= most:
+        raise Refused(1, 0)
+    for k in range(1, len(ticks)):
+        if ticks[k] <= ticks[k - 1]:
+            raise Refused(2, k)
+    for k in range(1, len(ticks)):
+        if ticks[k] - ticks[0] > SPAN:
+            raise Refused(3, k)
+
+
+def held(tolerance):
+    """The tolerance as a fraction. Row 4."""
+    form, *numbers = tolerance
+    if form == "ratio":
+        p, q = numbers
+        allowed = 1 <= q <= 1048575 and 0 <= p <= 65535 * q
+    elif form == "counts":
+        allowed = in_steps(numbers[0], 65535, 64)
+    else:
+        allowed = in_steps(numbers[0], 1023, 64) and in_steps(numbers[1], 63, 8)
+    if not allowed:
+        raise Refused(4, 0)
+    if form == "ratio":
+        return Fraction(*numbers)
+    product = Fraction(1)
+    for number in numbers:
+        product *= Fraction(number)
+    return product
+
+
+def in_steps(number, most, steps):
+    """Whether the f64 is from 0 to the most and `steps` times it is whole. Not for not-a-number."""
+    return 0 <= number <= most and (Fraction(number) * steps).denominator == 1
+
+
+def deviation(ticks, values, i, j, k):
+    rise = (values[k] - values[i]) * (ticks[j] - ticks[i])
+    line = (values[j] - values[i]) * (ticks[k] - ticks[i])
+    return Fraction(abs(rise - line), ticks[j] - ticks[i])
+
+
+def link_error(ticks, values, i, j):
+    return max((deviation(ticks, values, i, j, k) for k in range(i + 1, j)), default=Fraction(0))
+
+
+def list_error(ticks, values, kept):
+    links = zip(kept, kept[1:])
+    return max((link_error(ticks, values, i, j) for i, j in links), default=Fraction(0))
+
+
+def check_list(kept, samples):
+    """Row 6."""
+    before = -1
+    for position, entry in enumerate(kept):
+        if entry <= before or entry >= samples or (position == 0 and entry != 0):
+            raise Refused(6, position)
+        before = entry
+    if before != samples - 1:
+        raise Refused(6, len(kept))
+
+
+def judge(ticks, values, proposed, tolerance):
+    """The position of the first invalid link, or None."""
+    check_trace(ticks, values)
+    bound = held(tolerance)
+    check_list(proposed, len(ticks))
+    for position, (i, j) in enumerate(zip(proposed, proposed[1:])):
+        if link_error(ticks, values, i, j) > bound:
+            return position
+    return None
+
+
+def check_room(room, needed):
+    """Row 10."""
+    if room < needed:
+        raise Refused(10, needed)
+
+
+def walk(ticks, values, tolerance, room):
+    check_trace(ticks, values)
+    bound = held(tolerance)
+    check_room(room, len(ticks))
+    kept, last = [0], len(ticks) - 1
+    while kept[-1] != last:
+        i = j = kept[-1]
+        while j < last and link_error(ticks, values, i, j + 1) <= bound:
+            j += 1
+        kept.append(j)
+    return kept
+
+
+def gallop(ticks, values, tolerance, room):
+    """The kept list and the probe total."""
+    check_trace(ticks, values)
+    bound = held(tolerance)
+    check_room(room, len(ticks))
+    kept, last, probes = [0], len(ticks) - 1, 0
+
+    def probe(i, offset):
+        return i + offset <= last and link_error(ticks, values, i, i + offset) <= bound
+
+    while kept[-1] != last:
+        i, low, high = kept[-1], 1, 2
+        probes += 1
+        while probe(i, high):
+            low, high = high, 2 * high
+            probes += 1
+        while low < high - 1:
+            middle = (low + high) // 2
+            probes += 1
+            if probe(i, middle):
+                low = middle
+            else:
+                high = middle
+        kept.append(i + low)
+    return kept, probes
+
+
+def kept_lists(samples, most):
+    """Every kept list of at most so many samples: shorter ones first, then the one whose second
+    sample is latest, then its third."""
+    if samples == 1:
+        yield [0]
+        return
+    for between in range(min(samples, most) - 1):
+        chosen = itertools.combinations(range(1, samples - 1), between)
+        for middle in sorted(chosen, reverse=True):
+            yield [0, *middle, samples - 1]
+
+
+def minimum(ticks, values, tolerance, room):
+    check_trace(ticks, values)
+    bound = held(tolerance)
+    check_room(room, len(ticks))
+    for kept in kept_lists(len(ticks), len(ticks)):
+        if list_error(ticks, values, kept) <= bound:
+            return kept
+
+
+def least(ticks, values, allowance, room):
+    """The minimum's list at the least error, and that error."""
+    check_trace(ticks, values, 256)
+    if not 2 <= allowance <= SAMPLES:
+        raise Refused(5, 0)
+    check_room(room, len(ticks))
+    error = min(list_error(ticks, values, kept) for kept in kept_lists(len(ticks), allowance))
+    for kept in kept_lists(len(ticks), len(ticks)):
+        if list_error(ticks, values, kept) <= error:
+            return kept, error
+
+
+def expand(codes, room):
+    if not 1 <= len(codes) <= SAMPLES:
+        raise Refused(1, 0)
+    check_room(room, len(codes))
+    return [2 ** (code // 32) * (code % 32 + 32) - 32 for code in codes]
+
+
+def is_short(advance, change):
+    return advance <= 255 and -128 <= change <= 127
+
+
+def write(ticks, values, kept, tolerance, room):
+    """The record, for a buffer with so many bytes from the place on."""
+    link = judge(ticks, values, kept, tolerance)
+    if link is not None:
+        raise Refused(7, link)
+    bound = held(tolerance)
+    record = bytearray([0x54])
+    record += bound.numerator.to_bytes(5, "big") + bound.denominator.to_bytes(3, "big")
+    record += b"\x41" + ticks[0].to_bytes(4, "big") + values[0].to_bytes(2, "big", signed=True)
+    for i, j in zip(kept, kept[1:]):
+        advance, change = ticks[j] - ticks[i], values[j] - values[i]
+        if is_short(advance, change):
+            record += bytes([0x53, advance]) + change.to_bytes(1, "big", signed=True)
+        else:
+            record += b"\x4C" + advance.to_bytes(3, "big")
+            record += values[j].to_bytes(2, "big", signed=True)
+    record += b"\x45" + len(kept).to_bytes(2, "big")
+    check_room(room, len(record))
+    return bytes(record)
+
+
+def read(record):
+    """Ticks, values and the tolerance. Row 8."""
+    place = 0
+
+    def command(expected, *sizes):
+        """The operands of the command at the place, which is one of those expected."""
+        operands = record[place + 1 : place + 1 + sum(sizes)]
+        if record[place : place + 1] != bytes([expected]) or len(operands) != sum(sizes):
+            raise Refused(8, place)
+        split = list(itertools.accumulate(sizes, initial=0))
+        return [int.from_bytes(operands[a:b], "big") for a, b in zip(split, split[1:])]
+
+    def signed(number, size):
+        return number - 256**size if number >= 256**size // 2 else number
+
+    p, q = command(0x54, 5, 3)
+    try:
+        tolerance = held(("ratio", p, q))
+    except Refused:
+        raise Refused(8, place)
+    if (tolerance.numerator, tolerance.denominator) != (p, q):
+        raise Refused(8, place)
+    place = 9
+    tick, value = command(0x41, 4, 2)
+    ticks, values = [tick], [signed(value, 2)]
+    place = 16
+    while record[place : place + 1] in (b"\x53", b"\x4C"):
+        short = record[place] == 0x53
+        advance, number = command(record[place], 1, 1) if short else command(record[place], 3, 2)
+        value = values[-1] + signed(number, 1) if short else signed(number, 2)
+        tick = ticks[-1] + advance
+        legal = advance >= 1 and tick < 2**32 and -(2**15) <= value < 2**15
+        legal = legal and tick - ticks[0] <= SPAN and len(ticks) < SAMPLES
+        if not legal or is_short(advance, value - values[-1]) != short:
+            raise Refused(8, place)
+        ticks.append(tick)
+        values.append(value)
+        place += 3 if short else 6
+    (count,) = command(0x45, 2)
+    if count != len(ticks):
+        raise Refused(8, place)
+    place += 3
+    if place != len(record):
+        raise Refused(8, place)
+    return ticks, values, tolerance
+
+
+def same(first, second):
+    """Row 9 for the second record."""
+    samples = read(first)[:2]
+    try:
+        return samples == read(second)[:2]
+    except Refused as refused:
+        raise Refused(9, refused.args[1])

@@ -1,0 +1,762 @@
+"""The Python module as a user calls it: document 01's figures, every refusal of every call, buffers
+that are lent and not copied, and random traces, tolerances and records beside the slow reference.
+Arrays of numpy are tried where numpy is present; a stand-in for it always is.
+"""
+
+import array
+import ctypes
+import doctest
+import itertools
+import mmap
+import os
+import pickle
+import random
+import shutil
+import subprocess
+import sys
+import tempfile
+import threading
+import types
+import unittest
+from fractions import Fraction
+from unittest import mock
+
+import kovrelna
+import reference
+from kovrelna import Counts, Noise, Ratio, Refusal, Verdict
+
+try:
+    import numpy
+except ImportError:
+    numpy = None
+
+EVEN = range(5)
+ZIGZAG = [0, 3, 0, 3, 0]
+WAVE = [0, 2, 0, -2, 0]
+RECORD = bytes.fromhex("54 00 00 00 00 02 00 00 03 41 00 00 00 00 00 00 53 03 01 45 00 02")
+REDUCTIONS = (kovrelna.walk, kovrelna.gallop, kovrelna.minimum)
+
+
+def load_tests(loader, tests, pattern):
+    tests.addTests(doctest.DocTestSuite(kovrelna))
+    return tests
+
+
+def kept_by(call, *arguments):
+    """The kept list of a reduction, as a plain list."""
+    answer = call(*arguments)
+    return list(answer.kept if call is kovrelna.gallop else answer)
+
+
+class Case(unittest.TestCase):
+    def refused(self, number, value, call, *arguments):
+        with self.assertRaises(Refusal) as caught:
+            call(*arguments)
+        found = (caught.exception.number, caught.exception.value)
+        self.assertEqual(found, (number, value), f"{call.__name__} {arguments}")
+
+
+class Figures(Case):
+    def test_reductions(self):
+        every = [0, 1, 2, 3, 4]
+        for values, tolerance, walked, galloped, probes, shortest in [
+            (ZIGZAG, 2, every, every, 4, [0, 3, 4]),
+            (ZIGZAG, 3, [0, 4], [0, 4], 5, [0, 4]),
+            (WAVE, 2, [0, 2, 4], [0, 4], 5, [0, 4]),
+        ]:
+            forms = [tolerance, Ratio(6 * tolerance, 6), Fraction(tolerance), float(tolerance)]
+            for form in forms + [Counts(tolerance), Noise(tolerance / 4, 4)]:
+                with self.subTest(values=values, form=form):
+                    self.assertEqual(list(kovrelna.walk(EVEN, values, form)), walked)
+                    gallop = kovrelna.gallop(EVEN, values, form)
+                    self.assertEqual((list(gallop.kept), gallop.probes), (galloped, probes))
+                    self.assertEqual(list(kovrelna.minimum(EVEN, values, form)), shortest)
+
+    def test_least(self):
+        every = [0, 1, 2, 3, 4]
+        for allowance, error, kept in [
+            (2, 3, [0, 4]),
+            (3, 2, [0, 3, 4]),
+            (4, 2, [0, 3, 4]),
+            (5, 0, every),
+            (4096, 0, every),
+        ]:
+            answer = kovrelna.least(EVEN, ZIGZAG, allowance)
+            self.assertEqual((list(answer.kept), answer.error), (kept, error))
+            self.assertIs(type(answer.error), Fraction)
+        self.assertEqual(kovrelna.least([0, 1, 3], [0, 1, 1], 2).error, Fraction(2, 3))
+        self.assertEqual(kovrelna.least([7], [7], 2), (array.array("H", [0]), 0))
+
+    def test_two_thirds(self):
+        trace = [0, 1, 3], [0, 1, 1], [0, 2]
+        self.assertEqual(kovrelna.judge(*trace, Ratio(4, 6)), Verdict(True, None))
+        self.assertEqual(kovrelna.judge(*trace, Ratio(665, 1000)), Verdict(False, 0))
+        self.assertTrue(kovrelna.judge(*trace, Ratio(4, 6)))
+        self.assertFalse(kovrelna.judge(*trace, Ratio(665, 1000)))
+        self.assertEqual(kovrelna.write(*trace, Ratio(4, 6)), RECORD)
+        content = kovrelna.read(RECORD)
+        self.assertEqual((list(content.ticks), list(content.values)), ([0, 3], [0, 1]))
+        self.assertEqual(content.tolerance, Fraction(2, 3))
+
+    def test_codes(self):
+        values = [31, 32, 94, 96, 8032]
+        self.assertEqual(list(kovrelna.expand([31, 32, 63, 64, 255])), values)
+        rule = [2**e * (m + 32) - 32 for e in range(8) for m in range(32)]
+        self.assertEqual(list(kovrelna.expand(bytes(range(256)))), rule)
+
+    def test_ticks(self):
+        self.assertTrue(kovrelna.judge([0, 1048575], [0, 0], [0, 1], 0))
+        self.refused(3, 1, kovrelna.judge, [0, 1048576], [0, 0], [0, 1], 0)
+        self.refused(2, 1, kovrelna.judge, [5, 5], [0, 0], [0, 1], 0)
+
+    def test_steps(self):
+        for advance, change, step in [
+            (255, 127, b"\x53\xff\x7f"),
+            (255, -128, b"\x53\xff\x80"),
+            (256, 0, b"\x4c\x00\x01\x00\x00\x28"),
+            (1, 128, b"\x4c\x00\x00\x01\x00\xa8"),
+        ]:
+            ticks, values = [9, 9 + advance], [40, 40 + change]
+            record = kovrelna.write(ticks, values, [0, 1], 0)
+            self.assertEqual(record[16:-3], step)
+            content = kovrelna.read(record)
+            self.assertEqual((list(content.ticks), list(content.values)), (ticks, values))
+
+
+class Tolerances(Case):
+    def test_held(self):
+        for tolerance, fraction in [
+            (Ratio(4, 6), Fraction(2, 3)),
+            (Ratio(0, 1048575), Fraction(0)),
+            (Ratio(65535 * 1048575, 1048575), Fraction(65535)),
+            (Counts(65534.984375), Fraction(4194239, 64)),
+            (Counts(-0.0), Fraction(0)),
+            (Counts(3), Fraction(3)),
+            (Noise(0.015625, 0.125), Fraction(1, 512)),
+            (Noise(1023, 63), Fraction(64449)),
+            (7, Fraction(7)),
+            (Fraction(5, 1048575), Fraction(1, 209715)),
+            (0.75, Fraction(3, 4)),
+        ]:
+            held = kovrelna.hold(tolerance)
+            self.assertEqual(held, fraction, tolerance)
+            self.assertIs(type(held), Fraction)
+
+    def test_refused(self):
+        infinity, nan = float("inf"), float("nan")
+        numbers = [-1, 65536, 2**64, -(2**64), Fraction(-1, 2), Fraction(1, 1048576), 1 / 128, -0.5]
+        ratios = [Ratio(0, 0), Ratio(1, 0), Ratio(-1, -2), Ratio(2**64, 2**64), Ratio(1, 2**64 + 1)]
+        counts = [Counts(x) for x in (65535.015625, 0.0078125, nan, infinity, -infinity)]
+        noises = [Noise(1023.015625, 0), Noise(0, 63.125), Noise(1, 0.0625), Noise(nan, 0)]
+        for tolerance in numbers + ratios + counts + noises + [nan, infinity]:
+            self.refused(4, 0, kovrelna.hold, tolerance)
+            for call in REDUCTIONS:
+                self.refused(4, 0, call, EVEN, WAVE, tolerance)
+                self.refused(2, 1, call, [5, 5], [0, 0], tolerance)
+
+    def test_other_types(self):
+        for tolerance in ("2", None, b"2", [2], 2j, Ratio(1.5, 2), Ratio("1", 2), Counts("2")):
+            with self.assertRaises(TypeError):
+                kovrelna.hold(tolerance)
+
+
+class Refusals(Case):
+    """Every row of every call; where a row has several causes, each."""
+
+    flat = [0] * 5
+    traces = [
+        # Row 1: no samples, too many, list lengths differ.
+        (1, 0, [], []),
+        (1, 0, range(4097), [0] * 4097),
+        (1, 0, EVEN, [0] * 4),
+        (1, 0, EVEN, []),
+        (1, 0, [], flat),
+        # Row 2, also before row 3.
+        (2, 1, [5, 5, 6, 7, 8], flat),
+        (2, 4, [0, 1, 2, 3, 3], flat),
+        (2, 2, [0, 5, 4, 6, 7], flat),
+        (2, 4, [0, 1048576, 1048577, 1048578, 0], flat),
+        # Row 3.
+        (3, 1, [0, 1048576, 1048577, 1048578, 1048579], flat),
+        (3, 4, [0, 1, 2, 3, 1048576], flat),
+    ]
+
+    def test_traces(self):
+        for (number, value, ticks, values), tolerance in itertools.product(
+            self.traces, (0, Ratio(0, 0))
+        ):
+            for call in REDUCTIONS:
+                self.refused(number, value, call, ticks, values, tolerance)
+                self.refused(number, value, call, ticks, values, tolerance, array.array("H"))
+            for allowance in (2, 0):
+                self.refused(number, value, kovrelna.least, ticks, values, allowance)
+                out = array.array("H")
+                self.refused(number, value, kovrelna.least, ticks, values, allowance, out)
+            for kept in ([0, 4], [], [1]):
+                self.refused(number, value, kovrelna.judge, ticks, values, kept, tolerance)
+                self.refused(number, value, kovrelna.write, ticks, values, kept, tolerance)
+
+    def test_tolerances(self):
+        none = Ratio(0, 0)
+        self.refused(4, 0, kovrelna.hold, none)
+        for call in REDUCTIONS:
+            self.refused(4, 0, call, EVEN, self.flat, none)
+            self.refused(4, 0, call, EVEN, self.flat, none, array.array("H"))
+        self.refused(4, 0, kovrelna.judge, EVEN, self.flat, [1], none)
+        self.refused(4, 0, kovrelna.write, EVEN, self.flat, [1], none, bytearray(0))
+
+    def test_allowances(self):
+        out = array.array("H")
+        for allowance in (-1, 0, 1, 4097, 2**32 + 2, 2**64 - 1, 2**64 + 2, -(2**64) + 2):
+            self.refused(5, 0, kovrelna.least, EVEN, self.flat, allowance)
+            self.refused(5, 0, kovrelna.least, EVEN, self.flat, allowance, out)
+            self.refused(2, 1, kovrelna.least, [5, 5], [0, 0], allowance, out)
+        self.refused(1, 0, kovrelna.least, range(257), [0] * 257, 2)
+        self.assertEqual(list(kovrelna.least(range(256), [0] * 256, 2).kept), [0, 255])
+        for allowance in (2.0, "2", None):
+            with self.assertRaises(TypeError):
+                kovrelna.least(EVEN, self.flat, allowance)
+
+    def test_lists(self):
+        for kept, position in [
+            ([], 0),
+            ([1, 4], 0),
+            ([65535], 0),
+            ([0, 0, 4], 1),
+            ([0, 3, 2, 4], 2),
+            ([0, 5], 1),
+            ([0, 2, 65535], 2),
+            ([0], 1),
+            ([0, 1, 3], 3),
+            ([0, 4, 4], 2),
+        ]:
+            self.refused(6, position, kovrelna.judge, EVEN, ZIGZAG, kept, 0)
+            self.refused(6, position, kovrelna.write, EVEN, ZIGZAG, kept, 0)
+            self.refused(6, position, kovrelna.write, EVEN, ZIGZAG, kept, 0, bytearray(0))
+
+    def test_links(self):
+        self.refused(7, 0, kovrelna.write, EVEN, ZIGZAG, [0, 4], 2)
+        self.refused(7, 2, kovrelna.write, EVEN, ZIGZAG, [0, 1, 2, 4], 2)
+        self.refused(7, 2, kovrelna.write, EVEN, ZIGZAG, [0, 1, 2, 4], 2, bytearray(0))
+
+    def test_records(self):
+        starts = [0] * 9 + [9] * 7 + [16] * 3 + [19] * 3
+        for length, byte in enumerate(starts):
+            self.refused(8, byte, kovrelna.read, RECORD[:length])
+            outputs = array.array("I"), array.array("h")
+            self.refused(8, byte, kovrelna.read, RECORD[:length], *outputs)
+            self.refused(8, byte, kovrelna.same, RECORD[:length], RECORD)
+            self.refused(8, byte, kovrelna.same, RECORD[:length], b"")
+            self.refused(9, byte, kovrelna.same, RECORD, RECORD[:length])
+        self.refused(8, 22, kovrelna.read, RECORD + b"\x45")
+        self.refused(9, 22, kovrelna.same, RECORD, RECORD + b"\x45")
+
+    def test_room(self):
+        for length in range(5):
+            out = array.array("H", [7] * length)
+            for call in REDUCTIONS + (kovrelna.least,):
+                self.refused(10, 5, call, EVEN, ZIGZAG, 3, out)
+            values = array.array("h", [7] * length)
+            self.refused(10, 5, kovrelna.expand, bytes(5), values)
+            self.assertEqual((set(out) | set(values)) - {7}, set())
+        for length, place in [(21, 0), (22, 1), (22, 22), (22, 23), (22, 2**64), (0, 0), (25, 4)]:
+            buffer = bytearray(b"\7" * length)
+            trace = [0, 1, 3], [0, 1, 1], [0, 2], Ratio(2, 3)
+            self.refused(10, 22, kovrelna.write, *trace, buffer, place)
+            self.assertEqual(set(buffer) - {7}, set())
+        for ticks, values in [(1, 2), (2, 1), (0, 0), (9, 0)]:
+            outputs = array.array("I", [7] * ticks), array.array("h", [7] * values)
+            self.refused(10, 2, kovrelna.read, RECORD, *outputs)
+            self.assertEqual(set(outputs[0]) | set(outputs[1]) | {7}, {7})
+
+    def test_codes(self):
+        self.refused(1, 0, kovrelna.expand, b"")
+        self.refused(1, 0, kovrelna.expand, bytes(4097))
+        self.refused(1, 0, kovrelna.expand, bytes(4097), array.array("h"))
+
+    def test_words(self):
+        for number, value, words in [
+            (1, 0, "too many"),
+            (2, 21, "tick of sample 21 is not above"),
+            (3, 31, "sample 31 is over 1,048,575 ticks"),
+            (4, 0, "tolerance is not allowed"),
+            (5, 0, "allowance is below 2 or above 4,096"),
+            (6, 61, "ends at position 61"),
+            (7, 71, "link 71 is invalid"),
+            (8, 81, "record is faulty at byte 81"),
+            (9, 91, "second record is faulty at byte 91"),
+            (10, 101, "too short: 101 entries"),
+        ]:
+            refusal = pickle.loads(pickle.dumps(Refusal(number, value)))
+            self.assertIsInstance(refusal, ValueError)
+            self.assertEqual((refusal.number, refusal.value), (number, value))
+            self.assertIn(f"refused as {number}: ", str(refusal))
+            self.assertIn(words, str(refusal))
+
+
+class Longest(Case):
+    def test_all_kept(self):
+        ticks = array.array("I", range(0, 4096 * 256, 256))
+        values = array.array("h", [10000 * (k % 2) for k in range(4096)])
+        for call in REDUCTIONS:
+            self.assertEqual(kept_by(call, ticks, values, 0), list(range(4096)))
+        record = kovrelna.write(ticks, values, range(4096), 0)
+        self.assertEqual(len(record), 24589)
+        self.assertEqual(kovrelna.read(record), (ticks, values, 0))
+        self.assertTrue(kovrelna.same(record, record))
+        self.assertEqual(len(kovrelna.expand(bytes(4096))), 4096)
+
+
+class Buffers(Case):
+    ticks = array.array("I", [0, 1, 3])
+    values = array.array("h", [0, 1, 1])
+    kept = array.array("H", [0, 2])
+
+    def lent(self, name, call, *arguments):
+        """The addresses and lengths that the library's call is given."""
+        real = getattr(kovrelna._library, name)
+        given = []
+
+        def recorded(*arguments):
+            given.extend(arguments)
+            return real(*arguments)
+
+        with mock.patch.object(kovrelna._library, name, recorded):
+            call(*arguments)
+        pointers = [k for k, kind in enumerate(real.argtypes) if kind is ctypes.c_void_p]
+        return [(given[k], given[k + 1]) for k in pointers]
+
+    def test_nothing_is_copied(self):
+        out, buffer = array.array("H", [9] * 4), array.array("B", [9] * 30)
+        ticks, values = array.array("I", [9] * 3), array.array("h", [9] * 3)
+        codes, decoded = array.array("B", [31, 32]), array.array("h", [9] * 3)
+        record = array.array("B", RECORD)
+        trace = [self.ticks, self.values]
+        calls = [(call.__name__, call, trace + [1], [out]) for call in REDUCTIONS] + [
+            ("least", kovrelna.least, trace + [2], [out]),
+            ("judge", kovrelna.judge, trace + [self.kept, 1], []),
+            ("write", kovrelna.write, trace + [self.kept, 1], [buffer]),
+            ("read", kovrelna.read, [record], [ticks, values]),
+            ("same", kovrelna.same, [record, record], []),
+            ("expand", kovrelna.expand, [codes], [decoded]),
+        ]
+        for name, call, inputs, outputs in calls:
+            lists = [one for one in inputs + outputs if isinstance(one, array.array)]
+            expected = [one.buffer_info() for one in lists]
+            self.assertEqual(self.lent(name, call, *inputs, *outputs), expected, name)
+        self.assertEqual(out.tolist(), [0, 2, 9, 9])
+        self.assertEqual((ticks.tolist(), values.tolist()), ([0, 3, 9], [0, 1, 9]))
+        self.assertEqual(decoded.tolist(), [31, 32, 9])
+        self.assertEqual(bytes(buffer), kovrelna.write(*trace, self.kept, 1) + b"\t" * 8)
+
+    def test_the_lent_output_is_returned(self):
+        out = array.array("H", [9] * 4)
+        for call in REDUCTIONS:
+            answer = call(self.ticks, self.values, 1, out)
+            view = answer.kept if call is kovrelna.gallop else answer
+            self.assertEqual(view.tolist(), [0, 2])
+            out[1] = 77
+            self.assertEqual(view.tolist(), [0, 77])
+
+    def test_the_record_is_at_its_place(self):
+        for place in range(9):
+            event = bytearray(b"\xa5" * 30)
+            view = kovrelna.write([0, 1, 3], [0, 1, 1], [0, 2], Ratio(2, 3), event, place)
+            self.assertEqual(event, b"\xa5" * place + RECORD + b"\xa5" * (8 - place))
+            self.assertEqual(view, RECORD)
+            event[place] = 0
+            self.assertEqual(view[0], 0)
+
+    def test_kinds_of_buffers(self):
+        words = (ctypes.c_uint32 * 3)(0, 1, 3)
+        shared = mmap.mmap(-1, 30)
+        for ticks in (self.ticks, memoryview(self.ticks), memoryview(self.ticks).toreadonly(),
+        words):
+            out = (ctypes.c_uint16 * 3)(9, 9, 9)
+            kept = kovrelna.walk(ticks, memoryview(self.values), 1, out)
+            self.assertEqual((kept.tolist(), list(out)), ([0, 2], [0, 2, 9]))
+        for record in (RECORD, bytearray(RECORD), memoryview(RECORD), memoryview(RECORD).cast("c")):
+            self.assertTrue(kovrelna.same(record, list(RECORD)))
+        self.assertEqual(kovrelna.write(self.ticks, self.values, self.kept, 1, shared, 8)[0], 0x54)
+        self.assertEqual(shared[7:9], b"\x00\x54")
+        half = memoryview(array.array("H", range(20)))[5:10]
+        self.assertEqual(kovrelna.walk(EVEN, WAVE, 2, half).tolist(), [0, 2, 4])
+        self.assertEqual(half.obj[4:9].tolist(), [4, 0, 2, 4, 8])
+
+    def test_buffers_are_released(self):
+        ticks, values, out = self.ticks[:], self.values[:], array.array("H", [9] * 3)
+        kovrelna.walk(ticks, values, 1, out)
+        with self.assertRaises(Refusal):
+            kovrelna.walk(ticks, values, Ratio(0, 0), out)
+        with self.assertRaises(TypeError):
+            kovrelna.walk(ticks, values, 1, out.tobytes())
+        for lent in (ticks, values, out):
+            lent.append(1)
+
+    def test_plain_lists(self):
+        for ticks in ([0, 1, 3], (0, 1, 3)):
+            self.assertEqual(list(kovrelna.walk(ticks, (0, True, 1), 1)), [0, 2])
+        for call in (kovrelna.walk, kovrelna.minimum, kovrelna.gallop):
+            for ticks, values, words in [
+                ([0, -1], [0, 0], r"ticks\[1\] must be from 0 to 4294967295, not -1"),
+                ([0, 2**32], [0, 0], r"ticks\[1\] must be from 0 to 4294967295"),
+                ([0, 1], [0, 32768], r"values\[1\] must be from -32768 to 32767, not 32768"),
+                ([0, 1], [-32769, 0], r"values\[0\] must be from -32768"),
+            ]:
+                with self.assertRaisesRegex(OverflowError, words):
+                    call(ticks, values, 1)
+            for number in (1.0, "1", None, Fraction(1)):
+                with self.assertRaisesRegex(TypeError, r"values\[1\] must be a whole number, not"):
+                    call([0, 1], [0, number], 1)
+        with self.assertRaisesRegex(OverflowError, r"proposed\[1\] must be from 0 to 65535"):
+            kovrelna.judge([0, 1], [0, 0], [0, 65536], 1)
+        with self.assertRaisesRegex(OverflowError, r"codes\[0\] must be from 0 to 255, not 256"):
+            kovrelna.expand([256])
+
+    def test_wrong_buffers(self):
+        wrong = [
+            (array.array("d", [0, 1]), "format 'd' with 8 bytes"),
+            (array.array("f", [0, 1]), "format 'f' with 4 bytes"),
+            (array.array("i", [0, 1]), "format 'i'"),
+            (array.array("H", [0, 1]), "format 'H' with 2 bytes"),
+            (array.array("Q", [0, 1]), "format 'Q' with 8 bytes"),
+            (b"\0\0\0\0\1\0\0\0", "format 'B'"),
+            ((ctypes.c_uint32.__ctype_be__ * 2)(0, 1), "format '>I'"),
+            (memoryview(array.array("I", [0, 9, 1, 9]))[::2], "not contiguous"),
+            (memoryview(array.array("I", [1, 0]))[::-1], "not contiguous"),
+            (memoryview(bytes(8)).cast("I", (2, 1)), "2 dimensions"),
+            ("01", "str is none"),
+            ({0, 1}, "set is none"),
+            (iter([0, 1]), "list_iterator is none"),
+            (None, "NoneType is none"),
+            (7, "int is none"),
+        ]
+        for ticks, words in wrong:
+            for call in REDUCTIONS:
+                with self.assertRaisesRegex(TypeError, words) as caught:
+                    call(ticks, [0, 0], 1)
+                self.assertIn("unsigned 32-bit integers", str(caught.exception))
+        for values in (array.array("H", [0, 0]), array.array("i", [0, 0])):
+            with self.assertRaisesRegex(TypeError, "values must be a buffer of signed 16-bit"):
+                kovrelna.walk([0, 1], values, 1)
+        for record in (array.array("b", RECORD[:0]), array.array("H", RECORD), "54"):
+            with self.assertRaisesRegex(TypeError, "must be a buffer of unsigned 8-bit"):
+                kovrelna.read(record)
+
+    def test_wrong_outputs(self):
+        wrong = [
+            (bytes(10), "format 'B'"),
+            (memoryview(array.array("H", [9] * 5)).toreadonly(), "it is read-only"),
+            (memoryview(array.array("H", [9] * 10))[::2], "not contiguous"),
+            (array.array("h", [9] * 5), "format 'h'"),
+            ([9] * 5, "list is none"),
+        ]
+        for out, words in wrong:
+            for call in REDUCTIONS:
+                with self.assertRaisesRegex(TypeError, words) as caught:
+                    call(EVEN, WAVE, 2, out)
+                self.assertIn("out must be a writable buffer", str(caught.exception))
+        read_only = [
+            ("buffer", kovrelna.write, [0, 1, 3], [0, 1, 1], [0, 2], 1, bytes(40)),
+            ("out", kovrelna.expand, b"\7", memoryview(bytes(2)).cast("h")),
+            ("ticks", kovrelna.read, RECORD, memoryview(bytes(8)).cast("I")),
+            ("values", kovrelna.read, RECORD, None, memoryview(bytes(4)).cast("h")),
+        ]
+        for name, call, *arguments in read_only:
+            with self.assertRaisesRegex(TypeError, f"{name} must be a writable .* read-only"):
+                call(*arguments)
+
+    def test_overlaps(self):
+        memory = memoryview(bytearray(64))
+        ticks, out = memory[:8].cast("I"), memory[6:12].cast("H")
+        ticks[:] = memoryview(array.array("I", [1, 2]))
+        with self.assertRaisesRegex(ValueError, "out and ticks overlap"):
+            kovrelna.walk(ticks, [0, 0], 1, out)
+        self.assertEqual(kovrelna.walk(ticks, [0, 0], 1, memory[8:12].cast("H")).tolist(), [0, 1])
+        with self.assertRaisesRegex(ValueError, "values and ticks overlap"):
+            kovrelna.read(RECORD, memory[:8].cast("I"), memory[4:8].cast("h"))
+        self.assertTrue(kovrelna.same(memoryview(RECORD), memoryview(RECORD)))
+
+    def test_alignment(self):
+        memory = memoryview(array.array("Q", [0, 0])).cast("B")
+        for offset in range(1, 4):
+            ticks = memory[offset : offset + 4].cast("I")
+            with self.assertRaisesRegex(ValueError, "ticks must begin at a multiple of 4 bytes"):
+                kovrelna.walk(ticks, [0], 1)
+        with self.assertRaisesRegex(ValueError, "out must begin at a multiple of 2 bytes"):
+            kovrelna.walk([0], [0], 1, memory[3:5].cast("H"))
+        self.assertEqual(list(kovrelna.walk(memory[4:8].cast("I"), [0], 1)), [0])
+        self.assertEqual(list(kovrelna.expand(memory[3:5])), [0, 0])
+
+    def test_places(self):
+        trace = [0, 1, 3], [0, 1, 1], [0, 2], 1
+        for place, buffer in [(-1, bytearray(40)), (1, None)]:
+            with self.assertRaisesRegex(ValueError, "place must be from 0 on"):
+                kovrelna.write(*trace, buffer, place)
+        with self.assertRaises(TypeError):
+            kovrelna.write(*trace, bytearray(40), 1.0)
+
+    def test_threads(self):
+        ticks = array.array("I", range(4096))
+        values = array.array("h", [k * k % 777 for k in range(4096)])
+        expected = [list(kovrelna.minimum(ticks, values, bound)) for bound in range(4)]
+        found = [None] * 4
+
+        def work(bound):
+            found[bound] = list(kovrelna.minimum(ticks, values, bound))
+
+        threads = [threading.Thread(target=work, args=(bound,)) for bound in range(4)]
+        for thread in threads:
+            thread.start()
+        for thread in threads:
+            thread.join()
+        self.assertEqual(found, expected)
+
+
+class NumpyArrays:
+    """With numpy, or with its stand-in: `module` is the one that the module under test finds."""
+
+    def test_outputs_are_made_by_numpy(self):
+        ticks = self.module.array([0, 1, 3], "I")
+        values = self.module.array([0, 1, 1], "h")
+        record = self.module.array(list(RECORD), "B")
+        with mock.patch.dict(sys.modules, numpy=self.module):
+            answers = [kovrelna.walk(ticks, values, 1), kovrelna.minimum(ticks, values, 1)]
+            answers += [kovrelna.gallop(ticks, values, 1).kept]
+            for kept in answers:
+                self.assertEqual(kept.tolist(), [0, 2])
+            answers += kovrelna.read(record)[:2]
+            answers += [kovrelna.expand(record)]
+            self.assertEqual([len(answer) for answer in answers], [2, 2, 2, 2, 2, 22])
+            self.assertNotIsInstance(kovrelna.walk(ticks.tolist(), values, 1), self.module.ndarray)
+        for answer in answers:
+            self.assertIsInstance(answer, self.module.ndarray)
+
+    def test_outputs_are_lent(self):
+        out = self.module.array([9] * 5, "H")
+        with mock.patch.dict(sys.modules, numpy=self.module):
+            kept = kovrelna.walk(EVEN, WAVE, 2, out)
+        self.assertIsInstance(kept, self.module.ndarray)
+        self.assertEqual((kept.tolist(), out.tolist()), ([0, 2, 4], [0, 2, 4, 9, 9]))
+
+
+class StandIn(NumpyArrays, Case):
+    class ndarray(array.array):
+        def __getitem__(self, key):
+            item = super().__getitem__(key)
+            return type(self)(self.typecode, item) if isinstance(key, slice) else item
+
+    module = types.ModuleType("numpy")
+    module.ndarray = ndarray
+    module.array = lambda numbers, code: StandIn.ndarray(code, numbers)
+    module.empty = lambda length, code: StandIn.ndarray(code, [1] * length)
+
+
+@unittest.skipIf(numpy is None, "numpy is not installed")
+class Numpy(NumpyArrays, Case):
+    module = numpy
+
+    def test_nothing_is_copied(self):
+        ticks = numpy.array([0, 1, 3], numpy.uint32)
+        values = numpy.array([0, 1, 1], numpy.int16)
+        out = numpy.full(3, 9, numpy.uint16)
+        lent = Buffers.lent(self, "walk", kovrelna.walk, ticks, values, 1, out)
+        self.assertEqual(lent, [(one.ctypes.data, 3) for one in (ticks, values, out)])
+        self.assertTrue(numpy.shares_memory(kovrelna.walk(ticks, values, 1, out), out))
+        ticks.flags.writeable = False
+        self.assertEqual(kovrelna.walk(ticks, values, 1).tolist(), [0, 2])
+        out.flags.writeable = False
+        with self.assertRaisesRegex(TypeError, "read-only"):
+            kovrelna.walk(ticks, values, 1, out)
+
+    def test_wrong_arrays(self):
+        for kind in ("f8", "f4", "i4", "u2", "i8", "u8", ">u4", "datetime64[s]", object, "?"):
+            with self.assertRaisesRegex(TypeError, "unsigned 32-bit"):
+                kovrelna.walk(numpy.array([0, 1, 2, 3, 4]).astype(kind), WAVE, 1)
+        for ticks in (numpy.zeros((2, 2), "u4"), numpy.zeros(9, "u4")[::2], numpy.zeros((), "u4")):
+            with self.assertRaisesRegex(TypeError, "ticks must be"):
+                kovrelna.walk(ticks, WAVE, 1)
+
+    def test_scalars(self):
+        self.assertEqual(kovrelna.hold(numpy.float32(0.75)), Fraction(3, 4))
+        self.assertEqual(kovrelna.hold(numpy.int64(3)), 3)
+        self.assertEqual(list(kovrelna.walk(list(numpy.arange(5)), WAVE, 2)), [0, 2, 4])
+
+
+def answer(call, *arguments):
+    """What the call returns, or its refusal as a number and a value."""
+    try:
+        return call(*arguments)
+    except (Refusal, reference.Refused) as refused:
+        return "refused", refused.args
+
+
+class Reference(Case):
+    """Random traces, tolerances and records beside the slow reference."""
+
+    def setUp(self):
+        self.random = random.Random(1)
+
+    def trace(self):
+        """A trace, sometimes one with a fault."""
+        choose = self.random.choice
+        samples = choose([1, 2, 3, 4, 5, 6, 7, 8])
+        most = choose([1, 3, 300, 600000])
+        ticks = [choose([0, 7, 2**32 - 5000000])]
+        for _ in range(samples - 1):
+            ticks.append(ticks[-1] + self.random.randint(1, most))
+        low, high = choose([(0, 3), (-9, 9), (-200, 200), (-32768, 32767)])
+        values = [self.random.randint(low, high) for _ in range(samples)]
+        if choose(range(8)) == 0:
+            at = self.random.randrange(samples)
+            ticks[at] = ticks[at - 1]
+        if choose(range(12)) == 0:
+            choose([ticks, values]).pop()
+        return ticks, values
+
+    def tolerance(self):
+        """A tolerance as the reference and as the module takes it."""
+        q = self.random.choice([1, 2, 3, 1000, 1048575, 1048576, 0])
+        p = self.random.choice([0, 1, 2, 5, 100, q, 5 * q, 65535 * q, 65535 * q + 1])
+        x, y = self.random.randint(-1, 640) / 64, self.random.randint(-1, 40) / 8
+        form = self.random.randrange(3)
+        return [
+            (("ratio", p, q), Ratio(p, q)),
+            (("counts", x), Counts(x)),
+            (("noise", x, y), Noise(x, y)),
+        ][form]
+
+    def kept(self, samples):
+        """A kept list, sometimes one with a fault."""
+        between = [k for k in range(1, samples - 1) if self.random.randrange(2)]
+        kept = [0] + between + [samples - 1] * (samples > 1)
+        if self.random.randrange(4) == 0:
+            kept[self.random.randrange(len(kept))] = self.random.randrange(samples + 1)
+        return kept
+
+    def test_traces(self):
+        seen = set()
+        for _ in range(600):
+            (ticks, values), (form, tolerance) = self.trace(), self.tolerance()
+            room = self.random.choice([8, 8, len(ticks), len(ticks) - 1])
+            out = array.array("H", [999] * max(room, 0))
+            for call in (kovrelna.walk, kovrelna.minimum, kovrelna.gallop):
+                expected = answer(getattr(reference, call.__name__), ticks, values, form, len(out))
+                found = answer(call, ticks, values, tolerance, out)
+                seen.add(expected[1][0] if expected[0] == "refused" else 0)
+                if expected[0] != "refused":
+                    gallop = call is kovrelna.gallop
+                    found = (list(found.kept), found.probes) if gallop else list(found)
+                self.assertEqual(found, expected, (call.__name__, ticks, values, form))
+            allowance = self.random.choice([1, 2, 2, 3, 4, 5, 4096, 4097])
+            expected = answer(reference.least, ticks, values, allowance, len(out))
+            found = answer(kovrelna.least, ticks, values, allowance, out)
+            seen.add(expected[1][0] if expected[0] == "refused" else 0)
+            if expected[0] != "refused":
+                found = list(found.kept), found.error
+            self.assertEqual(found, expected, ("least", ticks, values, allowance))
+            kept = self.kept(max(len(ticks), 1))
+            expected = answer(reference.judge, ticks, values, kept, form)
+            found = answer(kovrelna.judge, ticks, values, kept, tolerance)
+            if isinstance(found, Verdict):
+                self.assertEqual(found.passed, found.link is None)
+                found = found.link
+            self.assertEqual(found, expected, (ticks, values, kept, form))
+        self.assertEqual(seen, {0, 1, 2, 3, 4, 5, 10})
+
+    def test_records(self):
+        seen = set()
+        for _ in range(600):
+            (ticks, values), (form, tolerance) = self.trace(), self.tolerance()
+            kept = self.kept(max(len(ticks), 1))
+            size, place = self.random.randrange(70), self.random.choice([0, 3, 80])
+            expected = answer(reference.write, ticks, values, kept, form, max(size - place, 0))
+            event = bytearray(b"\xa5" * size)
+            found = answer(kovrelna.write, ticks, values, kept, tolerance, event, place)
+            seen.add(expected[1][0] if expected[0] == "refused" else 0)
+            after = b"\xa5" * size
+            if expected[0] != "refused":
+                found = bytes(found)
+                after = after[:place] + expected + after[place + len(expected) :]
+            self.assertEqual(found, expected, (ticks, values, kept, form))
+            self.assertEqual(event, after)
+        self.assertEqual(seen, {0, 1, 2, 3, 4, 6, 7, 10})
+
+    def damaged(self, record):
+        """The record with one change, which may leave it whole."""
+        at = self.random.randrange(len(record))
+        byte = bytes([self.random.choice([0, 1, 2, 0x41, 0x45, 0x4C, 0x53, 0x54, 0xFF])])
+        return self.random.choice(
+            [
+                record,
+                record[:at],
+                record[:at] + byte + record[at + 1 :],
+                record[:at] + byte + record[at:],
+                record[:at] + record[at + 1 :],
+            ]
+        )
+
+    def test_damaged_records(self):
+        records, seen = [RECORD], set()
+        while len(records) < 300:
+            (ticks, values), (form, _) = self.trace(), self.tolerance()
+            record = answer(reference.write, ticks, values, range(len(ticks)), form, 99)
+            if isinstance(record, bytes):
+                records.append(record)
+        for record in records:
+            first, second = self.damaged(record), self.damaged(record)
+            expected = answer(reference.read, first)
+            found = answer(kovrelna.read, first)
+            if expected[0] != "refused":
+                found = list(found.ticks), list(found.values), found.tolerance
+            self.assertEqual(found, expected, first.hex(" "))
+            compared = answer(reference.same, first, second)
+            seen.add(compared if isinstance(compared, bool) else compared[1][0])
+            self.assertEqual(answer(kovrelna.same, first, second), compared)
+        self.assertEqual(seen, {True, False, 8, 9})
+
+
+class Loading(unittest.TestCase):
+    """Where the module finds the shared library."""
+
+    def setUp(self):
+        self.place = tempfile.TemporaryDirectory()
+        self.addCleanup(self.place.cleanup)
+        source = os.path.dirname(os.path.abspath(kovrelna.__file__))
+        self.package = os.path.join(self.place.name, "kovrelna")
+        shutil.copytree(source, self.package)
+        self.library = os.path.abspath(kovrelna._library._LIBRARY._name)
+
+    def loaded(self, **environment):
+        """The path of the library that is loaded, or what is said where there is none."""
+        program = "import kovrelna; print(kovrelna._library._LIBRARY._name, kovrelna.hold(2))"
+        environment = {"PYTHONPATH": self.place.name, **environment}
+        ran = subprocess.run(
+            [sys.executable, "-B", "-c", program],
+            env=environment,
+            stdout=subprocess.PIPE,
+            stderr=subprocess.STDOUT,
+            universal_newlines=True,
+        )
+        return ran.stdout.strip().splitlines()[-1]
+
+    def test_places(self):
+        name = kovrelna._library.NAME
+        folder = os.path.join(self.place.name, "lib")
+        os.mkdir(folder)
+        shutil.copy(self.library, os.path.join(folder, name))
+        self.assertEqual(self.loaded(LD_LIBRARY_PATH=folder), f"{name} 2")
+        beside = os.path.join(self.package, name)
+        shutil.copy(self.library, beside)
+        self.assertEqual(self.loaded(), f"{beside} 2")
+        self.assertEqual(self.loaded(KOVRELNA_LIBRARY=self.library), f"{self.library} 2")
+        said = self.loaded(KOVRELNA_LIBRARY="/nowhere/libkovrelna.so")
+        self.assertRegex(said, "^ImportError: the shared library of Kovrelna cannot be loaded")
+
+    def test_another_library(self):
+        said = self.loaded(KOVRELNA_LIBRARY="libc.so.6")
+        self.assertRegex(said, "^ImportError: libc.so.6 is no library of this version")
+
+
+if __name__ == "__main__":
+    unittest.main()

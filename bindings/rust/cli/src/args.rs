@@ -1,0 +1,138 @@
+//! Options and operands of a command line. Every option but `--help` takes a value, as `--name value`,
+//! `--name=value`, `-n value` or `-nvalue`. `--` ends the options; `-` alone is an operand.
+
+use crate::failure::Failure;
+use crate::source::shown;
+use std::ffi::{OsStr, OsString};
+use std::os::unix::ffi::OsStrExt;
+
+/// An option's name and its letter.
+pub type Known = (&'static str, char);
+
+/// What a command line gives.
+#[derive(Debug, Default)]
+pub struct Arguments {
+    options: Vec<(&'static str, OsString)>,
+    pub operands: Vec<OsString>,
+    pub help: bool,
+}
+
+impl Arguments {
+    /// The arguments of the command with this name and these options.
+    pub fn parse(
+        command: &str,
+        known: &[Known],
+        arguments: &[OsString],
+    ) -> Result<Arguments, Failure> {
+        let mut parsed = Arguments::default();
+        let mut arguments = arguments.iter();
+        while let Some(argument) = arguments.next() {
+            if argument == "--" {
+                parsed.operands.extend(arguments.cloned());
+                break;
+            }
+            let Some((name, value)) = option(argument) else {
+                parsed.operands.push(argument.clone());
+                continue;
+            };
+            if [&b"--help"[..], b"-h"].contains(&name) && value.is_none() {
+                parsed.help = true;
+                continue;
+            }
+            let wrong =
+                |cause: &str| Failure::usage(&format!("{}: {cause}", shown(argument)), command);
+            let long = long(known, name).ok_or_else(|| wrong("there is no such option"))?;
+            if parsed.value(long).is_some() {
+                return Err(wrong("the option is given twice"));
+            }
+            let value = value.or_else(|| arguments.next().map(OsString::as_os_str));
+            let value = value
+                .ok_or_else(|| wrong("a value is missing"))?
+                .to_os_string();
+            parsed.options.push((long, value));
+        }
+        Ok(parsed)
+    }
+
+    /// The option's value.
+    pub fn value(&self, name: &str) -> Option<&OsStr> {
+        let found = self.options.iter().find(|(option, _)| *option == name);
+        found.map(|(_, value)| value.as_os_str())
+    }
+}
+
+/// The known option with this name, which has its dashes.
+fn long(known: &[Known], name: &[u8]) -> Option<&'static str> {
+    let named = |&&(long, letter): &&Known| match name {
+        [b'-', b'-', name @ ..] => name == long.as_bytes(),
+        name => name[1] == letter as u8,
+    };
+    known.iter().find(named).map(|&(long, _)| long)
+}
+
+/// An option's name with its dashes, and the value in the same argument, if there is one.
+fn option(argument: &OsStr) -> Option<(&[u8], Option<&OsStr>)> {
+    let bytes = argument.as_bytes();
+    let (name, value) = match bytes {
+        [b'-', b'-', ..] => match bytes.iter().position(|&byte| byte == b'=') {
+            Some(equals) => (&bytes[..equals], Some(&bytes[equals + 1..])),
+            None => (bytes, None),
+        },
+        [b'-', _] => (bytes, None),
+        [b'-', _, value @ ..] => (&bytes[..2], Some(value)),
+        _ => return None,
+    };
+    Some((name, value.map(OsStr::from_bytes)))
+}
+
+#[cfg(test)]
+mod tests {
+    use super::*;
+
+    const KNOWN: &[Known] = &[("tolerance", 't'), ("output", 'o')];
+
+    fn parse(arguments: &[&str]) -> Result<Arguments, Failure> {
+        let arguments: Vec<OsString> = arguments.iter().map(OsString::from).collect();
+        Arguments::parse("record", KNOWN, &arguments)
+    }
+
+    #[test]
+    fn options_and_operands() {
+        for line in [
+            &["--tolerance", "2", "-o", "out", "in"][..],
+            &["--tolerance=2", "in", "-oout"],
+            &["in", "-t2", "--output", "out"],
+            &["-t", "2", "-oout", "--", "in"],
+        ] {
+            let parsed = parse(line).unwrap();
+            assert_eq!(parsed.value("tolerance"), Some(OsStr::new("2")), "{line:?}");
+            assert_eq!(parsed.value("output"), Some(OsStr::new("out")), "{line:?}");
+            assert_eq!(parsed.operands, ["in"], "{line:?}");
+            assert!(!parsed.help);
+        }
+        let parsed = parse(&["-", "--", "-t", "--help"]).unwrap();
+        assert_eq!(parsed.operands, ["-", "-t", "--help"]);
+        assert_eq!(parsed.value("tolerance"), None);
+        assert!(parse(&["-t", "1", "--help"]).unwrap().help);
+        let empty = parse(&["--output=", ""]).unwrap();
+        assert_eq!(empty.value("output"), Some(OsStr::new("")));
+        assert_eq!(empty.operands, [""]);
+    }
+
+    #[test]
+    fn wrong_lines() {
+        for (line, cause) in [
+            (&["--tolerances", "2"][..], "there is no such option"),
+            (&["-x"], "there is no such option"),
+            (&["--=2"], "there is no such option"),
+            (&["--help=2"], "there is no such option"),
+            (&["-t"], "a value is missing"),
+            (&["--tolerance", "2", "-t3"], "the option is given twice"),
+        ] {
+            match parse(line) {
+                Err(Failure::Told(message)) => assert!(message.contains(cause), "{message}"),
+                other => panic!("{line:?} {other:?}"),
+            }
+        }
+    }
+}

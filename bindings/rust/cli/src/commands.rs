@@ -1,0 +1,287 @@
+//! One function for each command. It takes the arguments after the command's name.
+
+use crate::failure::{Failure, Status};
+use crate::line::{Line, ALLOWANCE, LIST, LIST_FILE, METHOD, METHODS, OUTPUT, TOLERANCE};
+use crate::records::{self, Record};
+use crate::source::{shown, Source};
+use crate::svg::{self, Picture};
+use crate::text::{self, Text};
+use crate::{help, output, tolerance};
+use kovrelna::{Least, Ratio, Refusal, Verdict};
+use std::ffi::{OsStr, OsString};
+use std::fmt::Display;
+use std::path::Path;
+
+type Command = fn(&[OsString]) -> Result<Status, Failure>;
+
+/// The command with this name.
+pub fn find(name: &str) -> Option<Command> {
+    Some(match name {
+        "record" => record,
+        "show" => show,
+        "judge" => judge,
+        "least" => least,
+        "summary" => summary,
+        "draw" => draw,
+        _ => return None,
+    })
+}
+
+fn record(arguments: &[OsString]) -> Result<Status, Failure> {
+    let line = Line::parse("record", &[TOLERANCE, METHOD, OUTPUT], arguments)?;
+    if line.arguments.help {
+        return output::print(help::RECORD);
+    }
+    let (tolerance, method) = (line.tolerance()?, line.method()?);
+    if tolerance.is_none() && method.is_some() {
+        return Err(line.wrong("--method needs --tolerance"));
+    }
+    let text = Text::read(Source::open(line.input()?)?)?;
+    let (list, tolerance) = match (tolerance, &text.tolerance) {
+        (Some((tolerance, _)), _) => {
+            let method = method.unwrap_or(METHODS[0]);
+            (method.list(&text, tolerance)?, tolerance)
+        }
+        (None, Some(written)) => {
+            let parsed = tolerance::parse(written);
+            let (tolerance, _) =
+                parsed.map_err(|cause| Failure::at(&text.name, format!("tolerance: {cause}")))?;
+            let every = (0..text.ticks.len()).map(|sample| sample as u16);
+            (every.collect(), tolerance)
+        }
+        (None, None) => {
+            let cause = "--tolerance is missing, and there is no line `# tolerance p/q`";
+            return Err(line.wrong(&format!("{}: {cause}", text.name)));
+        }
+    };
+    let record = records::save(&text.ticks, &text.values, &list, tolerance)
+        .map_err(|refusal| text.refused(refusal))?;
+    output::write(line.value(OUTPUT), &record, false)
+}
+
+/// Prints what each input gives; says what is wrong with an input and goes on with the next.
+fn each(
+    inputs: &[&OsStr],
+    mut print: impl FnMut(String, Record) -> String,
+) -> Result<Status, Failure> {
+    let mut status = Status::Done;
+    for input in inputs {
+        let source = Source::open(Some(input));
+        let loaded = source.and_then(|source| Ok((source.name.clone(), records::load(source)?)));
+        match loaded {
+            Ok((name, record)) => output::standard(print(name, record).as_bytes())?,
+            Err(failure) => {
+                failure.report();
+                status = Status::Error;
+            }
+        }
+    }
+    Ok(status)
+}
+
+fn show(arguments: &[OsString]) -> Result<Status, Failure> {
+    let line = Line::parse("show", &[], arguments)?;
+    if line.arguments.help {
+        return output::print(help::SHOW);
+    }
+    let inputs = line.inputs();
+    each(&inputs, |name, record| {
+        let mut text = String::new();
+        if inputs.len() > 1 {
+            text = format!("# {name}\n");
+        }
+        let Ratio { p, q } = record.tolerance;
+        text += &format!("# tolerance {p}/{q}\n");
+        for (tick, value) in record.ticks.iter().zip(&record.values) {
+            text += &format!("{tick},{value}\n");
+        }
+        text
+    })
+}
+
+fn judge(arguments: &[OsString]) -> Result<Status, Failure> {
+    let line = Line::parse("judge", &[TOLERANCE, LIST, LIST_FILE], arguments)?;
+    if line.arguments.help {
+        return output::print(help::JUDGE);
+    }
+    let Some((tolerance, _)) = line.tolerance()? else {
+        return Err(line.wrong("--tolerance is missing"));
+    };
+    let list = match (line.text(LIST)?, line.value(LIST_FILE)) {
+        (Some(list), None) => {
+            let entries = text::entries(list);
+            entries.map_err(|cause| line.wrong(&format!("--list: {cause}")))?
+        }
+        (None, Some(file)) => text::list(Source::open(Some(file))?)?,
+        _ => return Err(line.wrong("one of --list and --list-file is wanted")),
+    };
+    let text = Text::read(Source::open(line.input()?)?)?;
+    match kovrelna::judge(&text.ticks, &text.values, &list, tolerance) {
+        Ok(Verdict::Within) => output::print("yes\n"),
+        Ok(Verdict::Outside { link }) => {
+            output::print(&format!("no at link {link}\n"))?;
+            Ok(Status::No)
+        }
+        Err(refusal) => Err(text.refused(refusal)),
+    }
+}
+
+/// The most samples of a trace for least.
+const LEAST_SAMPLES: usize = 256;
+
+fn least(arguments: &[OsString]) -> Result<Status, Failure> {
+    let line = Line::parse("least", &[ALLOWANCE], arguments)?;
+    if line.arguments.help {
+        return output::print(help::LEAST);
+    }
+    let Some(allowance) = line.text(ALLOWANCE)? else {
+        return Err(line.wrong("--allowance is missing"));
+    };
+    let wrong = |cause: &dyn Display| line.wrong(&format!("--allowance: {cause}"));
+    let allowance = text::whole("allowance", allowance, 0, u64::MAX).map_err(|c| wrong(&c))?;
+    let text = Text::read(Source::open(line.input()?)?)?;
+    let mut list = vec![0; text.ticks.len()];
+    let answer = kovrelna::least(&text.ticks, &text.values, allowance, &mut list);
+    let Least { kept, error } = answer.map_err(|refusal| match refusal {
+        Refusal::Allowance => wrong(&refusal),
+        Refusal::Length => text.too_long(LEAST_SAMPLES),
+        refusal => text.refused(refusal),
+    })?;
+    let list: Vec<String> = list[..kept].iter().map(u16::to_string).collect();
+    let Ratio { p, q } = error;
+    output::print(&format!("error {p}/{q}\nlist {}\n", list.join(",")))
+}
+
+/// What a line of the summary says.
+struct Counts {
+    samples: usize,
+    span: u64,
+    least: i16,
+    greatest: i16,
+    bytes: usize,
+}
+
+impl Counts {
+    fn of(record: &Record) -> Counts {
+        let (ticks, values) = (&record.ticks, &record.values);
+        Counts {
+            samples: ticks.len(),
+            span: u64::from(ticks[ticks.len() - 1] - ticks[0]),
+            least: values.iter().copied().min().unwrap_or(0),
+            greatest: values.iter().copied().max().unwrap_or(0),
+            bytes: record.bytes,
+        }
+    }
+
+    fn plus(&self, other: &Counts) -> Counts {
+        Counts {
+            samples: self.samples + other.samples,
+            span: self.span + other.span,
+            least: self.least.min(other.least),
+            greatest: self.greatest.max(other.greatest),
+            bytes: self.bytes + other.bytes,
+        }
+    }
+
+    fn line(&self, tolerance: &str, name: &str) -> String {
+        let Counts {
+            samples,
+            span,
+            least,
+            greatest,
+            bytes,
+        } = self;
+        format!("{samples}\t{span}\t{tolerance}\t{least}\t{greatest}\t{bytes}\t{name}\n")
+    }
+}
+
+fn summary(arguments: &[OsString]) -> Result<Status, Failure> {
+    let line = Line::parse("summary", &[], arguments)?;
+    if line.arguments.help {
+        return output::print(help::SUMMARY);
+    }
+    output::print("samples\tspan\ttolerance\tleast\tgreatest\tbytes\tfile\n")?;
+    let mut total: Option<Counts> = None;
+    let status = each(&line.inputs(), |name, record| {
+        let counts = Counts::of(&record);
+        let Ratio { p, q } = record.tolerance;
+        let line = counts.line(&format!("{p}/{q}"), &name);
+        total = Some(match &total {
+            Some(before) => before.plus(&counts),
+            None => counts,
+        });
+        line
+    })?;
+    output::print(&match total {
+        Some(total) => total.line("-", "total"),
+        None => "0\t0\t-\t-\t-\t0\ttotal\n".to_string(),
+    })?;
+    Ok(status)
+}
+
+fn draw(arguments: &[OsString]) -> Result<Status, Failure> {
+    let line = Line::parse("draw", &[TOLERANCE, METHOD, OUTPUT], arguments)?;
+    if line.arguments.help {
+        return output::print(help::DRAW);
+    }
+    let input = line.input()?;
+    let mut source = Source::open(input)?;
+    let beginning = source.bytes(records::BEGINNING)?;
+    let is_record = records::begins(&beginning);
+    let source = source.put_back(beginning);
+    let (counts, picture) = match is_record {
+        true => picture_of_record(&line, source)?,
+        false => picture_of_trace(&line, source)?,
+    };
+    let name = match input.and_then(|input| Path::new(input).file_name()) {
+        Some(name) if name != "-" => shown(name) + ": ",
+        _ => String::new(),
+    };
+    let tolerance = match picture.tolerance {
+        Ratio { p, q: 1 } => p.to_string(),
+        Ratio { p, q } => format!("{p}/{q}"),
+    };
+    let title = format!("{name}{counts}, tolerance {tolerance}");
+    let svg = svg::draw(&title, &picture);
+    output::write(line.value(OUTPUT), svg.as_bytes(), true)
+}
+
+/// The lines of a record, and how many samples there are in words.
+fn picture_of_record(line: &Line, source: Source) -> Result<(String, Picture), Failure> {
+    if line.value(TOLERANCE).is_some() || line.value(METHOD).is_some() {
+        let cause = "is a record, and has its own tolerance: --tolerance and --method do not apply";
+        return Err(line.wrong(&format!("{} {cause}", source.name)));
+    }
+    let record = records::load(source)?;
+    let counts = format!("{} samples kept", record.ticks.len());
+    let picture = Picture {
+        kept: record.ticks.into_iter().zip(record.values).collect(),
+        samples: Vec::new(),
+        tolerance: record.tolerance,
+    };
+    Ok((counts, picture))
+}
+
+/// A trace and the lines that are kept of it, and how many samples there are in words.
+fn picture_of_trace(line: &Line, source: Source) -> Result<(String, Picture), Failure> {
+    let Some((tolerance, held)) = line.tolerance()? else {
+        let cause = "--tolerance is missing, and this is no record";
+        return Err(line.wrong(&format!("{}: {cause}", source.name)));
+    };
+    let method = line.method()?.unwrap_or(METHODS[0]);
+    let text = Text::read(source)?;
+    let list = method.list(&text, tolerance)?;
+    let samples: Vec<_> = text.ticks.into_iter().zip(text.values).collect();
+    let counts = format!(
+        "{} samples, {} kept by {}",
+        samples.len(),
+        list.len(),
+        method.name
+    );
+    let picture = Picture {
+        kept: list.iter().map(|&k| samples[usize::from(k)]).collect(),
+        samples,
+        tolerance: held,
+    };
+    Ok((counts, picture))
+}

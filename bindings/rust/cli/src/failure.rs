@@ -1,0 +1,93 @@
+//! Why the tool stops, in words, and its exit status.
+
+use std::io::{self, Write};
+use std::process::ExitCode;
+
+/// How the tool ends.
+#[derive(Clone, Copy, Debug, PartialEq, Eq)]
+pub enum Status {
+    /// Done; a judged list is within its tolerance.
+    Done,
+    /// A judged list is not within its tolerance.
+    No,
+    /// Something was refused, or could not be read or written.
+    Error,
+}
+
+impl From<Status> for ExitCode {
+    fn from(status: Status) -> ExitCode {
+        ExitCode::from(match status {
+            Status::Done => 0,
+            Status::No => 1,
+            Status::Error => 2,
+        })
+    }
+}
+
+/// Why the tool stops.
+#[derive(Debug, PartialEq, Eq)]
+pub enum Failure {
+    /// What standard error is told.
+    Told(String),
+    /// Nobody reads standard output any more: nothing is told.
+    BrokenPipe,
+}
+
+impl Failure {
+    /// At this file, or whatever else is at fault.
+    pub fn at(place: &str, cause: impl ToString) -> Failure {
+        Failure::Told(format!("{place}: {}", cause.to_string()))
+    }
+
+    /// At a line of this file; lines are counted from 1.
+    pub fn at_line(place: &str, line: usize, cause: impl ToString) -> Failure {
+        Failure::Told(format!("{place}:{line}: {}", cause.to_string()))
+    }
+
+    /// An operation on this file failed.
+    pub fn io(place: &str, error: &io::Error) -> Failure {
+        Failure::at(place, words(error))
+    }
+
+    /// The command line is wrong; `command` is the command's name, if it is known.
+    pub fn usage(cause: &str, command: &str) -> Failure {
+        let space = if command.is_empty() { "" } else { " " };
+        Failure::Told(format!("{cause}\nTry `kovrelna{space}{command} --help`."))
+    }
+
+    /// Tells standard error, as far as it can be written.
+    pub fn report(&self) {
+        if let Failure::Told(message) = self {
+            let _ = writeln!(io::stderr(), "kovrelna: {message}");
+        }
+    }
+}
+
+/// The error without the system's number for it.
+fn words(error: &io::Error) -> String {
+    let words = error.to_string();
+    match words.rfind(" (os error ") {
+        Some(end) => words[..end].to_string(),
+        None => words,
+    }
+}
+
+#[cfg(test)]
+mod tests {
+    use super::*;
+
+    #[test]
+    fn messages() {
+        let told = |words: &str| Failure::Told(words.to_string());
+        assert_eq!(Failure::at_line("a.csv", 3, "why"), told("a.csv:3: why"));
+        let missing = io::Error::from_raw_os_error(2);
+        assert_eq!(
+            Failure::io("a.csv", &missing),
+            told("a.csv: No such file or directory")
+        );
+        assert_eq!(
+            Failure::usage("why", ""),
+            told("why\nTry `kovrelna --help`.")
+        );
+    }
+}

@@ -1,0 +1,118 @@
+//! What `--help` and `--version` print.
+
+pub const VERSION: &str = concat!("kovrelna ", env!("CARGO_PKG_VERSION"), "\n");
+
+pub const TOOL: &str = "\
+Reduces traces of ADC samples, judges the result and records it.
+
+Usage: kovrelna COMMAND [OPTION..] [FILE..]
+       kovrelna COMMAND --help
+       kovrelna --help | --version
+
+  record    make a record from a trace
+  show      print records as text
+  judge     say whether a list of samples is within a tolerance
+  least     say how near a list of so many samples can come
+  summary   print a line for each record, and a total
+  draw      draw a trace, its lines and its tolerance band as SVG
+
+A trace is text: a line for each sample with its tick (0 to 4294967295) and its
+value (-32768 to 32767), between them a comma, a semicolon, a tab or spaces.
+What follows a # is skipped; so are blank lines and a heading. A trace has 1 to
+4,096 samples; ticks rise; the last is at most 1,048,575 above the first.
+
+A tolerance is p/q (2/3), counts (2 or 1.5, in steps of 1/64), or a channel's
+noise and the multiple wanted (3.25x4).
+
+Without a file, or with -, standard input is read. Errors go to standard error
+as `kovrelna: FILE:LINE: cause`.
+
+Exit status: 0 done (judge: yes), 1 judge says no, 2 error.
+";
+
+pub const RECORD: &str = "\
+Makes a record from a trace: keeps a few samples, so that the straight lines
+between them pass all others within the tolerance.
+
+Usage: kovrelna record -t TOLERANCE [-m METHOD] [-o FILE] [INPUT]
+       kovrelna record [-o FILE] [INPUT]
+
+  -t, --tolerance T   p/q, counts, or noise x multiple: 2/3, 1.5, 3.25x4
+  -m, --method M      walk (the default; one pass), gallop, or minimum (as few
+                      samples as possible)
+  -o, --output FILE   write to FILE instead of standard output; FILE is
+                      replaced only when all is written
+
+Without a tolerance, INPUT has a line `# tolerance p/q` before its samples, as
+`kovrelna show` prints it, and every sample is kept: show and record without
+options give the same record again.
+
+Exit status: 0 done, 2 error.
+";
+
+pub const SHOW: &str = "\
+Prints records as text: a line `# tolerance p/q`, then each sample's tick and
+value, with a comma between. Before each of several records is a line with its
+name. `kovrelna record` reads the text of one record back.
+
+Usage: kovrelna show [FILE..]
+
+After a faulty record the others are still printed.
+
+Exit status: 0 done, 2 error.
+";
+
+pub const JUDGE: &str = "\
+Says whether a list of samples is within a tolerance: prints `yes`, or `no at
+link N` with the first link that some sample is too far from. Samples and links
+are counted from 0; the list begins with 0, rises, and ends with the last one.
+
+Usage: kovrelna judge -t TOLERANCE -l LIST [INPUT]
+       kovrelna judge -t TOLERANCE -f FILE [INPUT]
+
+  -t, --tolerance T     p/q, counts, or noise x multiple: 2/3, 1.5, 3.25x4
+  -l, --list LIST       samples, with commas between: 0,3,4
+  -f, --list-file FILE  a file with the samples, with commas, spaces or line
+                        ends between
+
+Exit status: 0 yes, 1 no, 2 error.
+";
+
+pub const LEAST: &str = "\
+Prints the least tolerance that a list of at most so many samples is within, as
+`error p/q`, and the list that minimum keeps at it, as `list 0,3,4`. The trace
+has at most 256 samples.
+
+Usage: kovrelna least -a ALLOWANCE [INPUT]
+
+  -a, --allowance M   at most so many samples are kept, from 2 to 4096
+
+Exit status: 0 done, 2 error.
+";
+
+pub const SUMMARY: &str = "\
+Prints a line for each record, under a heading, with tabs between: samples,
+span in ticks, tolerance, least and greatest value, bytes, file. The last line
+is the total: samples, spans and bytes added, least and greatest of all values.
+
+Usage: kovrelna summary [FILE..]
+
+After a faulty record the others are still summarised.
+
+Exit status: 0 done, 2 error (also if one record is faulty).
+";
+
+pub const DRAW: &str = "\
+Draws a trace with the lines that are kept of it and their tolerance band, as
+SVG. Of a record the lines and the band are drawn, without options.
+
+Usage: kovrelna draw -t TOLERANCE [-m METHOD] [-o FILE] [INPUT]
+       kovrelna draw [-o FILE] [RECORD]
+
+  -t, --tolerance T   p/q, counts, or noise x multiple: 2/3, 1.5, 3.25x4
+  -m, --method M      walk (the default), gallop or minimum
+  -o, --output FILE   write to FILE instead of standard output; FILE is
+                      replaced only when all is written
+
+Exit status: 0 done, 2 error.
+";

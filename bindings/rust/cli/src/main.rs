@@ -1,0 +1,64 @@
+//! The command-line tool `kovrelna`, a filter for traces and records.
+//!
+//! - `args`: options and operands of a command line.
+//! - `help`: what `--help` and `--version` print.
+//! - `failure`: why the tool stops, and its exit status.
+//! - `number`: decimal numbers, exactly as they are written.
+//! - `tolerance`: a tolerance as it is written on the command line.
+//! - `source`: files and standard input.
+//! - `text`: traces and lists as text.
+//! - `records`: records as files.
+//! - `output`: standard output, and files that are replaced whole.
+//! - `svg`: pictures.
+//! - `line`: what the commands share.
+//! - `commands`: one function for each command.
+//!
+//! Which samples are kept, whether a list is within a tolerance, what a tolerance is held as and what
+//! is in a record: all this is asked of the library.
+#![deny(unsafe_code)]
+
+mod args;
+mod commands;
+mod failure;
+mod help;
+mod line;
+mod number;
+mod output;
+mod records;
+mod source;
+mod svg;
+mod text;
+mod tolerance;
+
+use failure::{Failure, Status};
+use std::env;
+use std::ffi::OsString;
+use std::process::ExitCode;
+
+fn main() -> ExitCode {
+    let arguments: Vec<OsString> = env::args_os().skip(1).collect();
+    match run(&arguments) {
+        Ok(status) => status.into(),
+        Err(failure) => {
+            failure.report();
+            Status::Error.into()
+        }
+    }
+}
+
+fn run(arguments: &[OsString]) -> Result<Status, Failure> {
+    let Some((name, rest)) = arguments.split_first() else {
+        return Err(Failure::usage("a command is missing", ""));
+    };
+    match name.to_str() {
+        Some("--help" | "-h") => output::print(help::TOOL),
+        Some("--version" | "-V") => output::print(help::VERSION),
+        name => match name.and_then(commands::find) {
+            Some(command) => command(rest),
+            None => {
+                let name = source::shown(arguments[0].as_ref());
+                Err(Failure::usage(&format!("there is no command {name}"), ""))
+            }
+        },
+    }
+}

@@ -1,0 +1,95 @@
+//! Records as files, through the library.
+
+use crate::failure::Failure;
+use crate::source::Source;
+use kovrelna::{read, write, Ratio, Refusal, Tolerance};
+
+/// The most bytes of a record.
+const BYTES: usize = 24_589;
+/// The most samples of a record.
+const SAMPLES: usize = 4_096;
+
+/// What a record holds.
+#[derive(Debug)]
+pub struct Record {
+    pub ticks: Vec<u32>,
+    pub values: Vec<i16>,
+    pub tolerance: Ratio,
+    /// The record's length.
+    pub bytes: usize,
+}
+
+/// Reads a record.
+pub fn load(mut source: Source) -> Result<Record, Failure> {
+    // One byte more than a record may have: enough to find any fault.
+    let bytes = source.bytes(BYTES + 1)?;
+    let (mut ticks, mut values) = (vec![0; SAMPLES], vec![0; SAMPLES]);
+    let content = read(&bytes, &mut ticks, &mut values)
+        .map_err(|refusal| Failure::at(&source.name, refusal))?;
+    ticks.truncate(content.samples);
+    values.truncate(content.samples);
+    Ok(Record {
+        ticks,
+        values,
+        tolerance: content.tolerance,
+        bytes: bytes.len(),
+    })
+}
+
+/// The record of the listed samples.
+pub fn save(
+    ticks: &[u32],
+    values: &[i16],
+    list: &[u16],
+    tolerance: Tolerance,
+) -> Result<Vec<u8>, Refusal> {
+    let mut buffer = vec![0; BYTES];
+    let length = write(ticks, values, list, tolerance, &mut buffer, 0)?;
+    buffer.truncate(length);
+    Ok(buffer)
+}
+
+/// How many bytes `begins` looks at.
+pub const BEGINNING: usize = 10;
+
+/// Whether a record begins like this, and no text: the first command, then the high byte of p, which
+/// is at most 0F; below 09 it is in no text, and otherwise the second command is looked for.
+pub fn begins(bytes: &[u8]) -> bool {
+    matches!(
+        bytes,
+        [0x54, 0..=0x08, ..] | [0x54, 0x09..=0x0f, _, _, _, _, 0..=0x0f, _, _, 0x41]
+    )
+}
+
+#[cfg(test)]
+mod tests {
+    use super::*;
+
+    #[test]
+    fn there_and_back() {
+        let tolerance = Tolerance::Ratio { p: 4, q: 6 };
+        let bytes = save(&[0, 1, 3], &[0, 1, 1], &[0, 2], tolerance).unwrap();
+        assert_eq!(bytes.len(), 22);
+        assert!(begins(&bytes[..BEGINNING]));
+        let record = load(Source::of("in", &bytes)).unwrap();
+        assert_eq!((record.ticks, record.values), (vec![0, 3], vec![0, 1]));
+        assert_eq!((record.tolerance, record.bytes), (Ratio { p: 2, q: 3 }, 22));
+        let cut = load(Source::of("in", &bytes[..20])).unwrap_err();
+        let told = "in: the record is faulty at byte 19".to_string();
+        assert_eq!(cut, Failure::Told(told));
+    }
+
+    #[test]
+    fn beginnings() {
+        let greatest = Tolerance::Ratio {
+            p: 65_535 * 1_048_575 - 1,
+            q: 1_048_575,
+        };
+        let bytes = save(&[0], &[0], &[0], greatest).unwrap();
+        assert!(begins(&bytes[..BEGINNING]));
+        for text in ["", "T", "Tick,value\n0,1", "T\tvalue\n0\t1\n", "0,1"] {
+            let beginning = text.bytes().take(BEGINNING).collect::<Vec<_>>();
+            assert!(!begins(&beginning), "{text}");
+        }
+    }
+}

@@ -1,0 +1,89 @@
+//! The calls of document 01, the rows of its table of refusals that each has, and how often each call
+//! was compared on this thread, by what was answered.
+
+use kovrelna_reference::Row;
+use std::cell::RefCell;
+
+/// A public call.
+#[derive(Clone, Copy, Debug, PartialEq, Eq)]
+pub enum Call {
+    Hold,
+    Judge,
+    Walk,
+    Gallop,
+    Minimum,
+    Least,
+    Expand,
+    Write,
+    Read,
+    Same,
+}
+
+/// Every call.
+pub const CALLS: [Call; 10] = [
+    Call::Hold,
+    Call::Judge,
+    Call::Walk,
+    Call::Gallop,
+    Call::Minimum,
+    Call::Least,
+    Call::Expand,
+    Call::Write,
+    Call::Read,
+    Call::Same,
+];
+
+/// How many rows the table has.
+pub const ROWS: usize = 10;
+
+/// How often a call was compared: first with an answer, then with each row of the table.
+pub type Counts = [u64; ROWS + 1];
+
+impl Call {
+    pub fn name(self) -> &'static str {
+        match self {
+            Call::Hold => "hold",
+            Call::Judge => "judge",
+            Call::Walk => "walk",
+            Call::Gallop => "gallop",
+            Call::Minimum => "minimum",
+            Call::Least => "least",
+            Call::Expand => "expand",
+            Call::Write => "write",
+            Call::Read => "read",
+            Call::Same => "same",
+        }
+    }
+
+    /// The numbers of the rows with which it may refuse, rising.
+    pub fn rows(self) -> &'static [u32] {
+        match self {
+            Call::Hold => &[4],
+            Call::Judge => &[1, 2, 3, 4, 6],
+            Call::Walk | Call::Gallop | Call::Minimum => &[1, 2, 3, 4, 10],
+            Call::Least => &[1, 2, 3, 5, 10],
+            Call::Expand => &[1, 10],
+            Call::Write => &[1, 2, 3, 4, 6, 7, 10],
+            Call::Read => &[8, 10],
+            Call::Same => &[8, 9],
+        }
+    }
+
+    /// Counts a comparison with this expected answer.
+    pub(crate) fn count<T>(self, expected: &Result<T, Row>) {
+        let row = match expected {
+            Ok(_) => 0,
+            Err((number, _)) => *number as usize,
+        };
+        COUNTED.with_borrow_mut(|counted| counted[self as usize][row] += 1);
+    }
+
+    /// How often it was compared on this thread.
+    pub fn counts(self) -> Counts {
+        COUNTED.with_borrow(|counted| counted[self as usize])
+    }
+}
+
+thread_local! {
+    static COUNTED: RefCell<[Counts; CALLS.len()]> = const { RefCell::new([[0; ROWS + 1]; CALLS.len()]) };
+}

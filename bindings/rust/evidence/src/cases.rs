@@ -1,0 +1,428 @@
+//! One random case of each sort: inputs are drawn, the library is called and everything that must hold
+//! is checked. A check that fails panics, with its input.
+//!
+//! - [`FAMILIES`], [`any`]: every sort, and one drawn from them.
+//! - [`held_tolerances`], [`judge_list`], [`codes`], [`round_trip`], [`random_commands`],
+//!   [`comparison`], [`random_faults`]: sorts that the tests run by themselves too.
+
+use crate::compare::{
+    exactly, expand, form, hold, judge, least, noise, ratio, read, reduce, same, write,
+};
+use crate::reductions::{
+    any_tolerance, least_list, lists, shortest_lists, size_bounds, tolerances,
+};
+use kovrelna::Tolerance::Counts;
+use kovrelna_reference::generate::{
+    any_trace, content, damaged, just_below, kept_list, Random, Trace,
+};
+use kovrelna_reference::record::{encode, end, first, long, short, tolerance, Content};
+use kovrelna_reference::{held, link_error, list_error, trace_refusal, Fraction, METHODS, TRIED};
+
+/// A sort of case: its name, how often it is drawn, and one case of it.
+pub struct Family {
+    pub name: &'static str,
+    pub weight: u64,
+    pub case: fn(&mut Random),
+}
+
+/// Every sort.
+pub const FAMILIES: [Family; 15] = [
+    Family {
+        name: "tolerances",
+        weight: 40,
+        case: held_tolerances,
+    },
+    Family {
+        name: "lists judged",
+        weight: 100,
+        case: judged,
+    },
+    Family {
+        name: "traces reduced",
+        weight: 200,
+        case: |random| reduced(40, random),
+    },
+    Family {
+        name: "longer traces reduced",
+        weight: 10,
+        case: |random| reduced(200, random),
+    },
+    Family {
+        name: "longest traces reduced",
+        weight: 1,
+        case: longest,
+    },
+    Family {
+        name: "shortest lists",
+        weight: 20,
+        case: shortest,
+    },
+    Family {
+        name: "least errors",
+        weight: 60,
+        case: |random| least_error(40, random),
+    },
+    Family {
+        name: "least errors of the longest traces",
+        weight: 1,
+        case: |random| least_error(256, random),
+    },
+    Family {
+        name: "codes",
+        weight: 40,
+        case: codes,
+    },
+    Family {
+        name: "records written",
+        weight: 100,
+        case: |random| {
+            let samples = random.within(1, 40) as usize;
+            round_trip(&any_trace(samples, random), random);
+        },
+    },
+    Family {
+        name: "records damaged",
+        weight: 200,
+        case: |random| damaged_record(40, random),
+    },
+    Family {
+        name: "longest records damaged",
+        weight: 1,
+        case: |random| damaged_record(4_096, random),
+    },
+    Family {
+        name: "commands",
+        weight: 100,
+        case: |random| {
+            random_commands(random);
+        },
+    },
+    Family {
+        name: "records compared",
+        weight: 40,
+        case: comparison,
+    },
+    Family {
+        name: "faults",
+        weight: 150,
+        case: random_faults,
+    },
+];
+
+/// A sort, drawn by weight.
+pub fn any(random: &mut Random) -> &'static Family {
+    let all = FAMILIES.iter().map(|family| family.weight).sum();
+    let mut at = random.below(all);
+    let drawn = FAMILIES.iter().find(|family| {
+        let here = at < family.weight;
+        at = at.saturating_sub(family.weight);
+        here
+    });
+    drawn.unwrap_or(&FAMILIES[0])
+}
+
+/// Tolerances of every form, allowed and not.
+pub fn held_tolerances(random: &mut Random) {
+    let bits = f64::from_bits(random.bits());
+    let near = random.below(2 * 128 * 1_024) as f64 / 128.0;
+    let multiple = random.below(2 * 16 * 64) as f64 / 16.0;
+    let most = random.choose(&[2, 64, 1_000, 1_048_577]);
+    let q = random.below(most);
+    let _ = hold(Counts(bits));
+    let _ = hold(noise(near, multiple));
+    let _ = hold(noise(bits, multiple));
+    let _ = hold(noise(near, bits));
+    let _ = hold(ratio(random.below(65_540 * q + 2), q));
+}
+
+fn error(Trace { ticks, values }: &Trace, link: &[u16]) -> Fraction {
+    link_error(ticks, values, link[0].into(), link[1].into())
+}
+
+/// Judges the list at an arbitrary tolerance, and for one of its links and the worst at the error
+/// itself, one unit of the link's own fraction below it, and just below it. Counts the answers yes
+/// and no.
+pub fn judge_list(trace: &Trace, list: &[u16], random: &mut Random, answers: &mut [usize; 2]) {
+    let Trace { ticks, values } = trace;
+    let mut tolerances = vec![any_tolerance(random)];
+    let mut links: Vec<&[u16]> = list.windows(2).collect();
+    links.sort_by(|a, b| {
+        let (a, b) = (error(trace, a), error(trace, b));
+        (a.p * b.q).cmp(&(b.p * a.q))
+    });
+    if let Some(&worst) = links.last() {
+        let list_error = error(trace, worst);
+        assert_eq!(judge(ticks, values, list, exactly(list_error)), Ok(None));
+        for link in [worst, random.choose(&links)] {
+            let Fraction { p, q } = error(trace, link);
+            tolerances.push(exactly(Fraction { p, q }));
+            if p > 0 {
+                let run = i128::from(ticks[usize::from(link[1])] - ticks[usize::from(link[0])]);
+                let unit = Fraction {
+                    p: p * (run / q) - 1,
+                    q: run,
+                };
+                tolerances.extend([unit, just_below(Fraction { p, q })].map(exactly));
+            }
+        }
+    }
+    for tolerance in tolerances {
+        match judge(ticks, values, list, tolerance) {
+            Ok(None) => answers[0] += 1,
+            Ok(Some(_)) => answers[1] += 1,
+            Err(row) => panic!("refused {row:?}"),
+        }
+    }
+}
+
+fn judged(random: &mut Random) {
+    let samples = random.within(1, 40) as usize;
+    let trace = any_trace(samples, random);
+    let list = kept_list(samples, random);
+    judge_list(&trace, &list, random, &mut [0; 2]);
+}
+
+fn reduced(most: i64, random: &mut Random) {
+    let samples = random.within(1, most) as usize;
+    let trace = any_trace(samples, random);
+    for tolerance in tolerances(&trace, random) {
+        let room = samples + random.choose(&[0, 0, 1, 7]);
+        size_bounds(&trace, tolerance, &lists(&trace, tolerance, room));
+    }
+}
+
+fn longest(random: &mut Random) {
+    let any = random.within(1_000, 4_096) as usize;
+    let samples = random.choose(&[any, 4_095, 4_096]);
+    let trace = any_trace(samples, random);
+    let tolerances = tolerances(&trace, random);
+    lists(&trace, random.choose(&tolerances), samples);
+}
+
+/// A trace so short that every kept list can be tried.
+fn shortest(random: &mut Random) {
+    let samples = random.within(3, TRIED as i64) as usize;
+    let trace = any_trace(samples, random);
+    for tolerance in tolerances(&trace, random) {
+        let [.., minimum] = lists(&trace, tolerance, samples);
+        shortest_lists(&trace, tolerance, &minimum);
+    }
+}
+
+fn least_error(most: i64, random: &mut Random) {
+    let samples = random.within(1, most) as usize;
+    let trace = any_trace(samples, random);
+    let any = random.within(2, samples as i64 + 2) as u64;
+    let allowance = random.choose(&[2, 3, any, any, 4_096]);
+    least_list(&trace, allowance, samples + random.choose(&[0, 0, 1, 7]));
+}
+
+/// Range codes, with room or without.
+pub fn codes(random: &mut Random) {
+    let length = random.choose(&[0, 1, 5, 40, 40, 40, 4_096, 4_097]);
+    let length = random.within(length.min(1), length) as usize;
+    let codes: Vec<u8> = (0..length).map(|_| random.bits() as u8).collect();
+    let short = length.saturating_sub(1);
+    let _ = expand(
+        &codes,
+        random.choose(&[length, length, length + 1, short, 0]),
+    );
+}
+
+/// What became of lists that were to be written.
+#[derive(Default)]
+pub struct Written {
+    pub records: usize,
+    pub refused: usize,
+    pub short_steps: usize,
+    pub long_steps: usize,
+}
+
+/// Writes a list of the trace at an arbitrary tolerance, at its error and just below that; reads the
+/// record back, and writes what was read.
+pub fn round_trip(Trace { ticks, values }: &Trace, random: &mut Random) -> Written {
+    let list = kept_list(ticks.len(), random);
+    let error = list_error(ticks, values, &list);
+    let mut tolerances = vec![any_tolerance(random), exactly(error)];
+    if error.p > 0 {
+        tolerances.push(exactly(just_below(error)));
+    }
+    let mut seen = Written::default();
+    for tolerance in tolerances {
+        let place = random.choose(&[0, 0, 1, 30]);
+        let size = place + 6 * list.len() + 13 + random.below(3) as usize;
+        let record = match write(ticks, values, &list, tolerance, size, place) {
+            Ok(record) => record,
+            Err((7, _)) => {
+                seen.refused += 1;
+                continue;
+            }
+            Err(row) => panic!("refused {row:?}"),
+        };
+        // A long step has three bytes more than a short one.
+        let long = (record.len() - 16) / 3 - list.len();
+        seen.records += 1;
+        seen.short_steps += list.len() - 1 - long;
+        seen.long_steps += long;
+        let content = read(&record, list.len(), list.len() + 1).unwrap();
+        let kept = |&k: &u16| (ticks[usize::from(k)], values[usize::from(k)]);
+        assert_eq!(content.samples, list.iter().map(kept).collect::<Vec<_>>());
+        assert_eq!(Some(content.tolerance), held(form(tolerance)));
+        let (ticks, values) = content.trace();
+        let all: Vec<u16> = (0..list.len() as u16).collect();
+        let tolerance = exactly(content.tolerance);
+        let again = write(&ticks, &values, &all, tolerance, record.len(), 0);
+        assert_eq!(again, Ok(record));
+    }
+    seen
+}
+
+/// A record with bytes changed, removed or added, read and compared with what it was.
+fn damaged_record(most: i64, random: &mut Random) {
+    let record = encode(&content(random.within(1, most) as usize, random));
+    let mut damaged = record.clone();
+    for _ in 0..random.within(1, 3) {
+        let at = random.below(damaged.len() as u64 + 1) as usize;
+        let any = random.bits() as u8;
+        let byte = random.choose(&[any, any, 0, 0xff, b'T', b'A', b'S', b'L', b'E']);
+        match random.below(8) {
+            0 => damaged.truncate(at),
+            1 => damaged.insert(at, byte),
+            2 if at < damaged.len() => drop(damaged.remove(at)),
+            3 if at < damaged.len() => damaged[at] ^= 1 << random.below(8),
+            4 if at + 1 < damaged.len() => damaged.swap(at, at + 1),
+            _ if at < damaged.len() => damaged[at] = byte,
+            _ => damaged.push(byte),
+        }
+    }
+    let room = random.choose(&[4_096, 4_096, 5_000, 9, 1, 0]);
+    let _ = read(&damaged, room, 4_096);
+    let _ = read(&damaged, 4_096, room);
+    let _ = same(&record, &damaged);
+    let _ = same(&damaged, &record);
+}
+
+/// Commands in any order, with any operands. Whether they are a record.
+pub fn random_commands(random: &mut Random) -> bool {
+    let mut record = tolerance(random.below(3), 1 + random.below(2));
+    record.extend(first(random.bits() as u32, random.bits() as i16));
+    let mut given = 1;
+    for _ in 0..random.below(5) {
+        given += 1;
+        record.extend(match random.below(24) {
+            0 => tolerance(random.bits() & 0xff_ffff_ffff, random.bits() & 0xff_ffff),
+            1 => first(random.bits() as u32, random.bits() as i16),
+            2 => end(given),
+            3 => vec![random.bits() as u8],
+            4..=13 => short(random.bits() as u8, random.bits() as i8),
+            _ => long(random.below(1 << 20) as u32, random.bits() as i16),
+        });
+    }
+    record.extend(end(given));
+    read(&record, 4_096, 4_096).is_ok()
+}
+
+/// Equal samples under different tolerances, and contents that differ in one place.
+pub fn comparison(random: &mut Random) {
+    let samples = random.within(1, 12) as usize;
+    let one = content(samples, random);
+    let record = encode(&one);
+    // The same samples.
+    let tolerance = content(1, random).tolerance;
+    let other = Content {
+        tolerance,
+        ..one.clone()
+    };
+    assert_eq!(same(&record, &encode(&other)), Ok(true));
+    assert_eq!(same(&encode(&other), &record), Ok(true));
+    // Another value, another tick, other ticks, a sample fewer; where that is still a trace.
+    let at = random.below(samples as u64) as usize;
+    let mut others = vec![one.clone(); 4];
+    others[0].samples[at].1 ^= 1 << random.below(16);
+    others[1].samples[at].0 = one.samples[at].0.wrapping_add(1);
+    others[2]
+        .samples
+        .iter_mut()
+        .for_each(|sample| sample.0 ^= 1 << 31);
+    others[3].samples.remove(at);
+    for other in others {
+        let (ticks, values) = other.trace();
+        if trace_refusal(&ticks, &values).is_none() {
+            let other = encode(&other);
+            assert_eq!(same(&record, &other), Ok(false));
+            assert_eq!(same(&other, &record), Ok(false));
+        }
+    }
+    // Random pairs.
+    let other = content(random.within(1, 3) as usize, random);
+    same(&record, &encode(&other)).unwrap();
+}
+
+/// A trace, a list, a tolerance and an output with none, one or two faults, for every call that takes
+/// a trace.
+pub fn random_faults(random: &mut Random) {
+    let samples = random.within(1, 12) as usize;
+    let Trace { mut ticks, values } = any_trace(samples, random);
+    let mut list = kept_list(samples, random);
+    let mut tolerance = ratio(random.below(10), 1);
+    let at = random.below(samples as u64) as usize;
+    let mut room = samples + random.below(3) as usize;
+    for _ in 0..random.below(3) {
+        match random.below(7) {
+            0 => drop(ticks.pop()),
+            1 => ticks.push(u32::MAX),
+            2 => ticks[..=at].rotate_right(1),
+            3 => ticks[at..].iter_mut().for_each(|tick| *tick |= 1 << 20),
+            4 => list = damaged(&list, samples, random),
+            5 => room = at,
+            _ => tolerance = random.choose(&[ratio(1, 0), noise(0.0, -1.0)]),
+        }
+        if ticks.len() != samples {
+            break;
+        }
+    }
+    let _ = judge(&ticks, &values, &list, tolerance);
+    for method in METHODS {
+        let _ = reduce(method, &ticks, &values, tolerance, room);
+    }
+    let _ = write(&ticks, &values, &list, tolerance, 6 * room + 13, at);
+    let allowance = random.choose(&[2, 3, 4, 1, 0, 4_097]);
+    let _ = least(&ticks, &values, allowance, room);
+}
+
+#[cfg(test)]
+mod tests {
+    use super::*;
+    use crate::calls::CALLS;
+
+    /// Every sort of case, and every row that a call has, comes up.
+    #[test]
+    fn every_row_comes_up() {
+        let random = &mut Random::new(24);
+        for family in &FAMILIES {
+            (0..3 * family.weight).for_each(|_| (family.case)(random));
+        }
+        for call in CALLS {
+            let counts = call.counts();
+            assert!(counts[0] > 20, "{} {counts:?}", call.name());
+            for (row, &count) in counts.iter().enumerate().skip(1) {
+                let has = call.rows().contains(&(row as u32));
+                assert_eq!(has, count > 0, "{} {row} {counts:?}", call.name());
+            }
+        }
+    }
+
+    #[test]
+    fn drawn_by_weight() {
+        let random = &mut Random::new(25);
+        let mut drawn = [0; FAMILIES.len()];
+        for _ in 0..20_000 {
+            let name = any(random).name;
+            drawn[FAMILIES
+                .iter()
+                .position(|family| family.name == name)
+                .unwrap()] += 1;
+        }
+        assert!(drawn.iter().all(|&count| count > 5), "{drawn:?}");
+    }
+}

@@ -1,0 +1,346 @@
+//! Each call of the library, compared with the slow reference. A call is made between two kinds of guard
+//! elements; its answer, the content of its outputs and that nothing else was changed are compared. A
+//! difference panics, with the input. Each function returns the answer that both gave.
+
+use crate::calls::Call;
+use kovrelna::{Refusal, Tolerance, Verdict};
+use kovrelna_reference::record::{self, Content};
+use kovrelna_reference::{Form, Fraction, Least, Method, Reduced, Row};
+use std::hint::black_box;
+
+/// The tolerance p/q.
+pub fn ratio(p: u64, q: u64) -> Tolerance {
+    Tolerance::Ratio { p, q }
+}
+
+/// The tolerance of a noise times a multiple.
+pub fn noise(noise: f64, multiple: f64) -> Tolerance {
+    Tolerance::Noise { noise, multiple }
+}
+
+/// The ratio of this fraction.
+pub fn exactly(Fraction { p, q }: Fraction) -> Tolerance {
+    ratio(p as u64, q as u64)
+}
+
+/// The reference's word for it.
+pub fn form(tolerance: Tolerance) -> Form {
+    match tolerance {
+        Tolerance::Ratio { p, q } => Form::Ratio(p, q),
+        Tolerance::Counts(counts) => Form::Counts(counts),
+        Tolerance::Noise { noise, multiple } => Form::Noise(noise, multiple),
+    }
+}
+
+/// The row of a refusal.
+pub fn row(refusal: Refusal) -> Row {
+    (refusal.number(), refusal.returned() as u64)
+}
+
+/// The call of this method.
+pub fn call(method: Method) -> Call {
+    match method {
+        Method::Walk => Call::Walk,
+        Method::Gallop => Call::Gallop,
+        Method::Minimum => Call::Minimum,
+    }
+}
+
+/// Calls `hold`, compares with the reference, and returns p and q or the refusal's row.
+pub fn hold(tolerance: Tolerance) -> Result<(u64, u64), Row> {
+    let answer = kovrelna::hold(tolerance)
+        .map(|held| (held.p, held.q))
+        .map_err(row);
+    let expected = match kovrelna_reference::held(form(tolerance)) {
+        Some(held) => Ok((held.p as u64, held.q as u64)),
+        None => Err((4, 0)),
+    };
+    Call::Hold.count(&expected);
+    assert_eq!(answer, expected, "hold {tolerance:?}");
+    answer
+}
+
+/// A slice between guard elements, and what all of it should be after a call: a copy, unless
+/// something else is expected.
+struct Guarded<T> {
+    all: Vec<T>,
+    after: Vec<T>,
+}
+
+/// How many guard elements there are on either side.
+const GUARD: usize = 3;
+
+/// The two kinds of guard elements beside ticks, values, lists and bytes.
+const GUARDS: [(u32, i16, u16, u8); 2] = [(0, 0, 0, 0), (u32::MAX, i16::MIN, u16::MAX, u8::MAX)];
+
+impl<T: Copy + PartialEq> Guarded<T> {
+    fn new(slice: &[T], guard: T) -> Self {
+        let all = [&[guard; GUARD], slice, &[guard; GUARD]].concat();
+        let after = all.clone();
+        Guarded { all, after }
+    }
+
+    fn slice(&self) -> &[T] {
+        &black_box(&self.all)[GUARD..self.all.len() - GUARD]
+    }
+
+    fn slice_mut(&mut self) -> &mut [T] {
+        let end = self.all.len() - GUARD;
+        &mut black_box(&mut self.all)[GUARD..end]
+    }
+
+    /// The slice should have this list at this place after the call.
+    fn expect(&mut self, place: usize, list: &[T]) {
+        self.after[GUARD + place..][..list.len()].copy_from_slice(list);
+    }
+
+    fn as_expected(&self) -> bool {
+        *black_box(&self.all) == self.after
+    }
+}
+
+/// Calls `judge` between two kinds of guard elements, compares with the reference, sees that no
+/// element changed, and returns the position of the first invalid link, if any, or the refusal's
+/// row.
+pub fn judge(
+    ticks: &[u32],
+    values: &[i16],
+    list: &[u16],
+    tolerance: Tolerance,
+) -> Result<Option<usize>, Row> {
+    let expected = kovrelna_reference::judge(ticks, values, list, form(tolerance));
+    Call::Judge.count(&expected);
+    for guards in GUARDS {
+        let ticks = Guarded::new(ticks, guards.0);
+        let values = Guarded::new(values, guards.1);
+        let list = Guarded::new(list, guards.2);
+        let answer = match kovrelna::judge(ticks.slice(), values.slice(), list.slice(), tolerance) {
+            Ok(Verdict::Within) => Ok(None),
+            Ok(Verdict::Outside { link }) => Ok(Some(link)),
+            Err(refusal) => Err(row(refusal)),
+        };
+        let input = || {
+            let lists = (ticks.slice(), values.slice(), list.slice());
+            format!("judge ticks, values, list: {lists:?}\n{tolerance:?}")
+        };
+        assert_eq!(answer, expected, "{}", input());
+        assert!(
+            ticks.as_expected() && values.as_expected() && list.as_expected(),
+            "an input or an element beside it was changed\n{}",
+            input()
+        );
+    }
+    expected
+}
+
+/// Calls the reduction with an output of `room` entries between two kinds of guard elements,
+/// compares with the reference, sees that the output begins with the list and that no other element
+/// changed, and returns the list and the probes, or the refusal's row.
+pub fn reduce(
+    method: Method,
+    ticks: &[u32],
+    values: &[i16],
+    tolerance: Tolerance,
+    room: usize,
+) -> Result<Reduced, Row> {
+    let expected = kovrelna_reference::reduce(method, ticks, values, form(tolerance), room);
+    call(method).count(&expected);
+    for guards in GUARDS {
+        let ticks = Guarded::new(ticks, guards.0);
+        let values = Guarded::new(values, guards.1);
+        // No list has an entry like these.
+        let before: Vec<u16> = (0..room).map(|k| (k as u16 ^ guards.2) | 0x8000).collect();
+        let mut out = Guarded::new(&before, guards.2);
+        let (t, v) = (ticks.slice(), values.slice());
+        let answer = match method {
+            Method::Walk => kovrelna::walk(t, v, tolerance, out.slice_mut()).map(|kept| (kept, 0)),
+            Method::Gallop => kovrelna::gallop(t, v, tolerance, out.slice_mut())
+                .map(|galloped| (galloped.kept, galloped.probes)),
+            Method::Minimum => {
+                kovrelna::minimum(t, v, tolerance, out.slice_mut()).map(|kept| (kept, 0))
+            }
+        };
+        let input =
+            || format!("{method:?} of ticks, values: {t:?} {v:?}\n{tolerance:?} room {room}");
+        match &expected {
+            Ok(Reduced { list, probes }) => {
+                assert_eq!(answer, Ok((list.len(), *probes)), "{}", input());
+                out.expect(0, list);
+                assert_eq!(out.slice()[..list.len()], *list, "{}", input());
+            }
+            Err(expected) => assert_eq!(answer.map_err(row), Err(*expected), "{}", input()),
+        }
+        assert!(
+            ticks.as_expected() && values.as_expected() && out.as_expected(),
+            "an input, an entry behind the list or an element beside a slice was changed\n{}",
+            input()
+        );
+    }
+    expected
+}
+
+/// Calls `least` with an output of `room` entries between two kinds of guard elements, compares with the
+/// reference, sees that the output begins with the list and that no other element changed, and returns
+/// the error and the list, or the refusal's row.
+pub fn least(ticks: &[u32], values: &[i16], allowance: u64, room: usize) -> Result<Least, Row> {
+    let expected = kovrelna_reference::least(ticks, values, allowance, room);
+    Call::Least.count(&expected);
+    for guards in GUARDS {
+        let ticks = Guarded::new(ticks, guards.0);
+        let values = Guarded::new(values, guards.1);
+        // No list has an entry like these.
+        let before: Vec<u16> = (0..room).map(|k| (k as u16 ^ guards.2) | 0x8000).collect();
+        let mut out = Guarded::new(&before, guards.2);
+        let (t, v) = (ticks.slice(), values.slice());
+        let answer = kovrelna::least(t, v, allowance, out.slice_mut())
+            .map(|least| (least.kept, least.error.p, least.error.q))
+            .map_err(row);
+        let input = || format!("least for {allowance} of ticks, values: {t:?} {v:?} room {room}");
+        let known = match &expected {
+            Ok(Least { list, error }) => {
+                out.expect(0, list);
+                Ok((list.len(), error.p as u64, error.q as u64))
+            }
+            Err(row) => Err(*row),
+        };
+        assert_eq!(answer, known, "{}", input());
+        assert!(
+            ticks.as_expected() && values.as_expected() && out.as_expected(),
+            "the list is wrong, or another element was changed: {:?}\n{}",
+            out.slice(),
+            input()
+        );
+    }
+    expected
+}
+
+/// Calls `expand` with an output of `room` entries between two kinds of guard elements, compares with
+/// the reference, sees that no other element changed, and returns the values or the refusal's row.
+pub fn expand(codes: &[u8], room: usize) -> Result<Vec<i16>, Row> {
+    let expected = record::expand(codes, room);
+    Call::Expand.count(&expected);
+    for guards in GUARDS {
+        let codes = Guarded::new(codes, guards.3);
+        // No code has a value below 0.
+        let before: Vec<i16> = (0..room).map(|k| k as i16 | i16::MIN).collect();
+        let mut out = Guarded::new(&before, guards.1);
+        let answer = kovrelna::expand(codes.slice(), out.slice_mut()).map_err(row);
+        let written = expected.as_ref().map(Vec::len).map_err(|row| *row);
+        assert_eq!(answer, written, "expand {:?} room {room}", codes.slice());
+        out.expect(0, expected.as_deref().unwrap_or(&[]));
+        assert!(
+            codes.as_expected() && out.as_expected(),
+            "expand: a value is wrong, or another element was changed\n{:?} {:?} room {room}",
+            codes.slice(),
+            out.slice()
+        );
+    }
+    expected
+}
+
+/// Calls `write` with a buffer of `size` bytes between two kinds of guard elements, compares with the
+/// reference, sees that the record is at its place and that no other element changed, and returns the
+/// record or the refusal's row.
+pub fn write(
+    ticks: &[u32],
+    values: &[i16],
+    list: &[u16],
+    tolerance: Tolerance,
+    size: usize,
+    place: usize,
+) -> Result<Vec<u8>, Row> {
+    let expected = record::write(ticks, values, list, form(tolerance), size, place);
+    Call::Write.count(&expected);
+    for guards in GUARDS {
+        let ticks = Guarded::new(ticks, guards.0);
+        let values = Guarded::new(values, guards.1);
+        let list = Guarded::new(list, guards.2);
+        let before: Vec<u8> = (0..size).map(|k| k as u8 ^ 0xa5 ^ guards.3).collect();
+        let mut buffer = Guarded::new(&before, guards.3);
+        let (t, v, l) = (ticks.slice(), values.slice(), list.slice());
+        let answer = kovrelna::write(t, v, l, tolerance, buffer.slice_mut(), place).map_err(row);
+        let input = || {
+            format!(
+                "write ticks, values, list: {t:?} {v:?} {l:?}\n{tolerance:?} at {place} of {size}"
+            )
+        };
+        let written = expected.as_ref().map(Vec::len).map_err(|row| *row);
+        assert_eq!(answer, written, "{}", input());
+        if let Ok(record) = &expected {
+            buffer.expect(place, record);
+            let found = &buffer.slice()[place..][..record.len()];
+            assert_eq!(found, record, "{}", input());
+        }
+        assert!(
+            ticks.as_expected()
+                && values.as_expected()
+                && list.as_expected()
+                && buffer.as_expected(),
+            "an input, a byte beside the record or an element beside a slice was changed\n{}",
+            input()
+        );
+    }
+    expected
+}
+
+/// Calls `read` with outputs of so many entries between two kinds of guard elements, compares with
+/// the reference, sees that the outputs begin with the samples and that no other element changed, and
+/// returns the content or the refusal's row.
+pub fn read(record: &[u8], ticks_room: usize, values_room: usize) -> Result<Content, Row> {
+    let expected = record::read(record, ticks_room, values_room);
+    Call::Read.count(&expected);
+    for guards in GUARDS {
+        let record = Guarded::new(record, guards.3);
+        let before: Vec<u32> = (0..ticks_room as u32)
+            .map(|k| k ^ 0x5a5a_5a5a ^ guards.0)
+            .collect();
+        let mut ticks = Guarded::new(&before, guards.0);
+        let before: Vec<i16> = (0..values_room as i16)
+            .map(|k| k ^ 0x5a5a ^ guards.1)
+            .collect();
+        let mut values = Guarded::new(&before, guards.1);
+        let answer = kovrelna::read(record.slice(), ticks.slice_mut(), values.slice_mut())
+            .map(|read| (read.samples, read.tolerance.p, read.tolerance.q))
+            .map_err(row);
+        let input = || {
+            format!(
+                "read {:02x?} rooms {ticks_room} {values_room}",
+                record.slice()
+            )
+        };
+        let content = match &expected {
+            Ok(content) => {
+                let (t, v) = content.trace();
+                ticks.expect(0, &t);
+                values.expect(0, &v);
+                let Fraction { p, q } = content.tolerance;
+                Ok((t.len(), p as u64, q as u64))
+            }
+            Err(row) => Err(*row),
+        };
+        assert_eq!(answer, content, "{}", input());
+        assert!(
+            record.as_expected() && ticks.as_expected() && values.as_expected(),
+            "a sample is wrong, or another element was changed\n{:?} {:?}\n{}",
+            ticks.slice(),
+            values.slice(),
+            input()
+        );
+    }
+    expected
+}
+
+/// Calls `same` between two kinds of guard elements, compares with the reference, sees that no
+/// element changed, and returns the answer or the refusal's row.
+pub fn same(one: &[u8], other: &[u8]) -> Result<bool, Row> {
+    let expected = record::same(one, other);
+    Call::Same.count(&expected);
+    for guards in GUARDS {
+        let (one, other) = (Guarded::new(one, guards.3), Guarded::new(other, guards.3));
+        let answer = kovrelna::same(one.slice(), other.slice()).map_err(row);
+        let records = || format!("same {:02x?}\n{:02x?}", one.slice(), other.slice());
+        assert_eq!(answer, expected, "{}", records());
+        assert!(one.as_expected() && other.as_expected(), "{}", records());
+    }
+    expected
+}

@@ -1,0 +1,15 @@
+//! The library compared with the slow reference, case by case, for the tests and for the program
+//! `evidence`.
+//!
+//! - [`calls`]: the calls, their refusals, and how often each was compared.
+//! - [`compare`]: each call, compared with the reference.
+//! - [`reductions`]: what holds of the lists of the reductions.
+//! - [`cases`]: random cases of every sort.
+//! - [`run`]: many cases from one seed.
+#![deny(unsafe_code)]
+
+pub mod calls;
+pub mod cases;
+pub mod compare;
+pub mod reductions;
+pub mod run;

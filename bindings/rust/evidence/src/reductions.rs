@@ -1,0 +1,137 @@
+//! What holds of the lists of walk, gallop, minimum and least beyond their definitions, and tolerances
+//! at which they change. A check that fails panics, with its input.
+
+use crate::compare::{exactly, form, judge, least, noise, ratio, reduce};
+use kovrelna::Tolerance;
+use kovrelna_reference::generate::{just_below, Random, Trace};
+use kovrelna_reference::Method::{self, Gallop, Minimum, Walk};
+use kovrelna_reference::{
+    fewest, held, kept_lists, link_error, link_valid, list_error, Least, Reduced,
+};
+
+/// The methods whose stops are maximal.
+pub const GREEDY: [Method; 2] = [Walk, Gallop];
+
+/// The probes of a stop that advances by r samples.
+pub fn stop_probes(r: usize) -> usize {
+    2 * r.ilog2() as usize + 1
+}
+
+/// Calls a greedy method and sees what holds of every greedy list: each link is valid; from the same
+/// start, the link to the sample after each stop is invalid; each stop of r samples takes its
+/// probes.
+pub fn greedy(method: Method, trace: &Trace, tolerance: Tolerance, room: usize) -> Reduced {
+    let Trace { ticks, values } = trace;
+    let reduced = reduce(method, ticks, values, tolerance, room).unwrap();
+    assert_eq!(judge(ticks, values, &reduced.list, tolerance), Ok(None));
+    let held = held(form(tolerance)).unwrap();
+    let mut probes = 0;
+    for link in reduced.list.windows(2) {
+        let (i, j) = (usize::from(link[0]), usize::from(link[1]));
+        assert!(
+            j == ticks.len() - 1 || !link_valid(ticks, values, i, j + 1, held),
+            "{method:?} stops too early at {j}\n{trace:?}\n{tolerance:?}"
+        );
+        probes += stop_probes(j - i);
+    }
+    if method == Gallop {
+        assert_eq!(reduced.probes, probes, "{trace:?}\n{tolerance:?}");
+    }
+    reduced
+}
+
+/// Calls every method and sees what holds of each list and of all: the links of minimum's list are
+/// valid, and no greedy list is shorter. Returns the lists of walk, gallop and minimum.
+pub fn lists(trace: &Trace, tolerance: Tolerance, room: usize) -> [Vec<u16>; 3] {
+    let Trace { ticks, values } = trace;
+    let [walk, gallop] = GREEDY.map(|method| greedy(method, trace, tolerance, room).list);
+    let minimum = reduce(Minimum, ticks, values, tolerance, room)
+        .unwrap()
+        .list;
+    assert_eq!(judge(ticks, values, &minimum, tolerance), Ok(None));
+    assert!(
+        minimum.len() <= walk.len() && minimum.len() <= gallop.len(),
+        "{minimum:?} is longer than {walk:?} or {gallop:?}\n{trace:?}\n{tolerance:?}"
+    );
+    [walk, gallop, minimum]
+}
+
+/// No kept list within the tolerance is shorter than minimum's, and none within half the tolerance
+/// is shorter than a greedy one.
+pub fn size_bounds(trace: &Trace, tolerance: Tolerance, [walk, gallop, minimum]: &[Vec<u16>; 3]) {
+    let tolerance = held(form(tolerance)).unwrap();
+    let fewest = |fraction| fewest(&trace.ticks, &trace.values, fraction);
+    let (whole, half) = (fewest(tolerance), fewest(tolerance.half()));
+    assert_eq!(minimum.len(), whole, "{trace:?}\n{tolerance:?}");
+    assert!(
+        walk.len() <= half && gallop.len() <= half,
+        "{walk:?} or {gallop:?}, {half} at half the tolerance\n{trace:?}\n{tolerance:?}"
+    );
+}
+
+/// A tolerance of any form, small, wide or zero.
+pub fn any_tolerance(random: &mut Random) -> Tolerance {
+    let q = random.choose(&[1, 6, 1_000, 1_048_575]);
+    let q = 1 + random.below(q);
+    let most = random.choose(&[0, 1, 6, 1_000, 65_535]);
+    match random.below(3) {
+        0 => ratio(random.below(most * q + 1), q),
+        1 => Tolerance::Counts(random.below(64 * most + 1) as f64 / 64.0),
+        _ => {
+            let part = random.below(64 * most.min(1_023) + 1) as f64 / 64.0;
+            noise(part, random.below(8 * 63 + 1) as f64 / 8.0)
+        }
+    }
+}
+
+/// An arbitrary tolerance; a link's error, and just below it.
+pub fn tolerances(Trace { ticks, values }: &Trace, random: &mut Random) -> Vec<Tolerance> {
+    let mut tolerances = vec![any_tolerance(random)];
+    if ticks.len() > 2 {
+        let within = random.below(ticks.len() as u64 - 2) as usize;
+        let i = random.choose(&[0, within]);
+        let longest = ticks.len() - 1 - i;
+        let most = random.choose(&[3, 8, longest]).min(longest);
+        let j = i + random.within(2, most as i64) as usize;
+        let error = link_error(ticks, values, i, j);
+        tolerances.push(exactly(error));
+        if error.p > 0 {
+            tolerances.push(exactly(just_below(error)));
+        }
+    }
+    tolerances
+}
+
+/// Of all kept lists that judge passes and that are as short as minimum's, minimum's is the last in the
+/// order of their samples. Returns all of them; the trace is short.
+pub fn shortest_lists(trace: &Trace, tolerance: Tolerance, minimum: &[u16]) -> Vec<Vec<u16>> {
+    let Trace { ticks, values } = trace;
+    let passed = |list: &Vec<u16>| judge(ticks, values, list, tolerance) == Ok(None);
+    let shortest: Vec<Vec<u16>> = kept_lists(ticks.len())
+        .filter(|list| list.len() == minimum.len() && passed(list))
+        .collect();
+    assert_eq!(
+        shortest.iter().max().map(Vec::as_slice),
+        Some(minimum),
+        "{trace:?} {tolerance:?}"
+    );
+    shortest
+}
+
+/// Calls least and sees what holds of its answer: the list has at most so many samples and exactly the
+/// error, it is minimum's there, and just below the error no list is short enough.
+pub fn least_list(trace: &Trace, allowance: u64, room: usize) -> Least {
+    let Trace { ticks, values } = trace;
+    let answer = least(ticks, values, allowance, room).unwrap();
+    let Least { list, error } = &answer;
+    let (tolerance, allowance) = (exactly(*error), allowance as usize);
+    assert!(list.len() <= allowance, "{allowance} {answer:?}\n{trace:?}");
+    assert_eq!(list_error(ticks, values, list), *error, "{trace:?}");
+    let minimum = reduce(Minimum, ticks, values, tolerance, room);
+    assert_eq!(minimum.unwrap().list, *list, "{trace:?}");
+    assert!(
+        error.p == 0 || fewest(ticks, values, just_below(*error)) > allowance,
+        "{allowance} {answer:?}\n{trace:?}"
+    );
+    answer
+}

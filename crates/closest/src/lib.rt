@@ -1,0 +1,49 @@
+// The reduction least: the least error over the kept lists of at most m samples (search), and the minimum's list at that error.
+// A tolerance is tried by the minimum's list at it (tries); tolerances are chosen among fractions of bounded denominator (choices).
+ghost use mathlib.Core.Path.{_≡_};
+ghost use Prim.Native.Nat.{_≤_};
+ghost use lib.ListN.{length};
+ghost use Rattle.lists.specs.Overwrite.{Wrote};
+ghost use Rattle.trace.specs.Link.{Bounded, criterion};
+ghost use Rattle.shortest.specs.Shortest.{minimumList};
+ghost use Rattle.closest.specs.Closest.{Task, leastError};
+use ratio::Ratio;
+use trace::Criterion;
+
+// Whether the minimum's list at a tolerance has at most m samples, and then its error.
+pub struct Trial {
+    pub fits: bool,
+    pub error: Ratio,
+}
+
+// The least error lies above `low`, at which no list fits, or is at most `low`; `high` is the error of a list that fits.
+pub struct Interval {
+    pub low: Ratio,
+    pub high: Ratio,
+}
+
+// The kept number of the list found, and its error.
+pub struct Found {
+    pub kept: usize,
+    pub error: Ratio,
+}
+
+pub mod choices;
+pub mod search;
+pub mod tries;
+
+// Writes the minimum's list at the least error over the front of `out`.
+pub fn least(ticks: &[u32], values: &[i16], m: usize, out: &mut [u16]) -> Found
+    requires { ⌜ Task (now ticks) (now values) m × (length (now ticks) ≤ length (now out)) ⌝ }
+    ensures error { λ r. ⌜ r .error ≡ leastError (now (ticks .entry)) (now (values .entry)) m ⌝ }
+    ensures allowed { λ r. ⌜ Bounded (criterion (r .error)) ⌝ }
+    ensures list { λ r. ⌜ Wrote (minimumList (now (ticks .entry)) (now (values .entry)) (criterion (r .error))) (now (out .entry)) (r .kept) (now (out .exit)) ⌝ }
+{
+    let error = search::least_error(ticks, values, m);
+    let c = Criterion {
+        p: error.p,
+        q: error.q,
+    };
+    let kept = shortest::minimum(ticks, values, c, out);
+    Found { kept, error }
+}

@@ -1,0 +1,39 @@
+-- `engine::least::check` meets its contract. Assumes nothing.
+use mathlib.Core.Path.{sym, _∙_}
+use Rattle.engine.proofs.LeastLaws.{least-passed, least-refused}
+use borrow.Author.Needs.{needs}
+use Rattle.engine.proofs.least.check.Statement.{statement}
+use Rattle.engine.proofs.least.check.Tie as tie
+
+check-requires : tie.Need-check-requires
+check-requires c κs = search needs
+
+enum-told : tie.Need-enum-told
+enum-told c = search needs
+
+check-allowance-requires : tie.Need-check-allowance-requires
+check-allowance-requires c κs = search needs
+
+enum-known-checked : tie.Need-enum-known-checked
+enum-known-checked c = search needs
+
+returns : tie.Need-returns
+returns c =
+    let a = c .before .before .before .before .before .args in
+    least-passed (a .ticks .now) (a .values .now) (a .m) (a .room) (sym (c .before .before .before .check .ensures) ∙ c .before .enum-told .given .1) (c .check-allowance .ensures)
+
+returns-2 : tie.Need-returns-2
+returns-2 c =
+    let a = c .before .before .before .before .before .args in
+    least-refused (a .ticks .now) (a .values .now) (a .m) (a .room) (sym (c .before .before .before .check .ensures) ∙ c .before .checked .given .1)
+
+pub check-spec : {M : Type 1} → statement M
+check-spec =
+    tie.close
+    (tie.spec
+    check-requires
+    enum-told
+    check-allowance-requires
+    enum-known-checked
+    returns
+    returns-2)

@@ -1,0 +1,58 @@
+-- The entries of a list, and the list of all samples, which is a kept list.
+-- Assumes nothing.
+use mathlib.Core.Path.{_≡_, refl, _∙_, ap}
+use mathlib.Core.Logic.{_⊎_, inl, inr, ⊎-elim}
+use mathlib.Core.List.{List, [], _∷_}
+use Prim.Native.Nat.{ℕ, zero, suc, _+_, _≤_, _<_}
+use native.Mathlib.Nat.{eq-or-lt-of-le}
+use native.Mathlib.Omega.{arith}
+use Rattle.kept.specs.Kept.{LinksFrom, EachLink, final, KeptList}
+use Rattle.kept.proofs.KeptLaws.{rise-le}
+use Rattle.heights.specs.Heights.{samplesAfter, everySample}
+
+-- k is an entry of the list
+abbrev pub Entry : ℕ → List ℕ → Type 0
+Entry k [] = ⊥
+Entry k (i ∷ s) = (k ≡ i) ⊎ Entry k s
+
+pub entry-inside : (k : ℕ) (s : List ℕ) (i : ℕ) → LinksFrom _<_ i s → Entry k (i ∷ s) → (i ≤ k) × (k ≤ final i s)
+entry-inside k [] i r e = ⊎-elim (λ q. omega arith) (λ z. absurd z) e
+entry-inside k (j ∷ s) i r e =
+    ⊎-elim (λ q. omega (arith, rise-le j s (r .1))) (λ m. omega (arith, entry-inside k s j (r .1) m)) e
+
+pub kept-inside : {last k : ℕ} (l : List ℕ) → KeptList last l → Entry k l → k ≤ last
+kept-inside [] h e = absurd e
+kept-inside {k = k} (i ∷ s) h e = omega (arith, entry-inside k s i (h .rises) e, h .spans .1)
+
+-- one sample has one kept list
+pub kept-one : (l : List ℕ) → KeptList 0 l → l ≡ 0 ∷ []
+kept-one [] h = absurd (h .spans)
+kept-one (i ∷ []) h = ap {B = List ℕ} (λ (n : ℕ). n ∷ []) (h .spans .0)
+kept-one (i ∷ j ∷ s) h = absurd (omega (arith, rise-le j s (h .rises .1), h .rises .0, h .spans .1))
+
+-- ---- all samples
+
+module _ (R : ℕ → ℕ → Type 0) (last : ℕ) (step : (k : ℕ) → k < last → R k (suc k)) where
+  after-links : (n i : ℕ) → i + n ≤ last → LinksFrom R i (samplesAfter i n)
+  unfolding samplesAfter
+  after-links zero i h = tt
+  after-links (suc n) i h = (step i (omega arith), after-links n (suc i) (omega arith))
+
+  pub every-links : EachLink R (everySample last)
+  every-links = after-links last 0 (omega arith)
+
+after-final : (n i : ℕ) → final i (samplesAfter i n) ≡ i + n
+unfolding samplesAfter
+after-final zero i = omega arith
+after-final (suc n) i = after-final n (suc i) ∙ omega arith
+
+pub every-kept : (last : ℕ) → KeptList last (everySample last)
+every-kept last = record { spans = (refl, after-final last 0 ∙ omega arith); rises = every-links _<_ last (λ k h. omega arith) }
+
+after-entry : (n i k : ℕ) → i ≤ k → k ≤ i + n → Entry k (i ∷ samplesAfter i n)
+unfolding samplesAfter
+after-entry zero i k l u = inl (omega arith)
+after-entry (suc n) i k l u = ⊎-elim (λ e. inl (omega arith)) (λ m. inr (after-entry n (suc i) k m (omega arith))) (eq-or-lt-of-le l)
+
+pub every-entry : (last k : ℕ) → k ≤ last → Entry k (everySample last)
+every-entry last k h = after-entry last 0 k (omega arith) (omega arith)

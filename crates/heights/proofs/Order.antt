@@ -1,0 +1,66 @@
+-- The order of integers, by differences of naturals (trace: proofs/Difference).
+-- Assumes nothing.
+use mathlib.Core.Path.{_≡_, ap}
+use mathlib.Core.Bool.{false}
+use mathlib.Core.Logic.{_↔_}
+use Prim.Native.Nat.{ℕ, _+_, _≤_}
+use native.Mathlib.Omega.{arith}
+use native.Mathlib.Decide.{decLe}
+use lib.Dec.{leb→le, le→leb}
+use lib.IntN.{ℤ, pos, negsuc}
+use lib.Signed.{_≤ℤ_, leZ}
+use Rattle.lists.proofs.Tests.{by-test, is-true, true-is, true-false}
+use Rattle.trace.proofs.Difference.{Diff, parts}
+use Rattle.heights.specs.Heights.{higher, lower}
+
+pub order : {x y : ℤ} {a b c d : ℕ} → Diff x a b → Diff y c d → x ≤ℤ y ↔ a + d ≤ c + b
+order {x = pos m} {y = pos n} h k = (λ l. omega (arith, leb→le m n (l .le)), λ l. record { le = le→leb m n (omega arith) })
+order {x = pos m} {y = negsuc n} h k = (λ l. absurd (l .le), λ l. absurd (omega arith))
+order {x = negsuc m} {y = pos n} h k = (λ l. omega arith, λ l. record { le = tt })
+order {x = negsuc m} {y = negsuc n} h k = (λ l. omega (arith, leb→le n m (l .le)), λ l. record { le = le→leb n m (omega arith) })
+
+pub order-refl : (x : ℤ) → x ≤ℤ x
+order-refl x = let d = parts x .2 in order d d .1 (omega arith)
+
+pub order-trans : (x y z : ℤ) → x ≤ℤ y → y ≤ℤ z → x ≤ℤ z
+order-trans x y z h k =
+    let dx = parts x .2 in
+    let dy = parts y .2 in
+    let dz = parts z .2 in
+    order dx dz .1 (omega (arith, order dx dy .0 h, order dy dz .0 k))
+
+-- of two values one is the higher and the other the lower
+pub either-order : (x y : ℤ) → leZ x y ≡ false → y ≤ℤ x
+either-order x y e =
+    let dx = parts x .2 in
+    let dy = parts y .2 in
+    elim (decLe (parts y .0 + parts x .1) (parts x .0 + parts y .1)) [
+      | yes h ↦ order dy dx .1 h
+      | no h ↦ true-false (true-is _ (order dx dy .1 (omega arith) .le)) e
+    ]
+
+module _ (x y : ℤ) where
+  pub higher-left : x ≤ℤ higher x y
+  higher-left = by-test (leZ x y) (λ e. rw e (record { le = is-true e })) (λ e. rw e (order-refl x))
+
+  pub higher-right : y ≤ℤ higher x y
+  higher-right = by-test (leZ x y) (λ e. rw e (order-refl y)) (λ e. rw e (either-order x y e))
+
+  pub lower-left : lower x y ≤ℤ x
+  lower-left = by-test (leZ x y) (λ e. rw e (order-refl x)) (λ e. rw e (either-order x y e))
+
+  pub lower-right : lower x y ≤ℤ y
+  lower-right = by-test (leZ x y) (λ e. rw e (record { le = is-true e })) (λ e. rw e (order-refl y))
+
+pub higher-one : (P : ℤ → Type 0) (x y : ℤ) → P x → P y → P (higher x y)
+higher-one P x y h k = by-test (leZ x y) (λ e. rw e k) (λ e. rw e h)
+
+pub lower-one : (P : ℤ → Type 0) (x y : ℤ) → P x → P y → P (lower x y)
+lower-one P x y h k = by-test (leZ x y) (λ e. rw e h) (λ e. rw e k)
+
+-- one difference is one number
+pub unique : {x y : ℤ} {a b c d : ℕ} → Diff x a b → Diff y c d → a + d ≡ c + b → x ≡ y
+unique {x = pos m} {y = pos n} h k e = ap pos (omega arith)
+unique {x = pos m} {y = negsuc n} h k e = absurd (omega arith)
+unique {x = negsuc m} {y = pos n} h k e = absurd (omega arith)
+unique {x = negsuc m} {y = negsuc n} h k e = ap negsuc (omega arith)

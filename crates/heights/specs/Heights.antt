@@ -1,0 +1,137 @@
+-- The lines of a kept list, beside those of its trace, and the heights read off them (document 01, "The trace and its links").
+--   Fraction              a signed numerator over a denominator
+--   linkAt, lineAt        the straight line of a link, and the lines of a list, at the tick a/d
+--   everySample, traceAt  the list of all samples, and its lines: the trace's own
+--   OnTrace               a/d is a tick between the first and the last, whole or fractional
+--   Near                  two fractions differ by at most p/q
+--   Equals, Between       a fraction is a whole number; it lies between two
+--   peak, trough, height  the greatest and the least value of a list's samples, and their difference
+--   Attained, Extremes    a list's lines have a value at some sample; peak and trough are the greatest and the least value on them
+--   ErrorBudget           what holds of a list that stands for its trace at p/q
+-- A fraction with the denominator 0 is none: Near, Equals and Between ask for more. Laws are in proofs/. Assumes nothing.
+use mathlib.Core.Path.{_≡_}
+use mathlib.Core.Bool.{cond}
+use mathlib.Core.List.{List, [], _∷_}
+use Prim.Native.Nat.{ℕ, zero, suc, _-_, _*_, _≤_}
+use lib.Dec.{leb}
+use lib.IntN.{ℤ, pos, natAbs, _+ℤ_, _-ℤ_, _*ℤ_}
+use lib.ListN.{length}
+use lib.Signed.{_≤ℤ_, leZ}
+use Rattle.trace.specs.declared.Criterion.{Criterion}
+use Rattle.trace.specs.Trace.{tick, value}
+
+-- num / den
+pub record Fraction : Type 0 where
+  pub num : ℤ
+  pub den : ℕ
+
+-- ---- lines
+
+-- The line through samples i and j at the tick a/d: (vi (d tj - a) + vj (a - d ti)) / (d (tj - ti)).
+unfoldable pub linkAt : List ℕ → List ℤ → ℕ → ℕ → ℕ → ℕ → Fraction
+linkAt ts vs i j a d = record {
+  num = value vs i *ℤ (pos (d * tick ts j) -ℤ pos a) +ℤ value vs j *ℤ (pos a -ℤ pos (d * tick ts i));
+  den = d * (tick ts j - tick ts i);
+}
+
+-- the lines of i ∷ s: the first link that ends at or after the tick decides; a sample alone has its value
+unfoldable pub lineFrom : List ℕ → List ℤ → ℕ → List ℕ → ℕ → ℕ → Fraction
+lineFrom ts vs i [] a d = record { num = value vs i; den = 1 }
+lineFrom ts vs i (j ∷ s) a d = cond (leb a (d * tick ts j)) (linkAt ts vs i j a d) (lineFrom ts vs j s a d)
+
+abbrev pub lineAt : List ℕ → List ℤ → List ℕ → ℕ → ℕ → Fraction
+lineAt ts vs [] a d = record { num = pos 0; den = 0 }
+lineAt ts vs (i ∷ s) a d = lineFrom ts vs i s a d
+
+-- the n samples after i
+unfoldable pub samplesAfter : ℕ → ℕ → List ℕ
+samplesAfter i zero = []
+samplesAfter i (suc n) = suc i ∷ samplesAfter (suc i) n
+
+-- the samples 0 .. last
+abbrev pub everySample : ℕ → List ℕ
+everySample last = 0 ∷ samplesAfter 0 last
+
+abbrev pub allOf : List ℕ → List ℕ
+allOf ts = everySample (length ts - 1)
+
+-- the trace's own line
+abbrev pub traceAt : List ℕ → List ℤ → ℕ → ℕ → Fraction
+traceAt ts vs a d = lineAt ts vs (allOf ts) a d
+
+pub record OnTrace (ts : List ℕ) (a d : ℕ) : Type 0 where
+  pub positive : 1 ≤ d
+  pub from : d * tick ts 0 ≤ a
+  pub to : a ≤ d * tick ts (length ts - 1)
+
+-- ---- fractions
+
+-- |x - y| ≤ p/q, times both denominators and q
+pub record Near (c : Criterion) (x y : Fraction) : Type 0 where
+  pub left : 1 ≤ x .den
+  pub right : 1 ≤ y .den
+  pub apart : natAbs (x .num *ℤ pos (y .den) -ℤ y .num *ℤ pos (x .den)) * c .q ≤ c .p * (x .den * y .den)
+
+pub record Equals (x : Fraction) (v : ℤ) : Type 0 where
+  pub positive : 1 ≤ x .den
+  pub is : x .num ≡ v *ℤ pos (x .den)
+
+pub record Between (low high : ℤ) (x : Fraction) : Type 0 where
+  pub positive : 1 ≤ x .den
+  pub from : (low *ℤ pos (x .den)) ≤ℤ x .num
+  pub to : x .num ≤ℤ (high *ℤ pos (x .den))
+
+-- ---- heights
+
+abbrev pub higher : ℤ → ℤ → ℤ
+higher x y = cond (leZ x y) y x
+
+abbrev pub lower : ℤ → ℤ → ℤ
+lower x y = cond (leZ x y) x y
+
+-- the values of the samples i ∷ s joined by f
+unfoldable pub joined : (ℤ → ℤ → ℤ) → List ℤ → ℕ → List ℕ → ℤ
+joined f vs i [] = value vs i
+joined f vs i (j ∷ s) = f (value vs i) (joined f vs j s)
+
+abbrev pub ofSamples : (ℤ → ℤ → ℤ) → List ℤ → List ℕ → ℤ
+ofSamples f vs [] = pos 0
+ofSamples f vs (i ∷ s) = joined f vs i s
+
+abbrev pub peak : List ℤ → List ℕ → ℤ
+peak vs l = ofSamples higher vs l
+
+abbrev pub trough : List ℤ → List ℕ → ℤ
+trough vs l = ofSamples lower vs l
+
+abbrev pub height : List ℤ → List ℕ → ℤ
+height vs l = peak vs l -ℤ trough vs l
+
+pub record Attained (ts : List ℕ) (vs : List ℤ) (l : List ℕ) (v : ℤ) : Type 0 where
+  pub sample : ℕ
+  pub inside : sample ≤ length ts - 1
+  pub on : OnTrace ts (tick ts sample) 1
+  pub at : Equals (lineAt ts vs l (tick ts sample) 1) v
+
+-- peak and trough are the greatest and the least value on the list's lines
+pub record Extremes (ts : List ℕ) (vs : List ℤ) (l : List ℕ) : Type 0 where
+  pub between : (a d : ℕ) → OnTrace ts a d → Between (trough vs l) (peak vs l) (lineAt ts vs l a d)
+  pub highest : Attained ts vs l (peak vs l)
+  pub lowest : Attained ts vs l (trough vs l)
+
+pub record ErrorBudget (ts : List ℕ) (vs : List ℤ) (c : Criterion) (l : List ℕ) : Type 0 where
+  -- p/q is a fraction
+  pub positive : 1 ≤ c .q
+  -- the lines are within p/q of the trace's own at every tick
+  pub near : (a d : ℕ) → OnTrace ts a d → Near c (lineAt ts vs l a d) (traceAt ts vs a d)
+  pub extremes : Extremes ts vs l
+  pub trace-extremes : Extremes ts vs (allOf ts)
+  -- the greatest value is never too large, and at most p/q too small
+  pub peak-high : peak vs l ≤ℤ peak vs (allOf ts)
+  pub peak-near : ((peak vs (allOf ts) -ℤ peak vs l) *ℤ pos (c .q)) ≤ℤ pos (c .p)
+  -- the least is never too small, and at most p/q too large
+  pub trough-low : trough vs (allOf ts) ≤ℤ trough vs l
+  pub trough-near : ((trough vs l -ℤ trough vs (allOf ts)) *ℤ pos (c .q)) ≤ℤ pos (c .p)
+  -- so a height is never too large, and at most 2p/q too small
+  pub height-high : height vs l ≤ℤ height vs (allOf ts)
+  pub height-near : ((height vs (allOf ts) -ℤ height vs l) *ℤ pos (c .q)) ≤ℤ pos (2 * c .p)

@@ -1,0 +1,3 @@
+-- What follows from the contracts of the public calls.
+pub mod Heights
+pub mod Nearness
