@@ -79,8 +79,9 @@ test:
 	@log=$$(mktemp); trap 'rm -f "$$log"' EXIT; \
 	if ! rt ci >"$$log" 2>&1; then cat "$$log"; exit 1; fi; \
 	grep '^rt:' "$$log"; \
-	rt staticlib kovrelna >/dev/null && make --no-print-directory test-rust test-c test-install test-python && tail -n 1 "$$log"
+	rt staticlib kovrelna >/dev/null && rt check reduce >/dev/null && make --no-print-directory test-rust test-c test-install test-python && tail -n 1 "$$log"
 
+# The Rust tests, which run the program reduce too.
 test-rust:
 	@$(CARGO) test $(CARGO_FLAGS) --workspace --lib --tests
 	@$(CARGO) test $(CARGO_FLAGS) --workspace --doc

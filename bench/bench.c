@@ -1,5 +1,4 @@
-/* Times the library's reductions, writer and reader beside the peers in plain C, and counts what
- * the reductions keep.
+/* Times the library's calls beside the peers in plain C, and counts what the reductions keep.
  *
  * bench: prints a table of times for each call, and the kept numbers.
  * bench kept: prints the kept numbers.
@@ -193,14 +192,16 @@ static void measure(row *r, size_t kind, const int64_t *tolerance) {
     fail("the list of Douglas-Peucker is not within the tolerance");
 }
 
-/* ---- Records ---- */
+/* ---- Records, lists and codes ---- */
 
 /* The longest record has 24,589 bytes. */
 enum { BYTES = 24589, RECORD_CALLS = 20 };
 
-/* A kept list of a trace and its record. */
+/* A kept list of a trace and its record; codes and their values. */
 typedef struct kept_record {
   const int16_t *values;
+  uint8_t codes[SAMPLES];
+  int16_t expanded[SAMPLES];
   uint16_t list[SAMPLES];
   size_t kept, length;
   uint8_t bytes[BYTES];
@@ -232,7 +233,27 @@ static size_t plain_read(kept_record *r) {
   return read_c(r->bytes, r->length, r->read_ticks, r->read_values, SAMPLES);
 }
 
-enum { WRITE, WRITE_C, READ, READ_C, RECORDERS };
+/* How many samples are kept, if the list passes. */
+static size_t library_judge(kept_record *r) {
+  kovrelna_verdict verdict = kovrelna_judge(ticks, SAMPLES, r->values, SAMPLES, r->list, r->kept,
+                                            kovrelna_ratio(RECORD_P, RECORD_Q));
+  return verdict.passed ? r->kept : 0;
+}
+
+static size_t plain_judge(kept_record *r) {
+  return judge_c(ticks, r->values, SAMPLES, r->list, r->kept, RECORD_P, RECORD_Q) ? r->kept : 0;
+}
+
+static size_t library_expand(kept_record *r) {
+  kovrelna_answer answer = kovrelna_expand(r->codes, SAMPLES, r->expanded, SAMPLES);
+  return answer.number == 0 ? (size_t)answer.value : 0;
+}
+
+static size_t plain_expand(kept_record *r) {
+  return expand_c(r->codes, SAMPLES, r->expanded, SAMPLES);
+}
+
+enum { WRITE, WRITE_C, READ, READ_C, JUDGE, JUDGE_C, EXPAND, EXPAND_C, RECORDERS };
 
 static const struct {
   const char *name;
@@ -240,7 +261,11 @@ static const struct {
 } RECORDER[RECORDERS] = {{"kovrelna_write", library_write},
                          {"write_c", plain_write},
                          {"kovrelna_read", library_read},
-                         {"read_c", plain_read}};
+                         {"read_c", plain_read},
+                         {"kovrelna_judge", library_judge},
+                         {"judge_c", plain_judge},
+                         {"kovrelna_expand", library_expand},
+                         {"expand_c", plain_expand}};
 
 static double record_times[RECORDERS][REPETITIONS]; /* microseconds a call */
 
@@ -251,7 +276,14 @@ static void make_record(kept_record *r, size_t kind, int all, size_t (*write)(ke
   r->kept = SAMPLES;
   if (!all) r->kept = walk_c(ticks, r->values, SAMPLES, RECORD_P, RECORD_Q, r->list).kept;
   for (k = 0; all && k < SAMPLES; k++) r->list[k] = (uint16_t)k;
+  for (k = 0; k < SAMPLES; k++) r->codes[k] = (uint8_t)(7 * k + (size_t)r->values[k]);
   r->length = write(r);
+}
+
+/* What a call answers. */
+static size_t expected(const kept_record *r, int x) {
+  if (x == WRITE || x == WRITE_C) return r->length;
+  return x == EXPAND || x == EXPAND_C ? SAMPLES : r->kept;
 }
 
 /* Whether the samples read are those of the list. */
@@ -268,25 +300,27 @@ static void print_records(void) {
   static uint8_t bytes[BYTES];
   int repetition, x, k, all;
   size_t kind;
-  printf("\nRecords of walk's list and of all samples at tolerance 7.50. Microseconds a call.\n"
-         "         samples   bytes     write       C   ratio      read       C   ratio\n");
+  printf("\nWalk's list and all samples at tolerance 7.50: written to a record, read, judged;\n"
+         "and %d range codes expanded. Microseconds a call.\n"
+         "         samples   bytes     write       C   ratio      read       C   ratio"
+         "     judge       C   ratio    expand       C   ratio\n",
+         SAMPLES);
   for (kind = 0; kind < COUNT(KINDS); kind++) {
     for (all = 0; all <= 1; all++) {
       make_record(&r, kind, all, plain_write);
       memcpy(bytes, r.bytes, r.length);
       for (repetition = 0; repetition < REPETITIONS; repetition++) {
         for (x = 0; x < RECORDERS; x++) {
-          int writes = x == WRITE || x == WRITE_C;
           size_t answer = 0;
           double start;
-          if (writes) memset(r.bytes, 0, BYTES);
-          memset(r.read_ticks, 0, sizeof(r.read_ticks));
+          if (x == WRITE || x == WRITE_C) memset(r.bytes, 0, BYTES);
+          if (x == READ || x == READ_C) memset(r.read_ticks, 0, sizeof(r.read_ticks));
           start = now();
           for (k = 0; k < RECORD_CALLS; k++) answer = RECORDER[x].call(&r);
           record_times[x][repetition] = 1e-3 * (now() - start) / RECORD_CALLS;
-          if (answer != (writes ? r.length : r.kept) || memcmp(r.bytes, bytes, r.length) != 0 ||
-              !(writes || is_read(&r)))
-            fail("a record is not written or read as the peer does");
+          if (answer != expected(&r, x) || memcmp(r.bytes, bytes, r.length) != 0 ||
+              ((x == READ || x == READ_C) && !is_read(&r)))
+            fail("a call does not answer as its peer does");
         }
       }
       printf("%-8s %7zu %7zu", KINDS[kind], r.kept, r.length);

@@ -7,11 +7,11 @@ if ! command -v valgrind >/dev/null; then
 fi
 kinds="pulse noise ramp zigzag spike"
 echo
-echo "Instructions a sample, whole call, 4096 samples, tolerance 7.50; records of all samples"
+echo "Instructions a sample, whole call, 4096 samples, tolerance 7.50; records and lists of all samples"
 printf '%-16s' ''
 printf ' %10s' $kinds
 echo
-for call in walk gallop minimum write read; do
+for call in walk gallop minimum write read judge expand; do
   for function in "kovrelna_$call" "${call}_c"; do
     printf '%-16s' "$function"
     for kind in $kinds; do

@@ -218,6 +218,25 @@ static int is_valid(const uint32_t *ticks, const int16_t *values, size_t i, size
   return 1;
 }
 
+int judge_c(const uint32_t *ticks, const int16_t *values, size_t n, const uint16_t *list,
+            size_t kept, int64_t p, int64_t q) {
+  size_t k;
+  if (!is_trace(ticks, n) || !is_list(list, kept, n)) return 0;
+  for (k = 1; k < kept; k++)
+    if (!is_valid(ticks, values, list[k - 1], list[k], p, q)) return 0;
+  return 1;
+}
+
+size_t expand_c(const uint8_t *codes, size_t n, int16_t *values, size_t room) {
+  static int16_t table[256];
+  size_t k;
+  if (n == 0 || n > SAMPLES || room < n) return 0;
+  if (table[255] == 0)
+    for (k = 0; k < 256; k++) table[k] = (int16_t)(((k % 32 + 32) << (k / 32)) - 32);
+  for (k = 0; k < n; k++) values[k] = table[codes[k]];
+  return n;
+}
+
 static int is_short(int64_t advance, int64_t change) {
   return advance <= 255 && change >= -128 && change <= 127;
 }

@@ -1,6 +1,6 @@
-/* Reductions, the writer and the reader in plain C, to compare with. A peer that takes a trace
- * checks it as the library does, and takes an allowed tolerance p/q in lowest terms. A reduction
- * takes an output of n entries and writes the kept list. */
+/* The library's calls in plain C, to compare with. A peer that takes a trace checks it as the
+ * library does, and takes an allowed tolerance p/q in lowest terms. A reduction takes an output of
+ * n entries and writes the kept list. */
 #ifndef PEERS_H
 #define PEERS_H
 
@@ -34,6 +34,14 @@ reduced minimum_c_nostop(const uint32_t *ticks, const int16_t *values, size_t n,
  * not valid. */
 reduced douglas_peucker_c(const uint32_t *ticks, const int16_t *values, size_t n, int64_t p,
                           int64_t q, uint16_t *out);
+
+/* Whether the list is a kept list of the trace and each link is valid. */
+int judge_c(const uint32_t *ticks, const int16_t *values, size_t n, const uint16_t *list,
+            size_t kept, int64_t p, int64_t q);
+
+/* Expands range codes by a table. Returns their number, 0 if there is none, there are too many or
+ * the output has no room. */
+size_t expand_c(const uint8_t *codes, size_t n, int16_t *values, size_t room);
 
 /* Writes the record of the kept list. Returns its length, 0 if the trace, the list or a link is
  * refused or the buffer has no room. */

@@ -266,8 +266,8 @@ const VALUES: [u16; 256] = [
     8032,
 ];
 
-// The value of a code in a table of all of them.
-fn value_in(table: &[u16], c: u8) -> i16
+// The value of a code, in a table of all of them.
+fn code_value(table: &[u16], c: u8) -> i16
     requires { ⌜ Table (now table) ⌝ }
     ensures { λ r. ⌜ r ≡ pos (codeValue c) ⌝ }
 {
@@ -275,11 +275,17 @@ fn value_in(table: &[u16], c: u8) -> i16
     table[i] as i16
 }
 
-// The value of a code.
-pub fn code_value(c: u8) -> i16
-    ensures { λ r. ⌜ r ≡ pos (codeValue c) ⌝ }
+// Writes the values of codes, in a table of all of them, to the front of a lent list.
+fn expand_by(table: &[u16], codes: &[u8], out: &mut [i16])
+    requires { ⌜ Table (now table) × (length (now codes) ≤ length (now out)) ⌝ }
+    ensures { λ _. ⌜ now (out .exit) ≡ overwrite (codeValues (now (codes .entry))) (now (out .entry)) ⌝ }
 {
-    value_in(&VALUES, c)
+    let n = codes.len();
+    let mut i = 0;
+    while i < n {
+        out[i] = code_value(table, codes[i]);
+        i += 1;
+    }
 }
 
 // Writes the values of codes to the front of a lent list.
@@ -287,10 +293,5 @@ pub fn expand(codes: &[u8], out: &mut [i16])
     requires { ⌜ length (now codes) ≤ length (now out) ⌝ }
     ensures { λ _. ⌜ now (out .exit) ≡ overwrite (codeValues (now (codes .entry))) (now (out .entry)) ⌝ }
 {
-    let n = codes.len();
-    let mut i = 0;
-    while i < n {
-        out[i] = code_value(codes[i]);
-        i += 1;
-    }
+    expand_by(&VALUES, codes, out);
 }

@@ -16,13 +16,13 @@ use Rattle.refusal.proofs.TableLaws.{then-fine}
 use Rattle.tolerance.specs.declared.Tolerance.{Tolerance}
 use Rattle.tolerance.specs.declared.Meaning.{Meaning}
 use Rattle.tolerance.specs.declared.Meaning.the-variants.{Exact, NotAllowed}
-use Rattle.tolerance.specs.Meaning.{meaning}
+use Rattle.tolerance.specs.Meaning.{meaning, Held}
 use Rattle.tolerance.proofs.Meanings.{exact-held}
 use Rattle.trace.specs.declared.Criterion.{Criterion}
 use Rattle.trace.specs.Trace.{traceRows}
 use Rattle.proposed.specs.Proposed.{listRow, firstInvalid}
 use Rattle.proposed.proofs.ProposedLaws.{row-kept}
-use Rattle.format.specs.Format.{encode, Held}
+use Rattle.format.specs.Format.{encode}
 use Rattle.writer.specs.declared.Answer as W
 use Rattle.writer.specs.declared.Answer.the-variants.{Written as WrittenAs, Refused as NotWritten}
 use Rattle.writer.specs.Writing.{Kept, selected, writeRow, WrittenAt, WriteDeclined}
@@ -38,7 +38,7 @@ unfolding criterionOf
 row-held t e = go (meaning t) refl e
   where
     go : (m : Meaning) → meaning t ≡ m → toleranceRow m ≡ Fine → Held (ratioOf (criterionIn m))
-    go (Exact r) q e = let h = exact-held t r q in record { positive = h .positive; q-bound = h .q-bound; p-bound = h .p-bound; coprime = h .coprime }
+    go (Exact r) q e = exact-held t r q
     go NotAllowed q e = let z : _≡_ {A = ℕ} 0 1 = cc in absurd (omega arith)
 
 pub common-held : (ts : List ℕ) (vs : List ℤ) (t : Tolerance) → commonRows ts vs t ≡ Fine → Held (ratioOf (criterionOf t))

@@ -14,9 +14,10 @@ use lib.Signed.{mag}
 use Rattle.lists.proofs.Tests.{and-true, and-first, and-second}
 use Rattle.ratio.specs.declared.Ratio.{Ratio}
 use Rattle.ratio.specs.Gcd.{gcd}
+use Rattle.tolerance.specs.Meaning.{Held}
 use Rattle.trace.specs.Trace.{tick, value, Rising, Trace}
 use Rattle.trace.proofs.Ticks.{not-earlier}
-use Rattle.format.specs.Format.{Content, Held, Legal, allowed, within, short}
+use Rattle.format.specs.Format.{Content, Legal, allowed, within, short}
 
 -- ---- tests
 

@@ -20,6 +20,7 @@ use lib.ListN.{length, drop}
 use lib.Signed.{mag}
 use Rattle.ratio.specs.declared.Ratio.{Ratio}
 use Rattle.ratio.specs.Gcd.{gcd}
+use Rattle.tolerance.specs.Meaning.{Held}
 use Rattle.trace.specs.Trace.{tick, value, Trace}
 use Rattle.trace.specs.Level.{level}
 use Rattle.format.specs.Number.{valueOf}
@@ -38,13 +39,6 @@ pub record Content : Type 0 where
   pub tolerance : Ratio
   pub ticks : List ℕ
   pub values : List ℤ
-
--- a tolerance as it is held: allowed, and reduced
-pub record Held (r : Ratio) : Type 0 where
-  pub positive : 1 ≤ r .q
-  pub q-bound : r .q ≤ 1048575
-  pub p-bound : r .p ≤ 65535 * r .q
-  pub coprime : gcd (r .p) (r .q) ≡ 1
 
 -- a held tolerance and the samples of a trace, of 32-bit ticks and 16-bit values
 pub record Legal (x : Content) : Type 0 where

@@ -25,6 +25,7 @@ use Rattle.trace.specs.declared.Criterion.{Criterion}
 use Rattle.trace.specs.Trace.{Trace}
 use Rattle.ratio.specs.declared.Ratio.{Ratio}
 use Rattle.trace.specs.Link.{valid, linkError, Linked}
+use Rattle.trace.proofs.Validity.{steps-valid}
 use Rattle.proposed.specs.Proposed.{entry, badAt, endRow, listRow, invalidAt, firstInvalid, errorAt}
 
 -- ---- a bad entry
@@ -166,6 +167,11 @@ kept-link {ts} {vs} {l} {k} t kept h ei ej =
 
 pub link-invalid : (ts : List ℕ) (vs : List ℤ) (c : Criterion) (l : List ℕ) (k : ℕ) {i j : ℕ} {b : Bool} → i ≡ entry l k → j ≡ entry l (k + 1) → b ≡ valid ts vs c i j → not b ≡ invalidAt ts vs c l k
 link-invalid ts vs c l k ei ej e = rw (e, ei, ej, add-one k)
+
+-- a link to the next sample is valid
+pub next-valid : (ts : List ℕ) (vs : List ℤ) (c : Criterion) (l : List ℕ) (k : ℕ) {i j : ℕ} → i ≡ entry l k → j ≡ entry l (k + 1) → j ≡ i + 1 → false ≡ invalidAt ts vs c l k
+next-valid ts vs c l k {i} {j} ei ej e =
+    link-invalid ts vs c l k ei ej (subst (λ (n : ℕ). true ≡ valid ts vs c i n) (sym (e ∙ add-one i)) (sym (steps-valid ts vs c i)))
 
 pub link-error-at : (ts : List ℕ) (vs : List ℤ) (l : List ℕ) (k : ℕ) {i j : ℕ} {r : Ratio} → i ≡ entry l k → j ≡ entry l (k + 1) → r ≡ linkError ts vs i j → r ≡ errorAt ts vs l k
 link-error-at ts vs l k ei ej e = e ∙ rw (ei, ej, add-one k)

@@ -73,12 +73,17 @@ pub fn check(list: &[u16], n: usize) -> Checked
     check_end(list, n)
 }
 
-// Whether the link at position k is invalid.
+// Whether the link at position k is invalid. One to the next sample is valid, as nothing lies between.
 fn invalid(ticks: &[u32], values: &[i16], c: Criterion, list: &[u16], k: usize) -> bool
     requires { ⌜ Trace (now ticks) (now values) × Bounded c × KeptList (length (now ticks) - 1) (now list) × (k < length (now list) - 1) ⌝ }
     ensures { λ r. ⌜ r ≡ invalidAt (now (ticks .entry)) (now (values .entry)) c (now (list .entry)) k ⌝ }
 {
-    !trace::links::link_valid(ticks, values, c, wide(list[k]), wide(list[k + 1]))
+    let i = wide(list[k]);
+    let j = wide(list[k + 1]);
+    if j == i + 1 {
+        return false;
+    }
+    !trace::links::link_valid(ticks, values, c, i, j)
 }
 
 // The position of the first invalid link; the number of links where there is none.

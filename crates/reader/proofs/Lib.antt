@@ -1,3 +1,4 @@
 -- The laws of the crate `reader`.
+pub mod CommandsAt
 pub mod PassLaws
 pub mod ReadingLaws

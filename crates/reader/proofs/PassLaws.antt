@@ -4,20 +4,25 @@
 --   Filling    and are written over two lent lists
 -- Assumes nothing.
 use mathlib.Core.Path.{_≡_, refl, sym, ap, _∙_, subst}
+use mathlib.Core.Bool.{true, false}
 use mathlib.Core.List.{List, [], _∷_, _++_, append-assoc}
 use Prim.Native.Nat.{ℕ, suc, _+_, _-_, _≤_, _<_}
 use native.Mathlib.Omega.{arith}
 use lib.IntN.{ℤ}
 use lib.ListN.{length, set, length-append}
 use Rattle.lists.specs.Overwrite.{overwrite}
+use Rattle.lists.proofs.Tests.{true-false}
 use Rattle.lists.proofs.OverwriteLaws.{overwrite-length, overwrite-snoc}
+use Rattle.ratio.specs.declared.Ratio.{Ratio}
 use Rattle.format.specs.declared.Cursor.{Cursor}
+use Rattle.format.specs.declared.Step.{Step}
 use Rattle.format.specs.declared.Step.the-variants.{Sample, End as Ended, Fault}
 use Rattle.format.specs.Number.{Bytes, valueOf}
-use Rattle.format.specs.Format.{stepOf, Samples, fault, samples, onto, steps, samplesFrom}
+use Rattle.format.specs.Format.{stepOf, Samples, fault, samples, onto, steps, samplesFrom, attach}
 use Rattle.format.proofs.RuleLaws.{within-le}
 use Rattle.format.proofs.EncodeParse.{stepped}
-use Rattle.reader.specs.Reading.{Ready, Begun, Entry, Fitting, Filled}
+use Rattle.reader.specs.declared.Verdict.the-variants.{Samples as Gives}
+use Rattle.reader.specs.Reading.{verdictOf, isSample, closedBy, Ready, Begun, Entry, Fitting, Filled}
 
 -- samples before the others
 abbrev prepend : List ℕ → List ℤ → Samples → Samples
@@ -80,27 +85,40 @@ module _ {b : List ℕ} {start : Cursor} where
     pub counts : length (w ++ (c .tick ∷ [])) ≡ c .count
     counts = rw length-append (p .ticks)
 
+    -- no sample follows: the verdict is that of the whole
+    pub closes : (r : Ratio) → isSample (stepOf b c) ≡ false → closedBy r c (stepOf b c) ≡ verdictOf (attach r (samplesFrom b start))
+    closes r q = go (stepOf b c) refl
+      where
+        go : (s : Step) → stepOf b c ≡ s → closedBy r c s ≡ verdictOf (attach r (samplesFrom b start))
+        go (Sample d) e = true-false (ap isSample e) q
+        go Ended e = rw (ends e) (ap (λ (n : ℕ). Gives n r) (sym counts))
+        go (Fault k) e = rw (faults e)
+
 -- ---- filling
 
-pub record Filling (b : List ℕ) (start : Cursor) (o : List ℕ) (u : List ℤ) (ts : List ℕ) (vs : List ℤ) (c : Cursor) (w : List ℕ) (v : List ℤ) : Type 0 where
+pub record Filling (b : List ℕ) (start : Cursor) (n : ℕ) (o : List ℕ) (u : List ℤ) (ts : List ℕ) (vs : List ℤ) (c : Cursor) (w : List ℕ) (v : List ℤ) : Type 0 where
   pub passed : Passed b start c w v
-  pub fitting : Fitting (samplesFrom b start) (length o) (length u)
+  pub fitting : Fitting (samplesFrom b start) n (length o) (length u)
   pub ticks : ts ≡ overwrite w o
   pub values : vs ≡ overwrite v u
 
-fitting-room : (w : List ℕ) (v : List ℤ) (c : Cursor) (r : Samples) (m n : ℕ) → Fitting (prepend w v (onto c r)) m n → (length w < m) × (length w < n)
-fitting-room w v c (fault k) m n f = absurd f
-fitting-room w v c (samples ts vs) m n f =
+fitting-more : (w : List ℕ) (v : List ℤ) (c : Cursor) (r : Samples) (n k m : ℕ) → Fitting (prepend w v (onto c r)) n k m → (length w < n) × (n ≤ k) × (n ≤ m)
+fitting-more w v c (fault j) n k m f = absurd f
+fitting-more w v c (samples ts vs) n k m f =
     let e : length (w ++ (c .tick ∷ ts)) ≡ length w + suc (length ts) = length-append w (c .tick ∷ ts) in
-    (omega (arith, f .0), omega (arith, f .1))
+    (omega (arith, f .0), f .1, f .2)
 
-module _ {b : List ℕ} {start : Cursor} {o : List ℕ} {u : List ℤ} where
-  pub filling-begins : Begun (length b) start → Fitting (samplesFrom b start) (length o) (length u) → Filling b start o u o u start [] []
+module _ {b : List ℕ} {start : Cursor} {n : ℕ} {o : List ℕ} {u : List ℤ} where
+  pub filling-begins : Begun (length b) start → Fitting (samplesFrom b start) n (length o) (length u) → Filling b start n o u o u start [] []
   filling-begins h f = record { passed = begins h; fitting = f; ticks = refl; values = refl }
 
-  module _ {ts : List ℕ} {vs : List ℤ} {c : Cursor} {w : List ℕ} {v : List ℤ} (f : Filling b start o u ts vs c w v) where
+  module _ {ts : List ℕ} {vs : List ℤ} {c : Cursor} {w : List ℕ} {v : List ℤ} (f : Filling b start n o u ts vs c w v) where
+    -- the samples passed and the one at the cursor are among the n
+    among : {w′ : List ℕ} {v′ : List ℤ} {d : Cursor} → Passed b start d w′ v′ → (length w′ < n) × (n ≤ length o) × (n ≤ length u)
+    among {w′} {v′} {d} p = fitting-more w′ v′ d (steps b (4097 - d .count) d) n (length o) (length u) (subst (λ (s : Samples). Fitting s n (length o) (length u)) (p .all) (f .fitting))
+
     room : (length w < length o) × (length w < length u)
-    room = fitting-room w v c (steps b (4097 - c .count) c) (length o) (length u) (subst (λ (s : Samples). Fitting s (length o) (length u)) (f .passed .all) (f .fitting))
+    room = (omega (arith, among (f .passed)), omega (arith, among (f .passed)))
 
     pub lengths : (length ts ≡ length o) × (length vs ≡ length u)
     lengths =
@@ -140,11 +158,32 @@ module _ {b : List ℕ} {start : Cursor} {o : List ℕ} {u : List ℤ} where
             ap length (stored .1) ∙ overwrite-length (v ++ (valueOf (c .level) ∷ [])) u (omega (arith, m, room .1, p .ticks, p .values)),
           )
 
-      pub fills : {d : Cursor} → Bytes b → stepOf b c ≡ Sample d → Filling b start o u ts′ vs′ d (w ++ (c .tick ∷ [])) (v ++ (valueOf (c .level) ∷ []))
+      pub fills : {d : Cursor} → Bytes b → stepOf b c ≡ Sample d → Filling b start n o u ts′ vs′ d (w ++ (c .tick ∷ [])) (v ++ (valueOf (c .level) ∷ []))
       fills by e = record { passed = goes-on (f .passed) by e; fitting = f .fitting; ticks = stored .0; values = stored .1 }
 
-      pub filled : stepOf b c ≡ Ended → Filled (samplesFrom b start) o u ts′ vs′
-      filled e = rw (ends (f .passed) e) stored
+    not-faulty : {k : ℕ} → stepOf b c ≡ Fault k → ⊥
+    not-faulty e = subst (λ (s : Samples). Fitting s n (length o) (length u)) (faults (f .passed) e) (f .fitting)
 
-    pub not-faulty : {k : ℕ} → stepOf b c ≡ Fault k → ⊥
-    not-faulty e = subst (λ (s : Samples). Fitting s (length o) (length u)) (faults (f .passed) e) (f .fitting)
+    -- fewer than n samples: one follows
+    pub more-follow : c .count < n → isSample (stepOf b c) ≡ true
+    more-follow h = go (stepOf b c) refl
+      where
+        go : (s : Step) → stepOf b c ≡ s → isSample s ≡ true
+        go (Sample d) e = refl
+        go Ended e =
+            let g = subst (λ (s : Samples). Fitting s n (length o) (length u)) (ends (f .passed) e) (f .fitting) in
+            absurd (omega (arith, g .0, counts (f .passed)))
+        go (Fault k) e = absurd (not-faulty e)
+
+    -- all n: the record ends
+    all-ended : Bytes b → n ≤ c .count → stepOf b c ≡ Ended
+    all-ended by h = go (stepOf b c) refl
+      where
+        go : (s : Step) → stepOf b c ≡ s → s ≡ Ended
+        go (Sample d) e = let p = goes-on (f .passed) by e in absurd (omega (arith, among p .0, counts (f .passed)))
+        go Ended e = refl
+        go (Fault k) e = absurd (not-faulty e)
+
+    pub filled : {ts′ : List ℕ} {vs′ : List ℤ} → ts′ ≡ set ts (c .count - 1) (c .tick) → vs′ ≡ set vs (c .count - 1) (valueOf (c .level)) → Bytes b → n ≤ c .count
+        → Filled (samplesFrom b start) o u ts′ vs′
+    filled et ev by h = rw (ends (f .passed) (all-ended by h)) (stored et ev)

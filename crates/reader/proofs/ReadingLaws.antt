@@ -2,8 +2,8 @@
 -- Assumes nothing.
 use mathlib.Core.Path.{_≡_, refl, sym, ap, _∙_, subst}
 use mathlib.Core.Bool.{Bool, true, false, _&&_}
-use mathlib.Core.List.{List, [], _∷_}
-use Prim.Native.Nat.{ℕ, _+_, _-_, _≤_, _<_}
+use mathlib.Core.List.{List}
+use Prim.Native.Nat.{ℕ, _-_, _≤_}
 use native.Mathlib.Omega.{arith}
 use borrow.Author.Tests.{le-leb}
 use lib.Dec.{leb}
@@ -11,11 +11,11 @@ use lib.IntN.{ℤ}
 use lib.ListN.{length, take, drop, length-drop}
 use lib.Seq.{take-append-seam}
 use Rattle.lists.specs.Decides.{Decides}
-use Rattle.lists.specs.Overwrite.{overwrite, Wrote}
+use Rattle.lists.specs.Overwrite.{overwrite}
 use Rattle.lists.proofs.PartLaws.{part-from}
 use Rattle.ratio.specs.declared.Ratio.{Ratio}
 use Rattle.refusal.specs.declared.Refusal.the-variants.{Record, SecondRecord, Room}
-use Rattle.refusal.specs.declared.Checked.the-variants.{Fine, Refused as Declined}
+use Rattle.refusal.specs.declared.Checked.the-variants.{Refused as Declined}
 use Rattle.trace.specs.Trace.{Trace}
 use Rattle.format.specs.declared.Cursor.{Cursor}
 use Rattle.format.specs.declared.Command.{Command}
@@ -24,13 +24,13 @@ use Rattle.format.specs.declared.Header.{Header}
 use Rattle.format.specs.declared.Header.the-variants.{Start, Fault as NoHeader}
 use Rattle.format.specs.Number.{Bytes}
 use Rattle.format.specs.Command.{choose, commandOf}
-use Rattle.format.specs.Format.{Content, Accepted, SameRecord, allowed, Samples, fault, samples, samplesFrom, firstOf, toleranceOf, headerOf, Parsed, faulty, says, attach, began, parse}
+use Rattle.format.specs.Format.{SameRecord, allowed, Samples, fault, samples, samplesFrom, firstOf, toleranceOf, headerOf, Parsed, faulty, says, attach, began, parse}
 use Rattle.format.proofs.NumberLaws.{bytes-drop}
 use Rattle.format.proofs.CommandLaws.{Starts, Read, read}
 use Rattle.format.proofs.ParseEncode.{record-long}
 use Rattle.format.proofs.EncodeParse.{encode-parse}
 use Rattle.format.proofs.SameLaws.{same-tails}
-use Rattle.reader.specs.Reading.{readRows, sameRows, Said, CheckOutcome, ReadBack, Compared, SameOutcome, verdictOf, samplesOf, Begun, Fitting, Filled}
+use Rattle.reader.specs.Reading.{readRows, sameRows, Said, CheckOutcome, ReadBack, Compared, verdictOf, Begun, Fitting, Filled}
 use Rattle.reader.specs.declared.Verdict.{Verdict}
 
 -- ---- the header
@@ -90,24 +90,30 @@ verdict {b} by e = subst (CheckOutcome b) (sym e) (go (parse b) refl)
 
 -- ---- read
 
+samplesOf : Parsed → Samples
+samplesOf (faulty k) = fault k
+samplesOf (says x) = samples (x .ticks) (x .values)
+
 samples-attach : (r : Ratio) (s : Samples) → samplesOf (attach r s) ≡ s
+unfolding samplesOf
 samples-attach r (fault k) = refl
 samples-attach r (samples ts vs) = refl
-
-pub parse-samples : (b : List ℕ) {r : Ratio} {c : Cursor} → headerOf b ≡ Start r c → samplesOf (parse b) ≡ samplesFrom b c
-parse-samples b {r} {c} e = ap samplesOf (parse-start b e) ∙ samples-attach r (samplesFrom b c)
 
 module _ {b : List ℕ} {n : ℕ} {r : Ratio} (s : Said b n r) where
   pub no-room : (k m : ℕ) → (leb n k && leb n m) ≡ false → readRows b k m ≡ Declined (Room n)
   no-room k m e = rw (s .accepted .parsed, ← s .count, e)
 
-  module _ (ts : List ℕ) (vs : List ℤ) (h : n ≤ length ts) (k : n ≤ length vs) where
-    pub room : Fitting (samplesOf (parse b)) (length ts) (length vs)
-    room = rw (s .accepted .parsed) (omega (arith, s .count), omega (arith, s .count))
+  module _ {q : Ratio} {c : Cursor} (e : headerOf b ≡ Start q c) (ts : List ℕ) (vs : List ℤ) (h : n ≤ length ts) (k : n ≤ length vs) where
+    said-samples : samplesFrom b c ≡ samples (s .content .ticks) (s .content .values)
+    unfolding samplesOf
+    said-samples = sym (samples-attach q (samplesFrom b c)) ∙ ap samplesOf (sym (parse-start b e) ∙ s .accepted .parsed)
 
-    pub read-back : {ts′ : List ℕ} {vs′ : List ℤ} → Filled (samplesOf (parse b)) ts vs ts′ vs′ → ReadBack b ts vs n r ts′ vs′
+    pub room : Fitting (samplesFrom b c) n (length ts) (length vs)
+    room = rw said-samples (sym (s .count), h, k)
+
+    pub read-back : {ts′ : List ℕ} {vs′ : List ℤ} → Filled (samplesFrom b c) ts vs ts′ vs′ → ReadBack b ts vs n r ts′ vs′
     read-back f =
-        let w = rw (s .accepted .parsed) at f in
+        let w = rw said-samples at f in
         record {
           rows = rw (s .accepted .parsed, ← s .count, le-leb n (length ts) h, le-leb n (length vs) k);
           content = s .content;

@@ -2,13 +2,15 @@
 --   recordRow, readRows, sameRows            rows 8, 9 and 10: a faulty record, a second one, output too short
 --   CheckOutcome, ReadOutcome, SameOutcome   what is answered, and what lent lists then hold
 --   verdictOf                                a record's verdict
+--   shortObeys, longObeys, isSample          the rules for a step; a step that leads to a sample
+--   closedBy                                 the verdict after the last sample
 --   Ready, Begun                             a cursor within a record; one after the first sample
 --   Entry, Fitting, Filled                   lists with an entry for a sample; for all samples; samples written over them
 -- Assumes nothing.
 use mathlib.Core.Path.{_≡_}
-use mathlib.Core.Bool.{_&&_}
+use mathlib.Core.Bool.{Bool, true, false, not, _&&_}
 use mathlib.Core.List.{List}
-use Prim.Native.Nat.{ℕ, _≤_}
+use Prim.Native.Nat.{ℕ, _+_, _-_, _≤_}
 use lib.Dec.{leb}
 use lib.IntN.{ℤ}
 use lib.ListN.{length}
@@ -20,7 +22,9 @@ use Rattle.refusal.specs.declared.Checked.{Checked}
 use Rattle.refusal.specs.declared.Checked.the-variants.{Fine, Refused as Declined}
 use Rattle.refusal.specs.Table.{row, _thenCheck_}
 use Rattle.format.specs.declared.Cursor.{Cursor}
-use Rattle.format.specs.Format.{Content, Samples, fault, samples, Parsed, faulty, says, parse, Accepted, SameRecord}
+use Rattle.format.specs.declared.Step.{Step}
+use Rattle.format.specs.declared.Step.the-variants.{Sample, End as Ended, Fault as Faulty}
+use Rattle.format.specs.Format.{Content, short, follows, Samples, fault, samples, Parsed, faulty, says, parse, Accepted, SameRecord}
 use Rattle.reader.specs.declared.Verdict.{Verdict}
 use Rattle.reader.specs.declared.Verdict.the-variants.{Samples as Gives, Fault}
 use Rattle.reader.specs.declared.Answer.{Answer}
@@ -97,9 +101,24 @@ abbrev pub verdictOf : Parsed → Verdict
 verdictOf (faulty k) = Fault k
 verdictOf (says x) = Gives (length (x .ticks)) (x .tolerance)
 
-abbrev pub samplesOf : Parsed → Samples
-samplesOf (faulty k) = fault k
-samplesOf (says x) = samples (x .ticks) (x .values)
+-- a short step and a long one obey the rules (format: specs/Format, shortStep and longStep)
+abbrev pub shortObeys : Cursor → ℕ → ℕ → Bool
+shortObeys c a d = leb 1 a && leb 128 (c .level + d) && follows c (c .tick + a) (c .level + d - 128)
+
+abbrev pub longObeys : Cursor → ℕ → ℕ → Bool
+longObeys c a level = leb 1 a && not (short (c .level) a level) && follows c (c .tick + a) level
+
+-- a step leads to a sample
+abbrev pub isSample : Step → Bool
+isSample (Sample d) = true
+isSample Ended = false
+isSample (Faulty k) = false
+
+-- the verdict at a cursor that no sample follows
+abbrev pub closedBy : Ratio → Cursor → Step → Verdict
+closedBy r c (Sample d) = Fault (c .at)
+closedBy r c Ended = Gives (c .count) r
+closedBy r c (Faulty k) = Fault k
 
 -- a cursor within a record of n bytes
 pub record Ready (n : ℕ) (c : Cursor) : Type 0 where
@@ -121,9 +140,10 @@ pub record Entry (c : Cursor) (m n : ℕ) : Type 0 where
   pub tick : c .tick ≤ 4294967295
   pub level : c .level ≤ 65535
 
-abbrev pub Fitting : Samples → ℕ → ℕ → Type 0
-Fitting (fault k) m n = ⊥
-Fitting (samples ts vs) m n = (length ts ≤ m) × (length ts ≤ n)
+-- there are n samples, and lists of k and m entries have one for each
+abbrev pub Fitting : Samples → ℕ → ℕ → ℕ → Type 0
+Fitting (fault j) n k m = ⊥
+Fitting (samples ts vs) n k m = (length ts ≡ n) × (n ≤ k) × (n ≤ m)
 
 abbrev pub Filled : Samples → List ℕ → List ℤ → List ℕ → List ℤ → Type 0
 Filled (fault k) ts vs ts′ vs′ = (ts′ ≡ ts) × (vs′ ≡ vs)

@@ -4,8 +4,8 @@ ghost use Prim.Native.Nat.{_≤_};
 ghost use lib.ListN.{length, drop};
 ghost use Rattle.format.specs.Command.{commandOf};
 ghost use Rattle.format.specs.Format.{allowed, firstOf, headerOf};
-use crate::commands;
-use format::Command;
+use crate::numbers::field;
+use crate::numbers::flip16;
 use format::Cursor;
 use format::Header;
 use ratio::Ratio;
@@ -33,43 +33,45 @@ fn read_first(bytes: &[u8], r: Ratio) -> Header
     requires { ⌜ 9 ≤ length (now bytes) ⌝ }
     ensures { λ h. ⌜ h ≡ firstOf r (commandOf (drop 9 (now (bytes .entry)))) ⌝ }
 {
-    let m = commands::read_command(&bytes[9..]);
-    match m {
-        Command::First(tick, level) => Header::Start(
-            r,
-            Cursor {
-                at: 16,
-                first: tick,
-                tick,
-                level,
-                count: 1,
-            },
-        ),
-        Command::Tolerance(_) => Header::Fault(9),
-        Command::Short(_, _) => Header::Fault(9),
-        Command::Long(_, _) => Header::Fault(9),
-        Command::End(_) => Header::Fault(9),
-        Command::Invalid => Header::Fault(9),
+    if bytes.len() < 16 {
+        return Header::Fault(9);
     }
+    let kind = bytes[9];
+    if kind != 0x41 {
+        return Header::Fault(9);
+    }
+    let tick = field(bytes, 10, 4);
+    let level = flip16(field(bytes, 14, 2));
+    Header::Start(
+        r,
+        Cursor {
+            at: 16,
+            first: tick,
+            tick,
+            level,
+            count: 1,
+        },
+    )
 }
 
 // The tolerance and the first sample.
 pub fn read_header(bytes: &[u8]) -> Header
     ensures { λ h. ⌜ h ≡ headerOf (now (bytes .entry)) ⌝ }
 {
-    let m = commands::read_command(bytes);
-    match m {
-        Command::Tolerance(r) => {
-            if is_allowed(r) {
-                read_first(bytes, r)
-            } else {
-                Header::Fault(0)
-            }
-        }
-        Command::First(_, _) => Header::Fault(0),
-        Command::Short(_, _) => Header::Fault(0),
-        Command::Long(_, _) => Header::Fault(0),
-        Command::End(_) => Header::Fault(0),
-        Command::Invalid => Header::Fault(0),
+    if bytes.len() < 9 {
+        return Header::Fault(0);
+    }
+    let kind = bytes[0];
+    if kind != 0x54 {
+        return Header::Fault(0);
+    }
+    let r = Ratio {
+        p: field(bytes, 1, 5),
+        q: field(bytes, 6, 3),
+    };
+    if is_allowed(r) {
+        read_first(bytes, r)
+    } else {
+        Header::Fault(0)
     }
 }

@@ -1,8 +1,11 @@
-// Reads records (document 01, "The record"): checks one (check), reads one into lent lists (read), compares two (same). Commands are read in
-// commands, obeyed in steps, the header is read in headers, and all steps in passes.
+// Reads records (document 01, "The record"): checks one (check), reads one into lent lists (read), compares two (same). The header
+// is read in headers, a command in steps, its numbers in numbers, and all steps in passes.
 ghost use mathlib.Core.Path.{_≡_};
 ghost use Rattle.lists.specs.Decides.{Decides};
+ghost use Rattle.format.specs.Format.{headerOf};
+ghost use Rattle.format.specs.declared.Header.the-variants.{Start};
 ghost use Rattle.reader.specs.Reading.{CheckOutcome, ReadOutcome, SameOutcome};
+use format::Cursor;
 use format::Header;
 use ratio::Ratio;
 use refusal::Refusal;
@@ -26,8 +29,8 @@ pub enum Comparison {
     Refused(Refusal),
 }
 
-pub mod commands;
 pub mod headers;
+pub mod numbers;
 pub mod passes;
 pub mod steps;
 
@@ -42,23 +45,35 @@ pub fn check(bytes: &[u8]) -> Verdict
     }
 }
 
-// Reads a record into two lent lists: it is checked first, and if it is declined nothing is written.
-pub fn read(bytes: &[u8], ticks: &mut [u32], values: &mut [i16]) -> Answer
-    ensures { λ r. ⌜ ReadOutcome (now (bytes .entry)) (now (ticks .entry)) (now (values .entry)) r (now (ticks .exit)) (now (values .exit)) ⌝ }
+// Reads a record with the tolerance r and the cursor c after its first sample: it is checked first, and if it is declined nothing is written.
+fn read_from(bytes: &[u8], r: Ratio, c: Cursor, ticks: &mut [u32], values: &mut [i16]) -> Answer
+    requires { ⌜ headerOf (now bytes) ≡ Start r c ⌝ }
+    ensures { λ a. ⌜ ReadOutcome (now (bytes .entry)) (now (ticks .entry)) (now (values .entry)) a (now (ticks .exit)) (now (values .exit)) ⌝ }
 {
-    let v = check(bytes);
+    let v = passes::count_samples(bytes, r, c);
     match v {
-        Verdict::Samples(n, r) => {
+        Verdict::Samples(n, t) => {
             if ticks.len() < n {
                 return Answer::Refused(Refusal::Room(n));
             }
             if values.len() < n {
                 return Answer::Refused(Refusal::Room(n));
             }
-            passes::fill(bytes, ticks, values);
-            Answer::Samples(n, r)
+            passes::fill(bytes, c, n, ticks, values);
+            Answer::Samples(n, t)
         }
         Verdict::Fault(k) => Answer::Refused(Refusal::Record(k)),
+    }
+}
+
+// Reads a record into two lent lists.
+pub fn read(bytes: &[u8], ticks: &mut [u32], values: &mut [i16]) -> Answer
+    ensures { λ r. ⌜ ReadOutcome (now (bytes .entry)) (now (ticks .entry)) (now (values .entry)) r (now (ticks .exit)) (now (values .exit)) ⌝ }
+{
+    let h = headers::read_header(bytes);
+    match h {
+        Header::Start(r, c) => read_from(bytes, r, c, ticks, values),
+        Header::Fault(k) => Answer::Refused(Refusal::Record(k)),
     }
 }
 

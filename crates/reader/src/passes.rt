@@ -1,17 +1,41 @@
 // Passes over all steps of a record: one that counts its samples and writes nothing, and one that fills lent lists with them.
 ghost use mathlib.Core.Path.{_≡_};
+ghost use mathlib.Core.Bool.{false};
 ghost use Prim.Native.Nat.{_-_, _≤_};
 ghost use lib.ListN.{length, set};
 ghost use Rattle.format.specs.Number.{valueOf};
-ghost use Rattle.format.specs.Format.{parse, attach, samplesFrom};
-ghost use Rattle.reader.specs.Reading.{verdictOf, samplesOf, Begun, Entry, Fitting, Filled};
+ghost use Rattle.format.specs.Format.{attach, samplesFrom, stepOf};
+ghost use Rattle.reader.specs.Reading.{verdictOf, isSample, closedBy, Ready, Begun, Entry, Fitting, Filled};
 use crate::Verdict;
-use crate::headers;
-use crate::steps;
+use crate::numbers::field;
+use crate::steps::is_step;
+use crate::steps::next_sample;
 use format::Cursor;
-use format::Header;
-use format::Step;
 use ratio::Ratio;
+
+// The verdict at a cursor that no sample follows: the end, or a fault.
+fn close(bytes: &[u8], r: Ratio, c: Cursor) -> Verdict
+    requires { ⌜ Ready (length (now bytes)) c × (isSample (stepOf (now bytes) c) ≡ false) ⌝ }
+    ensures { λ v. ⌜ v ≡ closedBy r c (stepOf (now (bytes .entry)) c) ⌝ }
+{
+    let at = c.at;
+    let n = bytes.len();
+    if n - at < 3 {
+        return Verdict::Fault(at);
+    }
+    let kind = bytes[at];
+    if kind != 0x45 {
+        return Verdict::Fault(at);
+    }
+    let samples = field(bytes, at + 1, 2);
+    if samples != c.count as u64 {
+        return Verdict::Fault(at);
+    }
+    if at + 3 != n {
+        return Verdict::Fault(at + 3);
+    }
+    Verdict::Samples(c.count, r)
+}
 
 // Counts the samples, from the cursor after the first one on.
 pub fn count_samples(bytes: &[u8], r: Ratio, start: Cursor) -> Verdict
@@ -20,18 +44,10 @@ pub fn count_samples(bytes: &[u8], r: Ratio, start: Cursor) -> Verdict
 {
     let mut c = start;
     loop {
-        let s = steps::take_step(bytes, c);
-        match s {
-            Step::Sample(d) => {
-                c = d;
-            }
-            Step::End => {
-                return Verdict::Samples(c.count, r);
-            }
-            Step::Fault(k) => {
-                return Verdict::Fault(k);
-            }
+        if !is_step(bytes, c) {
+            return close(bytes, r, c);
         }
+        c = next_sample(bytes, c);
     }
 }
 
@@ -53,37 +69,17 @@ fn put_sample(ticks: &mut [u32], values: &mut [i16], c: Cursor)
     values[i] = value(c.level);
 }
 
-// Writes the samples from the cursor after the first one on.
-fn fill_from(bytes: &[u8], start: Cursor, ticks: &mut [u32], values: &mut [i16])
-    requires { ⌜ Begun (length (now bytes)) start × Fitting (samplesFrom (now bytes) start) (length (now ticks)) (length (now values)) ⌝ }
+// Writes the n samples of a record without fault, from the cursor after the first one on.
+pub fn fill(bytes: &[u8], start: Cursor, n: usize, ticks: &mut [u32], values: &mut [i16])
+    requires { ⌜ Begun (length (now bytes)) start × Fitting (samplesFrom (now bytes) start) n (length (now ticks)) (length (now values)) ⌝ }
     ensures { λ _. ⌜ Filled (samplesFrom (now (bytes .entry)) start) (now (ticks .entry)) (now (values .entry)) (now (ticks .exit)) (now (values .exit)) ⌝ }
 {
     let mut c = start;
     loop {
         put_sample(ticks, values, c);
-        let s = steps::take_step(bytes, c);
-        match s {
-            Step::Sample(d) => {
-                c = d;
-            }
-            Step::End => {
-                return;
-            }
-            Step::Fault(_) => {
-                return;
-            }
+        if n <= c.count {
+            return;
         }
-    }
-}
-
-// Writes the samples of a record without fault.
-pub fn fill(bytes: &[u8], ticks: &mut [u32], values: &mut [i16])
-    requires { ⌜ Fitting (samplesOf (parse (now bytes))) (length (now ticks)) (length (now values)) ⌝ }
-    ensures { λ _. ⌜ Filled (samplesOf (parse (now (bytes .entry)))) (now (ticks .entry)) (now (values .entry)) (now (ticks .exit)) (now (values .exit)) ⌝ }
-{
-    let h = headers::read_header(bytes);
-    match h {
-        Header::Start(_, c) => fill_from(bytes, c, ticks, values),
-        Header::Fault(_) => (),
+        c = next_sample(bytes, c);
     }
 }

@@ -2,7 +2,7 @@
 -- Assumes nothing.
 use mathlib.Core.Path.{_≡_, sym, ap, _∙_}
 use mathlib.Core.List.{List, [], _∷_}
-use Prim.Native.Nat.{ℕ, zero, suc, _+_, _-_, _*_, _≤_, _<_}
+use Prim.Native.Nat.{ℕ, zero, suc, _+_, _-_, _≤_, _<_}
 use native.Mathlib.Nat.{one-mul}
 use native.Mathlib.Numerals.{add-one}
 use native.Mathlib.Omega.{arith}
@@ -14,12 +14,13 @@ use Rattle.ratio.specs.declared.Ratio.{Ratio}
 use Rattle.kept.specs.Kept.{KeptList}
 use Rattle.kept.proofs.KeptLaws.{kept-length, kept-links, links-at}
 use Rattle.trace.specs.declared.Start.{Start}
-use Rattle.trace.specs.Trace.{tick, value, Rising, Trace}
-use Rattle.trace.specs.Level.{level, LevelOf}
+use Rattle.trace.specs.Trace.{tick, value, Trace}
+use Rattle.trace.specs.Level.{level}
 use Rattle.trace.specs.Edge.{StartAt}
 use Rattle.trace.proofs.Ticks.{later, span-bound}
 use Rattle.trace.proofs.Level.{short}
-use Rattle.format.specs.Format.{Held, Legal}
+use Rattle.tolerance.specs.Meaning.{Held}
+use Rattle.format.specs.Format.{Legal}
 use Rattle.writer.specs.Writing.{Kept, keptTicks, keptValues, selected, SampleAt, SampleOk, StepBetween}
 use Rattle.writer.specs.declared.Sample.{Sample}
 

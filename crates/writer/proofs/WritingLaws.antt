@@ -3,10 +3,9 @@
 --   Putting     they are written, and the sample is at hand
 -- Assumes nothing.
 use mathlib.Core.Path.{_≡_, refl, sym, ap, _∙_, subst}
-use mathlib.Core.Bool.{true}
+use mathlib.Core.Bool.{Bool, true, false}
 use mathlib.Core.List.{List, [], _∷_, _++_, append-assoc}
-use mathlib.Core.Logic.{⊎-elim}
-use Prim.Native.Nat.{ℕ, suc, _+_, _-_, _*_, _≤_, _<_}
+use Prim.Native.Nat.{ℕ, zero, suc, _+_, _-_, _*_, _≤_, _<_}
 use native.Mathlib.Nat.{not-suc-le-zero}
 use native.Mathlib.Numerals.{add-one}
 use native.Mathlib.Omega.{arith}
@@ -15,23 +14,23 @@ use borrow.Author.Count.{below-more}
 use borrow.Author.Tests.{le-leb, lt-leb}
 use borrow.Rule.Slice.PartMut.{putMid}
 use lib.IntN.{ℤ, pos}
-use lib.ListN.{length, take, drop, getD, length-append, length-drop, drop-of-length-le, List·getD-eq-default}
+use lib.ListN.{length, take, drop, length-append, drop-of-length-le, List·getD-eq-default}
 use lib.Seq.{drop-cons}
 use lib.Signed.{mag}
 use Rattle.lists.specs.Overwrite.{overwrite}
 use Rattle.lists.specs.Part.{overwriteFrom}
 use Rattle.lists.proofs.OverwriteLaws.{overwrite-length}
-use Rattle.lists.proofs.PartLaws.{part-length, written-part, written-from, written-within}
+use Rattle.lists.proofs.PartLaws.{written-part, written-from, written-within}
 use Rattle.lists.proofs.SelectLaws.{select-length}
 use Rattle.ratio.specs.declared.Ratio.{Ratio}
 use Rattle.refusal.specs.declared.Refusal.the-variants.{Room}
-use Rattle.refusal.specs.declared.Checked.the-variants.{Fine, Refused as Declined}
+use Rattle.refusal.specs.declared.Checked.the-variants.{Refused as Declined}
 use Rattle.trace.specs.Trace.{tick, value}
-use Rattle.trace.specs.Level.{level, LevelOf}
+use Rattle.trace.specs.Level.{level}
 use Rattle.format.specs.declared.Command.{Command}
-use Rattle.format.specs.declared.Command.the-variants.{Tolerance, First, End}
-use Rattle.format.specs.Command.{sizeOf, commandOnto}
-use Rattle.format.specs.Format.{Content, Legal, Accepted, stepTo, stepsOnto, samplesOnto, encode}
+use Rattle.format.specs.declared.Command.the-variants.{Tolerance, First, Short, Long, End}
+use Rattle.format.specs.Command.{sizeOf, choose, commandOnto}
+use Rattle.format.specs.Format.{Content, Legal, short, stepTo, stepsOnto, samplesOnto, encode}
 use Rattle.format.proofs.CommandLaws.{command-append, command-length}
 use Rattle.format.proofs.ParseEncode.{parse-encode}
 use Rattle.writer.specs.declared.Sample.{Sample}
@@ -94,6 +93,28 @@ module _ {ts : List ℕ} {vs : List ℤ} {l : List ℕ} (kept : Kept ts vs l) wh
   end-length : (i : ℕ) → length l ≤ i + 1 → length (restOf (keptTicks ts l) (keptValues vs l) i) ≡ 3
   end-length i h = ap length (end-bytes i h) ∙ command-length (End (length l)) []
 
+-- ---- the longest record
+
+step-size : (t l t′ l′ : ℕ) → sizeOf (stepTo t l t′ l′) ≤ 6
+step-size t l t′ l′ = go (short l (t′ - t) l′)
+  where
+    go : (b : Bool) → sizeOf (choose b (Short (t′ - t) (l′ + 128 - l)) (Long (t′ - t) l′)) ≤ 6
+    go true = omega arith
+    go false = omega arith
+
+module _ {ts : List ℕ} {vs : List ℤ} {l : List ℕ} (kept : Kept ts vs l) where
+  rest-most : (n i : ℕ) → i + 1 + n ≡ length l → length (restOf (keptTicks ts l) (keptValues vs l) i) ≤ 6 * n + 3
+  rest-most zero i e = omega (arith, end-length kept i (omega arith))
+  rest-most (suc n) i e = omega (arith, step-length kept i (omega arith) refl, step-size (tick (keptTicks ts l) i) (level (value (keptValues vs l) i)) (tick (keptTicks ts l) (i + 1)) (level (value (keptValues vs l) (i + 1))), rest-most n (i + 1) (omega arith))
+
+  pub record-most : (r : Ratio) → length (encode (selected r ts vs l)) ≤ 13 + 6 * length l
+  record-most r =
+      let t = selected-trace kept in
+      let s : Sample = record { tick = tick (keptTicks ts l) 0; level = level (value (keptValues vs l) 0) } in
+      let e : length (encode (selected r ts vs l)) ≡ length (startOf r s) + length (restOf (keptTicks ts l) (keptValues vs l) 0) =
+      ap length (encode-parts r (keptTicks ts l) (keptValues vs l) (t .same) (t .some)) ∙ length-append (startOf r s) (restOf (keptTicks ts l) (keptValues vs l) 0) in
+      omega (arith, e, start-length r s, rest-most (length l - 1) 0 (omega (arith, list-some kept)), list-some kept)
+
 -- ---- counted
 
 pub record Counted (ts : List ℕ) (vs : List ℤ) (l : List ℕ) (s : Sample) (total i : ℕ) : Type 0 where
@@ -123,6 +144,13 @@ module _ {ts : List ℕ} {vs : List ℤ} {l : List ℕ} (kept : Kept ts vs l) wh
     range = below-more _ _ (c .range) (m .to-is .level-is .range);
   }
 
+  -- counted from the first step on
+  pub counts-at : {s : Sample} (at : ℕ) {i : ℕ} → Counted ts vs l s (16 + at) i → i + 1 < length l → {m : Move} → MoveFrom ts vs l i m → {k : ℕ} → k ≡ sizeOf (m .step) → k ≤ 9
+      → Counted ts vs l (m .to) (16 + (at + k)) (i + 1)
+  counts-at at {i = i} c h {m = mv} m {k} e small =
+      let a : 16 + at + k ≡ 16 + (at + k) = omega arith in
+      subst (λ (t : ℕ). Counted ts vs l (mv .to) t (i + 1)) a (counts c h m e small)
+
   pub count-ends : {s : Sample} {total i : ℕ} → Counted ts vs l s total i → length l ≤ i + 1 → LengthOf ts vs l (total + 3)
   count-ends {i = i} c h = record {
     is = λ r. omega (arith, c .is r, end-length kept i h);
@@ -131,6 +159,11 @@ module _ {ts : List ℕ} {vs : List ℤ} {l : List ℕ} (kept : Kept ts vs l) wh
       | no q ↦ rw (List·getD-eq-default (keptValues vs l) (pos 0) {n = k} (omega (arith, select-length (pos 0) vs l))) (omega arith)
     ];
   }
+
+  pub count-ends-at : {s : Sample} (at : ℕ) {i : ℕ} → Counted ts vs l s (16 + at) i → length l ≤ i + 1 → LengthOf ts vs l (16 + (at + 3))
+  count-ends-at at c h =
+      let a : 16 + at + 3 ≡ 16 + (at + 3) = omega arith in
+      subst (LengthOf ts vs l) a (count-ends c h)
 
 -- ---- written
 

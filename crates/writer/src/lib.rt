@@ -1,10 +1,13 @@
 // Writes the record of the samples that a list keeps of a trace (document 01, "The record") into an event buffer. Commands are written in
 // commands, and samples are walked in samples.
 ghost use mathlib.Core.Path.{_≡_};
-ghost use Prim.Native.Nat.{_≤_};
+ghost use mathlib.Core.Bool.{_&&_};
+ghost use Prim.Native.Nat.{_+_, _-_, _*_, _≤_};
+ghost use lib.Dec.{leb};
 ghost use lib.ListN.{length};
 ghost use Rattle.lists.specs.Overwrite.{overwrite};
-ghost use Rattle.format.specs.Format.{Held, encode};
+ghost use Rattle.tolerance.specs.Meaning.{Held};
+ghost use Rattle.format.specs.Format.{encode};
 ghost use Rattle.writer.specs.Writing.{Kept, keptTicks, keptValues, selected, SampleAt, SampleOk, LengthOf, startOf, restOf, WriteOutcome};
 use commands::put_command;
 use commands::size;
@@ -63,10 +66,10 @@ fn put_start(part: &mut [u8], held: Ratio, s: Sample)
     put_command(&mut part[9..], Command::First(s.tick, s.level));
 }
 
-// The steps after the first kept sample, and the end, go to the start of part.
-fn put_steps(part: &mut [u8], ticks: &[u32], values: &[i16], list: &[u16], first: Sample)
+// The steps after the first kept sample, and the end, go to the start of part. Returns their bytes.
+fn put_steps(part: &mut [u8], ticks: &[u32], values: &[i16], list: &[u16], first: Sample) -> usize
     requires { ⌜ Kept (now ticks) (now values) (now list) × SampleAt (now ticks) (now values) (now list) 0 first × (length (restOf (keptTicks (now ticks) (now list)) (keptValues (now values) (now list)) 0) ≤ length (now part)) ⌝ }
-    ensures { λ _. ⌜ now (part .exit) ≡ overwrite (restOf (keptTicks (now (ticks .entry)) (now (list .entry))) (keptValues (now (values .entry)) (now (list .entry))) 0) (now (part .entry)) ⌝ }
+    ensures { λ n. ⌜ (now (part .exit) ≡ overwrite (restOf (keptTicks (now (ticks .entry)) (now (list .entry))) (keptValues (now (values .entry)) (now (list .entry))) 0) (now (part .entry))) × LengthOf (now (ticks .entry)) (now (values .entry)) (now (list .entry)) (16 + n) ⌝ }
 {
     let n = list.len();
     let mut s = first;
@@ -81,20 +84,22 @@ fn put_steps(part: &mut [u8], ticks: &[u32], values: &[i16], list: &[u16], first
         i += 1;
     }
     put_command(&mut part[at..], Command::End(n as u64));
+    at + 3
 }
 
-// The record goes to the start of part.
-fn put_record(part: &mut [u8], ticks: &[u32], values: &[i16], list: &[u16], held: Ratio)
+// The record goes to the start of part. Returns its length.
+fn put_record(part: &mut [u8], ticks: &[u32], values: &[i16], list: &[u16], held: Ratio) -> usize
     requires { ⌜ Kept (now ticks) (now values) (now list) × Held held × (length (encode (selected held (now ticks) (now values) (now list))) ≤ length (now part)) ⌝ }
-    ensures { λ _. ⌜ now (part .exit) ≡ overwrite (encode (selected held (now (ticks .entry)) (now (values .entry)) (now (list .entry)))) (now (part .entry)) ⌝ }
+    ensures { λ n. ⌜ (now (part .exit) ≡ overwrite (encode (selected held (now (ticks .entry)) (now (values .entry)) (now (list .entry)))) (now (part .entry))) × LengthOf (now (ticks .entry)) (now (values .entry)) (now (list .entry)) n ⌝ }
 {
     let s = sample_at(ticks, values, list, 0);
     put_start(part, held, s);
-    put_steps(&mut part[16..], ticks, values, list, s);
+    let rest = put_steps(&mut part[16..], ticks, values, list, s);
+    16 + rest
 }
 
-// Writes the record of the kept samples and the held tolerance into the event buffer from a place on.
-pub fn write(
+// Writes the record where there is room for it, by its length.
+fn write_counted(
     ticks: &[u32],
     values: &[i16],
     list: &[u16],
@@ -114,4 +119,35 @@ pub fn write(
     }
     put_record(&mut buffer[place..], ticks, values, list, held);
     Answer::Written(n)
+}
+
+// Whether a buffer has room for any record of so many samples from a place on.
+fn has_room(size: usize, place: usize, samples: usize) -> bool
+    requires { ⌜ samples ≤ 4096 ⌝ }
+    ensures { λ r. ⌜ r ≡ (leb place size && leb (13 + 6 * samples) (size - place)) ⌝ }
+{
+    if size < place {
+        return false;
+    }
+    13 + 6 * samples <= size - place
+}
+
+// Writes the record of the kept samples and the held tolerance into the event buffer from a place on. Its length is counted only where a
+// longer record would not fit.
+pub fn write(
+    ticks: &[u32],
+    values: &[i16],
+    list: &[u16],
+    held: Ratio,
+    buffer: &mut [u8],
+    place: usize,
+) -> Answer
+    requires { ⌜ Kept (now ticks) (now values) (now list) × Held held ⌝ }
+    ensures { λ r. ⌜ WriteOutcome (selected held (now (ticks .entry)) (now (values .entry)) (now (list .entry))) (now (buffer .entry)) place r (now (buffer .exit)) ⌝ }
+{
+    if has_room(buffer.len(), place, list.len()) {
+        let n = put_record(&mut buffer[place..], ticks, values, list, held);
+        return Answer::Written(n);
+    }
+    write_counted(ticks, values, list, held, buffer, place)
 }

@@ -1,93 +1,23 @@
--- `codes::expand` meets its contract. The loop's invariant: the values of the codes passed are written over the list.
--- Assumes nothing.
-use Prim.Native.Nat.{ℕ, _+_, _-_, _≤_, _<_}
-use mathlib.Core.Path.{_≡_, refl, sym, ap, _∙_}
-use mathlib.Core.List.{List, map}
-use native.Mathlib.Omega.{arith}
+-- `codes::expand` meets its contract: the test is computed over the constant table. Assumes nothing.
+use mathlib.Core.Path.{refl}
+use Rattle.codes.specs.Code.{codeValue}
+use Rattle.codes.proofs.TableLaws.{holds, table}
 use borrow.Author.Needs.{needs}
-use lib.IntN.{ℤ, pos}
-use lib.ListN.{length, take, set, getD, length-map, List·getD-map}
-use lib.Seq.{length-take-le, take-all}
-use mir.Syntax.{w16}
-use mir.Val.{toZ, ofZ}
-use mir.Facts.{toZ-ofZ}
-use Rattle.lists.specs.Overwrite.{overwrite}
-use Rattle.lists.proofs.OverwriteLaws.{overwrite-length}
-use Rattle.lists.proofs.PartLaws.{overwrite-take}
-use Rattle.codes.specs.Code.{codeValue, codeValues}
-use Rattle.codes.proofs.TableLaws.{code-most}
 use Rattle.codes.proofs.expand.Statement.{statement}
 use Rattle.codes.proofs.expand.Tie as tie
 
-record Going (codes : List ℕ) (o out : List ℤ) (i : ℕ) : Type 0 where
-  within : i ≤ length codes
-  out-is : out ≡ overwrite (take i (codeValues codes)) o
-  long : length out ≡ length o
+slice-aggregate-expand-by : tie.Need-slice-aggregate-expand-by
+slice-aggregate-expand-by c = search needs
 
-module _ (codes : List ℕ) (o out : List ℤ) (i : ℕ) (g : Going codes o out i) where
-  goes-on : i < length codes → length codes ≤ length o → getD codes i 0 < 256 → (v : ℤ) → v ≡ pos (codeValue (getD codes i 0)) → Going codes o (set out i (toZ w16 (ofZ w16 v))) (i + 1)
-  goes-on more room byte v e =
-      let n : length (codeValues codes) ≡ length codes = length-map codes (λ (c : ℕ). pos (codeValue c)) in
-      let x : toZ w16 (ofZ w16 v) ≡ getD (codeValues codes) i (pos (codeValue 0)) =
-      ap (λ (z : ℤ). toZ w16 (ofZ w16 z)) e ∙ toZ-ofZ {w = w16} (record { sfits = omega (arith, code-most (getD codes i 0) byte) }) ∙ sym (List·getD-map (λ (c : ℕ). pos (codeValue c)) codes i 0) in
-      let y : set out i (toZ w16 (ofZ w16 v)) ≡ overwrite (take (i + 1) (codeValues codes)) o =
-      rw (x, g .out-is) (overwrite-take (codeValues codes) o i (pos (codeValue 0)) (omega arith) (omega arith)) in
-      record { within = omega arith; out-is = y; long = ap length y ∙ overwrite-length (take (i + 1) (codeValues codes)) o (omega (arith, length-take-le (i + 1) (codeValues codes) (omega arith))) }
+expand-by-requires : tie.Need-expand-by-requires
+unfolding holds codeValue
+expand-by-requires c κs = (table _ refl refl, c .before .before .before .pre)
 
-  ends : length codes ≤ i → out ≡ overwrite (codeValues codes) o
-  ends h = g .out-is ∙ ap (λ (l : List ℤ). overwrite l o) (take-all i (codeValues codes) (omega (arith, length-map codes (λ (c : ℕ). pos (codeValue c)))))
+same-length : tie.Need-same-length
+same-length c = search needs
 
-abbrev Inv-loop : tie.InvT-loop
-Inv-loop codes out₀ n i₀ out i = Going codes out₀ out i
-
-abbrev μ-loop : tie.MeasureT-loop
-μ-loop codes out₀ n i₀ out i = n - i
-
-loop-holds : tie.Need-loop-holds Inv-loop μ-loop
-loop-holds c = record { within = omega arith; out-is = refl; long = refl }
-
-shared-slice-read-code-value : tie.Need-shared-slice-read-code-value Inv-loop μ-loop
-shared-slice-read-code-value c = search needs
-
-code-value-requires : tie.Need-code-value-requires Inv-loop μ-loop
-code-value-requires c κs = search needs
-
-mul-t9 : tie.Need-mul-t9 Inv-loop μ-loop
-mul-t9 c = search needs
-
-slice-set-from-out : tie.Need-slice-set-from-out Inv-loop μ-loop
-slice-set-from-out c = omega (arith, c .before .before .before .before .before .pre, c .before .before .before .loop .inv)
-
-add-i : tie.Need-add-i Inv-loop μ-loop
-add-i c = search needs
-
-loop-less : tie.Need-loop-less Inv-loop μ-loop
-loop-less c = search needs
-
-loop-again : tie.Need-loop-again Inv-loop μ-loop
-loop-again c =
-    let l = c .before .before .before in
-    goes-on _ _ _ _ (l .loop .inv) (c .before .before .loop-test .taken) (l .before .before .pre) (c .before .shared-slice-known2 .given (l .loop .i) .fits) _ (c .code-value .ensures)
-
-same-length : tie.Need-same-length Inv-loop μ-loop
-same-length c = c .before .loop .inv .long
-
-returns : tie.Need-returns Inv-loop μ-loop
-returns c = ends _ _ _ _ (c .before .loop .inv) (c .loop-test .left)
+returns : tie.Need-returns
+returns c = search needs
 
 pub expand-spec : {M : Type 1} → statement M
-expand-spec =
-    tie.close
-    (tie.spec
-    Inv-loop
-    μ-loop
-    loop-holds
-    shared-slice-read-code-value
-    code-value-requires
-    mul-t9
-    slice-set-from-out
-    add-i
-    loop-less
-    loop-again
-    same-length
-    returns)
+expand-spec = tie.close (tie.spec slice-aggregate-expand-by expand-by-requires same-length returns)

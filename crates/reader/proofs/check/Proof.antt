@@ -1,5 +1,5 @@
 -- `reader::check` meets its contract: the header and the count of samples are the record's verdict. Assumes nothing.
-use mathlib.Core.Path.{_≡_, sym, _∙_, ap}
+use mathlib.Core.Path.{sym, _∙_, ap}
 use borrow.Author.Needs.{needs}
 use Rattle.format.specs.Number.{Bytes}
 use Rattle.reader.specs.Reading.{verdictOf}

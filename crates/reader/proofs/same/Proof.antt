@@ -1,6 +1,6 @@
 -- `reader::same` meets its contract: two accepted records have the same samples exactly if their bytes after the tolerance agree.
 -- Assumes nothing.
-use mathlib.Core.Path.{_≡_, subst}
+use mathlib.Core.Path.{subst}
 use borrow.Author.Needs.{needs}
 use Rattle.reader.specs.Reading.{Said, CheckOutcome}
 use Rattle.reader.proofs.ReadingLaws.{enough, same-yes, same-no, first-fault, second-fault}

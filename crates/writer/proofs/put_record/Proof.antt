@@ -4,7 +4,6 @@ use mathlib.Core.List.{List, _++_}
 use Prim.Native.Nat.{ℕ, _+_, _≤_}
 use native.Mathlib.Omega.{arith}
 use lib.ListN.{length}
-use borrow.Author.Needs.{needs}
 use Rattle.lists.specs.Overwrite.{overwrite}
 use Rattle.lists.proofs.PartLaws.{part-length, written-part}
 use Rattle.format.specs.Format.{encode}
@@ -52,6 +51,12 @@ put-steps-requires c κs =
     let a = p .before .before in
     (s a .pre .0, a .sample-at .ensures, rw (part-length (p .put-start .last .0) 16) (omega (arith, room a, p .put-start .kept .0)))
 
+add-result : tie.Need-add-result
+add-result c =
+    let q = c .before .before in
+    let s = q .before .before .before .before .before .before .before .before .before .before in
+    omega (arith, q .put-steps .ensures .1 .is (s .args .held), s .pre .2, s .good .0 .0)
+
 same-length : tie.Need-same-length
 same-length c = search needs
 
@@ -60,9 +65,11 @@ returns c =
     let q = c .before .before in
     let p = q .before .before .before .before in
     let a = p .before .before in
-    let o = s a .args .part .now in
-    written-part (p .put-start .last .0) o (startOf (s a .args .held) (a .sample-at .result)) (rest a) (q .put-steps .last .0) 16 (p .put-start .ensures) (start-length (s a .args .held) (a .sample-at .result)) (q .put-steps .ensures)
-    ∙ ap (λ (x : List ℕ). overwrite x o) (sym (parts a))
+    let o = s a .args .part .now in (
+      written-part (p .put-start .last .0) o (startOf (s a .args .held) (a .sample-at .result)) (rest a) (q .put-steps .last .0) 16 (p .put-start .ensures) (start-length (s a .args .held) (a .sample-at .result)) (q .put-steps .ensures .0)
+          ∙ ap (λ (x : List ℕ). overwrite x o) (sym (parts a)),
+      q .put-steps .ensures .1,
+    )
 
 pub put-record-spec : {M : Type 1} → statement M
 put-record-spec =
@@ -74,5 +81,6 @@ put-record-spec =
     part-put-steps-start
     part-put-steps-end
     put-steps-requires
+    add-result
     same-length
     returns)

@@ -1,5 +1,5 @@
 -- `writer::put_start` meets its contract: the first sample is written over the part after the tolerance. Assumes nothing.
-use mathlib.Core.Path.{_≡_, sym, ap, _∙_}
+use mathlib.Core.Path.{sym, ap, _∙_}
 use mathlib.Core.List.{List, []}
 use Prim.Native.Nat.{ℕ}
 use Rattle.lists.specs.Overwrite.{overwrite}

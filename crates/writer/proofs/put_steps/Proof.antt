@@ -12,12 +12,12 @@ use Rattle.lists.proofs.PartLaws.{part-length}
 use Rattle.format.specs.Command.{sizeOf}
 use Rattle.writer.specs.Writing.{keptTicks, keptValues, restOf}
 use Rattle.writer.proofs.SelectedLaws.{list-few}
-use Rattle.writer.proofs.WritingLaws.{Putting, put-begins, same-long, step-room, puts, end-room, put-ends}
+use Rattle.writer.proofs.WritingLaws.{Counted, count-begins, counts-at, count-ends-at, Putting, put-begins, same-long, step-room, puts, end-room, put-ends}
 use Rattle.writer.proofs.put_steps.Statement.{statement}
 use Rattle.writer.proofs.put_steps.Tie as tie
 
 abbrev Inv-loop : tie.InvT-loop
-Inv-loop part₀ ticks values list n s₀ at₀ i₀ part s at i = (w : List ℕ) × Putting ticks values list part₀ part s at i w
+Inv-loop part₀ ticks values list n s₀ at₀ i₀ part s at i = (w : List ℕ) × Putting ticks values list part₀ part s at i w × Counted ticks values list s (16 + at) i
 
 abbrev μ-loop : tie.MeasureT-loop
 μ-loop part₀ ticks values list n s₀ at₀ i₀ part s at i = n - i
@@ -45,7 +45,7 @@ module _ (c : tie.After-slice-known3 Inv-loop μ-loop) where
   ended = put-ends (start l .pre .0) (l .loop .inv .1) (c .before .before .before .before .loop-test .left) (c .before .before .put-command2 .ensures)
 
 loop-holds : tie.Need-loop-holds Inv-loop μ-loop
-loop-holds c = let s = c .before .before .before in ([], put-begins (s .pre .0) (s .pre .1) (s .pre .2))
+loop-holds c = let s = c .before .before .before in ([], put-begins (s .pre .0) (s .pre .1) (s .pre .2), count-begins (s .pre .0) (s .pre .1))
 
 add-loop : tie.Need-add-loop Inv-loop μ-loop
 add-loop c = omega (arith, c .loop .inv .1 .within, list-few (start c .pre .0))
@@ -88,8 +88,11 @@ loop-again : tie.Need-loop-again Inv-loop μ-loop
 loop-again c =
     let p = c .before .before .before .before in
     let m = p .before .before in
-    let l = m .before .before in
-    (_, puts (start l .pre .0) (l .loop .inv .1) (m .before .loop-test .taken) (m .move-to .ensures) (c .before .size .ensures .0) (p .put-command .ensures))
+    let l = m .before .before in (
+      _,
+      puts (start l .pre .0) (l .loop .inv .1) (m .before .loop-test .taken) (m .move-to .ensures) (c .before .size .ensures .0) (p .put-command .ensures),
+      counts-at (start l .pre .0) _ (l .loop .inv .2) (m .before .loop-test .taken) (m .move-to .ensures) (c .before .size .ensures .0) (c .before .size .ensures .1),
+    )
 
 sub-put-command-2 : tie.Need-sub-put-command-2 Inv-loop μ-loop
 sub-put-command-2 c = omega (arith, last-room c)
@@ -106,11 +109,14 @@ put-command-requires-2 c κs =
     let l = e .before in
     (rw (part-length (l .loop .part) (l .loop .at)) (omega (arith, last-room e)), omega (arith, list-few (start l .pre .0)))
 
+add-result : tie.Need-add-result Inv-loop μ-loop
+add-result c = omega (arith, last-room (c .before .before .before .before), same-long (start (l c) .pre .0) (l c .loop .inv .1), start (l c) .good .0 .0)
+
 same-length : tie.Need-same-length Inv-loop μ-loop
 same-length c = ap length (ended c) ∙ overwrite-length (rest c) (start (l c) .args .part .now) (start (l c) .pre .2)
 
 returns : tie.Need-returns Inv-loop μ-loop
-returns c = ended c
+returns c = (ended c, count-ends-at (start (l c) .pre .0) _ (l c .loop .inv .2) (c .before .before .before .before .loop-test .left))
 
 pub put-steps-spec : {M : Type 1} → statement M
 put-steps-spec =
@@ -134,5 +140,6 @@ put-steps-spec =
     part-put-command-start-2
     part-put-command-end-2
     put-command-requires-2
+    add-result
     same-length
     returns)

@@ -1,5 +1,5 @@
 -- `writer::record_length` meets its contract: at each turn the bytes up to a kept sample are counted. Assumes nothing.
-use Prim.Native.Nat.{_+_, _-_}
+use Prim.Native.Nat.{_-_}
 use native.Mathlib.Omega.{arith}
 use borrow.Author.Needs.{needs}
 use Rattle.writer.proofs.SelectedLaws.{list-some, list-few}

@@ -1,81 +1,85 @@
--- `writer::write` meets its contract: there is room for the record from the place on, and it is written over that part; or nothing is.
--- Assumes nothing.
-use mathlib.Core.Path.{_≡_, refl}
-use Prim.Native.Nat.{_-_, _≤_}
+-- `writer::write` meets its contract: where any record of so many samples has room, it is written at once. Assumes nothing.
+use mathlib.Core.Path.{sym, _∙_}
+use Prim.Native.Nat.{_+_, _-_, _*_, _≤_}
 use native.Mathlib.Omega.{arith}
+use lib.Dec.{leb}
 use lib.ListN.{length}
-use borrow.Author.Needs.{needs}
+use borrow.Author.Tests.{leb-true}
 use Rattle.lists.proofs.PartLaws.{part-length}
-use Rattle.format.specs.Format.{Content, Legal, encode}
-use Rattle.format.proofs.ParseEncode.{record-long}
+use Rattle.lists.proofs.Tests.{and-first, and-second}
+use Rattle.format.specs.Format.{Content, encode}
 use Rattle.writer.specs.Writing.{selected}
-use Rattle.writer.proofs.SelectedLaws.{selected-legal}
-use Rattle.writer.proofs.WritingLaws.{no-room, wrote}
+use Rattle.writer.proofs.SelectedLaws.{list-few, selected-legal}
+use Rattle.writer.proofs.WritingLaws.{record-most, wrote}
 use borrow.Author.Needs.{needs}
 use Rattle.writer.proofs.write.Statement.{statement}
 use Rattle.writer.proofs.write.Tie as tie
 
--- what is written, and its length
-module _ (c : tie.After-record-length) where
-  abbrev s : tie.Start
-  s = c .before .before .before .before
+-- there is room for any record of so many samples
+module _ (c : tie.Then1) where
+  abbrev start : tie.Start
+  start = c .before .before .before .before .before
 
   abbrev x : Content
-  x = selected (s .args .held) (s .args .ticks .now) (s .args .values .now) (s .args .list .now)
+  x = selected (start .args .held) (start .args .ticks .now) (start .args .values .now) (start .args .list .now)
 
-  long : c .record-length .result ≡ length (encode x)
-  long = c .record-length .ensures .is (s .args .held)
+  fits : (start .args .place ≤ length (start .args .buffer .now)) × (13 + 6 * length (start .args .list .now) ≤ length (start .args .buffer .now) - start .args .place)
+  fits =
+      let t = sym (c .before .has-room .ensures) ∙ c .if1 .taken in
+      (leb-true _ _ (and-first (leb (start .args .place) (length (start .args .buffer .now))) _ t), leb-true _ _ (and-second (leb (start .args .place) (length (start .args .buffer .now))) _ t))
 
-  legal : Legal x
-  legal = selected-legal (s .pre .0) (s .args .held) (s .pre .1) (λ k. omega (arith, c .before .before .before .shared-slice-known .given k)) (c .record-length .ensures .range)
+  enough : length (encode x) ≤ length (start .args .buffer .now) - start .args .place
+  enough = omega (arith, record-most (start .pre .0) (start .args .held), fits .1)
 
-record-length-requires : tie.Need-record-length-requires
-record-length-requires c κs = search needs
-
-returns : tie.Need-returns
-returns c = let a = c .before in record { rows = no-room (x a) (s a .args .buffer .now) (s a .args .place) (long a) (omega (arith, c .if1 .taken, long a, record-long (x a))); content = refl }
-
-sub-if2 : tie.Need-sub-if2
-sub-if2 c = search needs
-
-returns-2 : tie.Need-returns-2
-returns-2 c = let a = c .before .before in record { rows = no-room (x a) (s a .args .buffer .now) (s a .args .place) (long a) (c .if2 .taken); content = refl }
+has-room-requires : tie.Need-has-room-requires
+has-room-requires c κs = list-few (c .before .before .before .pre .0)
 
 sub-put-record : tie.Need-sub-put-record
-sub-put-record c = search needs
+sub-put-record c = omega (arith, fits c .0)
 
 part-put-record-start : tie.Need-part-put-record-start
-part-put-record-start c = search needs
+part-put-record-start c = omega (arith, fits c .0)
 
 part-put-record-end : tie.Need-part-put-record-end
 part-put-record-end c = search needs
 
 put-record-requires : tie.Need-put-record-requires
-put-record-requires c κs =
-    let a = c .before .before .before in
-    (s a .pre .0, s a .pre .1, rw (part-length (s a .args .buffer .now) (s a .args .place)) (omega (arith, long a, c .before .if2 .left)))
+put-record-requires c κs = let s = start (c .before) in (s .pre .0, s .pre .1, rw (part-length (s .args .buffer .now) (s .args .place)) (enough (c .before)))
 
 same-length : tie.Need-same-length
 same-length c = search needs
 
-returns-3 : tie.Need-returns-3
-returns-3 c =
+returns : tie.Need-returns
+returns c =
     let p = c .before .before in
-    let e = p .before .before in
-    let a = e .before .before in
-    wrote (x a) (s a .args .buffer .now) (s a .args .place) (long a) (legal a) (e .before .if1 .left) (e .if2 .left) (p .put-record .ensures)
+    let t = p .before .before in
+    let s = start t in
+    let n = p .put-record .ensures .1 in
+    let e = n .is (s .args .held) in
+    wrote (x t) (s .args .buffer .now) (s .args .place) e
+    (selected-legal (s .pre .0) (s .args .held) (s .pre .1) (λ k. omega (arith, t .before .before .before .before .shared-slice-known .given k)) (n .range))
+    (fits t .0) (omega (arith, e, enough t)) (p .put-record .ensures .0)
+
+write-counted-requires : tie.Need-write-counted-requires
+write-counted-requires c κs = search needs
+
+same-length-2 : tie.Need-same-length-2
+same-length-2 c = search needs
+
+returns-2 : tie.Need-returns-2
+returns-2 c = search needs
 
 pub write-spec : {M : Type 1} → statement M
 write-spec =
     tie.close
     (tie.spec
-    record-length-requires
-    returns
-    sub-if2
-    returns-2
+    has-room-requires
     sub-put-record
     part-put-record-start
     part-put-record-end
     put-record-requires
     same-length
-    returns-3)
+    returns
+    write-counted-requires
+    same-length-2
+    returns-2)

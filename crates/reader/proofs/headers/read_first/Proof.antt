@@ -1,81 +1,48 @@
 -- `reader::headers::read_first` meets its contract. Assumes nothing.
-use mathlib.Core.Path.{_≡_, sym, _∙_, ap}
-use denote.Ref.{now}
+use mathlib.Core.Path.{sym}
+use native.Mathlib.Omega.{arith}
 use lib.ListN.{drop}
-use Rattle.format.specs.Command.{commandOf}
-use Rattle.lists.proofs.PartLaws.{part-from}
+use Rattle.reader.proofs.CommandsAt.{cut, other, first-at, no-first}
 use borrow.Author.Needs.{needs}
 use Rattle.reader.proofs.headers.read_first.Statement.{statement}
 use Rattle.reader.proofs.headers.read_first.Tie as tie
 
-here : (c : tie.After-read-command) → c .read-command .result ≡ commandOf (drop 9 (now (c .before .before .before .args .bytes)))
-here c = c .read-command .ensures ∙ ap commandOf (part-from (now (c .before .before .before .args .bytes)) 9)
-
-sub-read-command : tie.Need-sub-read-command
-sub-read-command c = search needs
-
-part-read-command-start : tie.Need-part-read-command-start
-part-read-command-start c = search needs
-
-part-read-command-end : tie.Need-part-read-command-end
-part-read-command-end c = search needs
-
-read-command-requires : tie.Need-read-command-requires
-read-command-requires c κs = search needs
-
-enum-known-m : tie.Need-enum-known-m
-enum-known-m c = search needs
-
-enum-told : tie.Need-enum-told
-enum-told c = search needs
-
-enum-told-2 : tie.Need-enum-told-2
-enum-told-2 c = search needs
-
-enum-told-3 : tie.Need-enum-told-3
-enum-told-3 c = search needs
-
-enum-told-4 : tie.Need-enum-told-4
-enum-told-4 c = search needs
-
-enum-told-5 : tie.Need-enum-told-5
-enum-told-5 c = search needs
-
 returns : tie.Need-returns
-returns c = rw (sym (here (c .before .before .before)) ∙ c .before .m .given .1)
+returns c =
+    let a = c .before .before .args in
+    sym (no-first (drop 9 (a .bytes .now)) (cut (a .bytes .now) 9 0x41 7 (omega arith) (omega (arith, c .if1 .taken))) (a .r))
+
+shared-slice-read-kind : tie.Need-shared-slice-read-kind
+shared-slice-read-kind c = search needs
 
 returns-2 : tie.Need-returns-2
-returns-2 c = rw (sym (here (c .before .before)) ∙ c .enum-told .given .1)
+returns-2 c =
+    let a = c .before .before .before .before .args in
+    sym (no-first (drop 9 (a .bytes .now)) (other (a .bytes .now) 9 0x41 7 (c .if2 .taken)) (a .r))
+
+field-requires : tie.Need-field-requires
+field-requires c κs = search needs
+
+field-requires-2 : tie.Need-field-requires-2
+field-requires-2 c κs = search needs
+
+flip16-requires : tie.Need-flip16-requires
+flip16-requires c κs = search needs
 
 returns-3 : tie.Need-returns-3
-returns-3 c = rw (sym (here (c .before .before)) ∙ c .enum-told2 .given .1)
-
-returns-4 : tie.Need-returns-4
-returns-4 c = rw (sym (here (c .before .before)) ∙ c .enum-told3 .given .1)
-
-returns-5 : tie.Need-returns-5
-returns-5 c = rw (sym (here (c .before .before)) ∙ c .enum-told4 .given .1)
-
-returns-6 : tie.Need-returns-6
-returns-6 c = rw (sym (here (c .before .before)) ∙ c .enum-told5 .given .1)
+returns-3 c =
+    let k = c .before .before .before in
+    let e = k .before .before in
+    rw (first-at (e .before .before .args .bytes .now) 9 (k .if2 .left) (omega (arith, e .if1 .left)), c .flip16 .ensures, c .before .field2 .ensures .0, c .before .before .field .ensures .0)
 
 pub read-first-spec : {M : Type 1} → statement M
 read-first-spec =
     tie.close
     (tie.spec
-    sub-read-command
-    part-read-command-start
-    part-read-command-end
-    read-command-requires
-    enum-known-m
-    enum-told
-    enum-told-2
-    enum-told-3
-    enum-told-4
-    enum-told-5
     returns
+    shared-slice-read-kind
     returns-2
-    returns-3
-    returns-4
-    returns-5
-    returns-6)
+    field-requires
+    field-requires-2
+    flip16-requires
+    returns-3)

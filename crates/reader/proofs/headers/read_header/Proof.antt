@@ -1,88 +1,67 @@
 -- `reader::headers::read_header` meets its contract. Assumes nothing.
-use Prim.Native.Nat.{ℕ, _≤_}
-use mathlib.Core.Path.{_≡_, sym, _∙_, ap, subst}
+use mathlib.Core.Path.{_≡_, sym, _∙_}
 use mathlib.Core.List.{List}
+use Prim.Native.Nat.{ℕ}
 use native.Mathlib.Omega.{arith}
-use denote.Ref.{now}
-use lib.ListN.{length}
-use Rattle.format.specs.Number.{Bytes}
-use Rattle.ratio.specs.declared.Ratio.{Ratio}
-use Rattle.format.specs.Command.{commandOf}
-use Rattle.format.proofs.CommandLaws.{Read, read}
-use Rattle.format.specs.declared.Command.the-variants.{Tolerance}
+use lib.ListN.{drop}
+use Rattle.format.specs.declared.Header.the-variants.{Fault as NoHeader}
+use Rattle.format.specs.Number.{field}
+use Rattle.format.specs.Command.{choose, commandOf}
+use Rattle.format.specs.Format.{allowed, firstOf, headerOf}
+use Rattle.reader.proofs.CommandsAt.{cut, other, no-tolerance, tolerance-header}
 use borrow.Author.Needs.{needs}
 use Rattle.reader.proofs.headers.read_header.Statement.{statement}
 use Rattle.reader.proofs.headers.read_header.Tie as tie
 
--- a tolerance takes nine bytes
-long-enough : {b : List ℕ} → Bytes b → {r : Ratio} → commandOf b ≡ Tolerance r → 9 ≤ length b
-long-enough {b} by e = subst (Read b) e (read by) .whole
+-- the tolerance is there
+module _ (c : tie.Else2) where
+  abbrev b : List ℕ
+  b = c .before .before .before .before .args .bytes .now
 
-read-command-requires : tie.Need-read-command-requires
-read-command-requires c κs = search needs
+  header : headerOf b ≡ choose (allowed (record { p = field b 1 5; q = field b 6 3 })) (firstOf (record { p = field b 1 5; q = field b 6 3 }) (commandOf (drop 9 b))) (NoHeader 0)
+  header = tolerance-header b (c .if2 .left) (omega (arith, c .before .before .if1 .left))
 
-enum-known-m : tie.Need-enum-known-m
-enum-known-m c = search needs
+returns : tie.Need-returns
+returns c = let a = c .before .before .args in sym (no-tolerance (a .bytes .now) (cut (a .bytes .now) 0 0x54 9 (omega arith) (omega (arith, c .if1 .taken))) _)
+
+shared-slice-read-kind : tie.Need-shared-slice-read-kind
+shared-slice-read-kind c = search needs
+
+returns-2 : tie.Need-returns-2
+returns-2 c = let a = c .before .before .before .before .args in sym (no-tolerance (a .bytes .now) (other (a .bytes .now) 0 0x54 9 (c .if2 .taken)) _)
+
+field-requires : tie.Need-field-requires
+field-requires c κs = search needs
+
+field-requires-2 : tie.Need-field-requires-2
+field-requires-2 c κs = search needs
 
 is-allowed-requires : tie.Need-is-allowed-requires
 is-allowed-requires c κs = search needs
 
 read-first-requires : tie.Need-read-first-requires
-read-first-requires c κs = long-enough (record { byte = λ i. c .before .before .before .before .before .before .shared-slice-known .given i .fits }) (sym (c .before .before .before .before .before .read-command .ensures) ∙ c .before .before .before .m .given .1)
-
-enum-told : tie.Need-enum-told
-enum-told c = search needs
-
-enum-told-2 : tie.Need-enum-told-2
-enum-told-2 c = search needs
-
-enum-told-3 : tie.Need-enum-told-3
-enum-told-3 c = search needs
-
-enum-told-4 : tie.Need-enum-told-4
-enum-told-4 c = search needs
-
-enum-told-5 : tie.Need-enum-told-5
-enum-told-5 c = search needs
-
-returns : tie.Need-returns
-returns c = rw (sym (c .before .before .before .before .before .before .read-command .ensures) ∙ c .before .before .before .before .m .given .1, sym (c .before .before .is-allowed .ensures) ∙ c .before .if1 .taken) (c .read-first .ensures)
-
-returns-2 : tie.Need-returns-2
-returns-2 c = rw (sym (c .before .before .before .before .before .read-command .ensures) ∙ c .before .before .before .m .given .1, sym (c .before .is-allowed .ensures) ∙ c .if1 .left)
+read-first-requires c κs = search needs
 
 returns-3 : tie.Need-returns-3
-returns-3 c = rw (sym (c .before .before .read-command .ensures) ∙ c .enum-told .given .1)
+returns-3 c =
+    let f = c .before .before .before in
+    rw (header (f .before .before), ← f .before .field .ensures .0, ← f .field2 .ensures .0, sym (c .before .before .is-allowed .ensures) ∙ c .before .if3 .taken) (c .read-first .ensures)
 
 returns-4 : tie.Need-returns-4
-returns-4 c = rw (sym (c .before .before .read-command .ensures) ∙ c .enum-told2 .given .1)
-
-returns-5 : tie.Need-returns-5
-returns-5 c = rw (sym (c .before .before .read-command .ensures) ∙ c .enum-told3 .given .1)
-
-returns-6 : tie.Need-returns-6
-returns-6 c = rw (sym (c .before .before .read-command .ensures) ∙ c .enum-told4 .given .1)
-
-returns-7 : tie.Need-returns-7
-returns-7 c = rw (sym (c .before .before .read-command .ensures) ∙ c .enum-told5 .given .1)
+returns-4 c =
+    let f = c .before .before in
+    rw (header (f .before .before), ← f .before .field .ensures .0, ← f .field2 .ensures .0, sym (c .before .is-allowed .ensures) ∙ c .if3 .left)
 
 pub read-header-spec : {M : Type 1} → statement M
 read-header-spec =
     tie.close
     (tie.spec
-    read-command-requires
-    enum-known-m
+    returns
+    shared-slice-read-kind
+    returns-2
+    field-requires
+    field-requires-2
     is-allowed-requires
     read-first-requires
-    enum-told
-    enum-told-2
-    enum-told-3
-    enum-told-4
-    enum-told-5
-    returns
-    returns-2
     returns-3
-    returns-4
-    returns-5
-    returns-6
-    returns-7)
+    returns-4)

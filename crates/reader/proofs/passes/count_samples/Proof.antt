@@ -1,13 +1,12 @@
 -- `reader::passes::count_samples` meets its contract: at each turn the samples passed, with those to come, are the whole.
 -- Assumes nothing.
-use mathlib.Core.Path.{_≡_, sym, _∙_, ap}
+use mathlib.Core.Path.{sym, _∙_}
 use mathlib.Core.List.{List}
 use Prim.Native.Nat.{ℕ, _-_}
+use borrow.Author.Tests.{not-true, not-false}
 use lib.IntN.{ℤ}
-use borrow.Author.Needs.{needs}
 use Rattle.format.specs.Number.{Bytes}
-use Rattle.reader.specs.declared.Verdict.the-variants.{Samples}
-use Rattle.reader.proofs.PassLaws.{Passed, begins, falls, goes-on, ends, faults, counts}
+use Rattle.reader.proofs.PassLaws.{Passed, begins, falls, goes-on, closes}
 use Rattle.reader.proofs.passes.count_samples.Statement.{statement}
 use Rattle.reader.proofs.passes.count_samples.Tie as tie
 
@@ -23,37 +22,25 @@ by c = record { byte = λ i. c .shared-slice-known .given i .fits }
 loop-holds : tie.Need-loop-holds Inv-loop μ-loop
 loop-holds c = (_, _, begins (c .before .pre))
 
-take-step-requires : tie.Need-take-step-requires Inv-loop μ-loop
-take-step-requires c κs = c .loop .inv .2 .ready
+is-step-requires : tie.Need-is-step-requires Inv-loop μ-loop
+is-step-requires c κs = c .loop .inv .2 .ready
 
-enum-known-s : tie.Need-enum-known-s Inv-loop μ-loop
-enum-known-s c = search needs
-
-loop-less : tie.Need-loop-less Inv-loop μ-loop
-loop-less c =
-    let l = c .before .before .before .before in
-    falls (l .loop .inv .2) (by (l .before)) (sym (c .before .before .before .take-step .ensures) ∙ c .before .s .given .1)
-
-loop-again : tie.Need-loop-again Inv-loop μ-loop
-loop-again c =
-    let l = c .before .before .before .before in
-    (_, _, goes-on (l .loop .inv .2) (by (l .before)) (sym (c .before .before .before .take-step .ensures) ∙ c .before .s .given .1))
-
-enum-told : tie.Need-enum-told Inv-loop μ-loop
-enum-told c = search needs
+close-requires : tie.Need-close-requires Inv-loop μ-loop
+close-requires c κs = (c .before .before .loop .inv .2 .ready, sym (c .before .is-step .ensures) ∙ not-true _ (c .if1 .taken))
 
 returns : tie.Need-returns Inv-loop μ-loop
 returns c =
-    let p = c .before .before .before .loop .inv .2 in
-    rw (ends p (sym (c .before .before .take-step .ensures) ∙ c .enum-told .given .1)) (ap (λ (n : ℕ). Samples n (c .before .before .before .before .before .args .r)) (sym (counts p)))
+    let i = c .before .before in
+    c .close .ensures ∙ closes (i .before .loop .inv .2) _ (sym (i .is-step .ensures) ∙ not-true _ (c .before .if1 .taken))
 
-enum-known-s-2 : tie.Need-enum-known-s-2 Inv-loop μ-loop
-enum-known-s-2 c = search needs
+next-sample-requires : tie.Need-next-sample-requires Inv-loop μ-loop
+next-sample-requires c κs = (c .before .before .loop .inv .2 .ready, sym (c .before .is-step .ensures) ∙ not-false _ (c .if1 .left))
 
-returns-2 : tie.Need-returns-2 Inv-loop μ-loop
-returns-2 c =
-    let p = c .before .before .before .before .loop .inv .2 in
-    rw (faults p (sym (c .before .before .before .take-step .ensures) ∙ c .before .s2 .given .1))
+loop-less : tie.Need-loop-less Inv-loop μ-loop
+loop-less c = let l = c .before .before .before in falls (l .loop .inv .2) (by (l .before)) (c .next-sample .ensures)
+
+loop-again : tie.Need-loop-again Inv-loop μ-loop
+loop-again c = let l = c .before .before .before in (_, _, goes-on (l .loop .inv .2) (by (l .before)) (c .next-sample .ensures))
 
 pub count-samples-spec : {M : Type 1} → statement M
 count-samples-spec =
@@ -62,11 +49,9 @@ count-samples-spec =
     Inv-loop
     μ-loop
     loop-holds
-    take-step-requires
-    enum-known-s
-    loop-less
-    loop-again
-    enum-told
+    is-step-requires
+    close-requires
     returns
-    enum-known-s-2
-    returns-2)
+    next-sample-requires
+    loop-less
+    loop-again)

@@ -1,61 +1,70 @@
--- `reader::passes::fill` meets its contract: the samples are those from the cursor after the header on. Assumes nothing.
-use mathlib.Core.Path.{_≡_, sym, _∙_, ap, subst}
-use Prim.Native.Nat.{_≤_}
+-- `reader::passes::fill` meets its contract: at each turn the samples passed are written over the lists, and with those to come they are the
+-- whole. Assumes nothing.
+use mathlib.Core.Path.{_≡_}
+use mathlib.Core.List.{List}
+use Prim.Native.Nat.{ℕ, _-_}
+use lib.IntN.{ℤ}
 use lib.ListN.{length}
-use borrow.Author.Needs.{needs}
-use Rattle.format.specs.Format.{Samples}
-use Rattle.reader.specs.Reading.{samplesOf, Fitting, Filled}
-use Rattle.reader.proofs.ReadingLaws.{parse-samples, parse-fault, header-begun}
+use Rattle.format.specs.Number.{Bytes}
+use Rattle.reader.proofs.PassLaws.{Filling, filling-begins, falls, entry, stored-lengths, fills, filled, more-follow}
 use Rattle.reader.proofs.passes.fill.Statement.{statement}
 use Rattle.reader.proofs.passes.fill.Tie as tie
 
-read-header-requires : tie.Need-read-header-requires
-read-header-requires c κs = search needs
+abbrev Inv-loop : tie.InvT-loop
+Inv-loop bytes n ticks₀ values₀ c₀ ticks values c = (w : List ℕ) × (v : List ℤ) × Filling bytes c₀ n ticks₀ values₀ ticks values c w v
 
-enum-known-h : tie.Need-enum-known-h
-enum-known-h c = search needs
+abbrev μ-loop : tie.MeasureT-loop
+μ-loop bytes n ticks₀ values₀ c₀ ticks values c = 4097 - c .count
 
-fill-from-requires : tie.Need-fill-from-requires
-fill-from-requires c κs =
-    let h = c .before .before .before .before .before in
-    let s = h .before .before .before in
-    let e = sym (h .read-header .ensures) ∙ c .before .before .before .h .given .1 in (
-      header-begun (record { byte = λ i. h .before .before .shared-slice-known .given i .fits }) e,
-      subst (λ (x : Samples). Fitting x (length (s .args .ticks .now)) (length (s .args .values .now))) (parse-samples (s .args .bytes .now) e) (s .pre),
-    )
+-- in a turn, once the sample at the cursor is stored
+module _ (c : tie.After-struct-known Inv-loop μ-loop) where
+  abbrev put : tie.After-put-sample Inv-loop μ-loop
+  put = c .before .before .before .before
 
-enum-told : tie.Need-enum-told
-enum-told c = search needs
+  abbrev head : tie.At-loop Inv-loop μ-loop
+  head = put .before .before .before
 
-same-length : tie.Need-same-length
-same-length c = search needs
+  by : Bytes (head .before .before .before .args .bytes .now)
+  by = record { byte = λ i. head .before .before .shared-slice-known .given i .fits }
 
-same-length-2 : tie.Need-same-length-2
-same-length-2 c = search needs
+  lengths : (length (put .put-sample .last .0) ≡ length (head .before .before .before .args .ticks .now)) × (length (put .put-sample .last .1 .0) ≡ length (head .before .before .before .args .values .now))
+  lengths = stored-lengths (head .loop .inv .2) (put .put-sample .ensures .0) (put .put-sample .ensures .1)
 
-returns : tie.Need-returns
-returns c =
-    let f = c .before .before .before in
-    let h = f .before .before .before .before .before .before in
-    let e = sym (h .read-header .ensures) ∙ f .before .before .before .before .h .given .1 in
-    rw (parse-samples (h .before .before .before .args .bytes .now) e) (f .fill-from .ensures)
+loop-holds : tie.Need-loop-holds Inv-loop μ-loop
+loop-holds c = (_, _, filling-begins (c .before .before .pre .0) (c .before .before .pre .1))
 
-returns-2 : tie.Need-returns-2
-returns-2 c =
-    let h = c .before .before in
-    let s = h .before .before .before in
-    let e = parse-fault (s .args .bytes .now) (sym (h .read-header .ensures) ∙ c .enum-told .given .1) in
-    absurd (rw e at (s .pre))
+put-sample-requires : tie.Need-put-sample-requires Inv-loop μ-loop
+put-sample-requires c κs = entry (c .before .before .loop .inv .2)
+
+same-length : tie.Need-same-length Inv-loop μ-loop
+same-length c = lengths (c .before) .0
+
+same-length-2 : tie.Need-same-length-2 Inv-loop μ-loop
+same-length-2 c = lengths (c .before) .1
+
+returns : tie.Need-returns Inv-loop μ-loop
+returns c = let s = c .before in filled (head s .loop .inv .2) (put s .put-sample .ensures .0) (put s .put-sample .ensures .1) (by s) (c .if1 .taken)
+
+next-sample-requires : tie.Need-next-sample-requires Inv-loop μ-loop
+next-sample-requires c κs = let f = head (c .before) .loop .inv .2 in (f .passed .ready, more-follow f (c .if1 .left))
+
+loop-less : tie.Need-loop-less Inv-loop μ-loop
+loop-less c = let s = c .before .before in falls (head s .loop .inv .2 .passed) (by s) (c .next-sample .ensures)
+
+loop-again : tie.Need-loop-again Inv-loop μ-loop
+loop-again c = let s = c .before .before in (_, _, fills (head s .loop .inv .2) (put s .put-sample .ensures .0) (put s .put-sample .ensures .1) (by s) (c .next-sample .ensures))
 
 pub fill-spec : {M : Type 1} → statement M
 fill-spec =
     tie.close
     (tie.spec
-    read-header-requires
-    enum-known-h
-    fill-from-requires
-    enum-told
+    Inv-loop
+    μ-loop
+    loop-holds
+    put-sample-requires
     same-length
     same-length-2
     returns
-    returns-2)
+    next-sample-requires
+    loop-less
+    loop-again)

@@ -1,5 +1,5 @@
 -- `writer::samples::move_to` meets its contract. Assumes nothing.
-use mathlib.Core.Path.{_≡_, _∙_}
+use mathlib.Core.Path.{_∙_}
 use borrow.Author.Needs.{needs}
 use Rattle.writer.proofs.SelectedLaws.{step-between}
 use Rattle.writer.proofs.samples.move_to.Statement.{statement}

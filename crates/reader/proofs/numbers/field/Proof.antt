@@ -1,7 +1,7 @@
--- `reader::commands::field` meets its contract. The loop's invariant: the number so far, gone on with the bytes left, is the field's; and it is below 256 for each byte read.
+-- `reader::numbers::field` meets its contract. The loop's invariant: the number so far, gone on with the bytes left, is the field's; and it is below 256 for each byte read.
 -- Assumes nothing.
 use Prim.Native.Nat.{ℕ, zero, suc, _+_, _-_, _*_, _^_, _≤_, _<_}
-use mathlib.Core.Path.{_≡_, refl, sym, ap, _∙_}
+use mathlib.Core.Path.{_≡_, sym, ap, _∙_}
 use mathlib.Core.List.{List, [], _∷_}
 use native.Mathlib.Nat.{pow-le-pow-right, pow-succ', zero-add, suc-add}
 use native.Mathlib.Numerals.{add-one}
@@ -10,8 +10,8 @@ use lib.ListN.{length, getD, take, drop}
 use lib.Seq.{slice, slice-cons, slice-empty, take-nil}
 use borrow.Author.Needs.{needs}
 use Rattle.format.specs.Number.{numberFrom, field}
-use Rattle.reader.proofs.commands.field.Statement.{statement}
-use Rattle.reader.proofs.commands.field.Tie as tie
+use Rattle.reader.proofs.numbers.field.Statement.{statement}
+use Rattle.reader.proofs.numbers.field.Tie as tie
 
 record Going (s : List ℕ) (i k n j : ℕ) : Type 0 where
   low : i ≤ j

@@ -1,0 +1,221 @@
+//! The program `reduce` as a user runs it: bytes through a pipe, and all that it prints compared with
+//! what the slow reference says of them. `rt check reduce` builds it.
+
+use kovrelna_reference::generate::{content, trace, Random, KINDS};
+use kovrelna_reference::record::{decode, encode, end, first, long, short, tolerance, Content};
+use kovrelna_reference::{reduce, Form, Fraction, Method};
+use std::fmt::Write as _;
+use std::io::{ErrorKind, Write as _};
+use std::process::{Child, Command, Output, Stdio};
+use std::{thread, time::Duration};
+
+const PROGRAM: &str = concat!(env!("CARGO_MANIFEST_DIR"), "/../../target/bin/reduce");
+
+/// The most bytes that the program reads.
+const LIMIT: usize = 24_590;
+const MEGABYTE: usize = 1 << 20;
+
+/// The shipped example.
+const WAVE: &[u8] = include_bytes!("../../../examples/wave.record");
+
+fn start(stdin: Stdio) -> Child {
+    Command::new(PROGRAM)
+        .stdin(stdin)
+        .stdout(Stdio::piped())
+        .stderr(Stdio::piped())
+        .spawn()
+        .unwrap_or_else(|error| panic!("{PROGRAM}: {error}. Build it with `rt check reduce`"))
+}
+
+/// What the program printed. It ended well and reported no error.
+fn printed(output: Output) -> String {
+    assert!(output.status.success(), "{output:?}");
+    assert_eq!(output.stderr, b"");
+    String::from_utf8(output.stdout).unwrap()
+}
+
+/// What the program prints if these pieces come through its pipe, with a pause after each but the
+/// last. It need not take them all.
+fn run(pieces: &[&[u8]]) -> String {
+    let mut program = start(Stdio::piped());
+    let mut pipe = program.stdin.take().unwrap();
+    let output = thread::scope(|scope| {
+        scope.spawn(move || {
+            for (k, piece) in pieces.iter().enumerate() {
+                if k > 0 {
+                    thread::sleep(Duration::from_millis(1));
+                }
+                match pipe.write_all(piece) {
+                    Err(error) if error.kind() == ErrorKind::BrokenPipe => return,
+                    written => written.unwrap(),
+                }
+            }
+        });
+        program.wait_with_output().unwrap()
+    });
+    printed(output)
+}
+
+/// The text for these bytes: document 01's four lines, or the fault of all of them.
+fn text(bytes: &[u8]) -> String {
+    let content = match decode(bytes) {
+        Ok(content) => content,
+        Err(fault) => return format!("refused 8 at {fault}\n"),
+    };
+    let (ticks, values) = content.trace();
+    let Fraction { p, q } = content.tolerance;
+    let form = Form::Ratio(p as u64, q as u64);
+    let mut text = format!("samples {} tolerance {p}/{q}\n", ticks.len());
+    for (name, method) in [
+        ("walk", Method::Walk),
+        ("gallop", Method::Gallop),
+        ("minimum", Method::Minimum),
+    ] {
+        let kept = reduce(method, &ticks, &values, form, ticks.len()).unwrap();
+        write!(text, "{name} {}", kept.list.len()).unwrap();
+        if method == Method::Gallop {
+            write!(text, " {}", kept.probes).unwrap();
+        }
+        for sample in kept.list {
+            write!(text, " {sample}").unwrap();
+        }
+        text.push('\n');
+    }
+    text
+}
+
+/// Runs the program on these bytes and compares. Whether they are a record.
+fn is_record(bytes: &[u8]) -> bool {
+    let (printed, expected) = (run(&[bytes]), text(bytes));
+    if printed != expected {
+        let shown = &bytes[..bytes.len().min(64)];
+        panic!(
+            "of {} bytes {shown:02x?}\n{printed}for\n{expected}",
+            bytes.len()
+        );
+    }
+    !printed.starts_with("refused")
+}
+
+fn noise(length: usize, random: &mut Random) -> Vec<u8> {
+    (0..length).map(|_| random.bits() as u8).collect()
+}
+
+/// The longest record: 4,096 samples by long steps.
+fn longest() -> Vec<u8> {
+    let steps: Vec<u8> = (1..4_096).flat_map(|k| long(256, k % 7)).collect();
+    [tolerance(5, 2), first(0, 0), steps, end(4_096)].concat()
+}
+
+#[test]
+fn figure() {
+    let wave = Content {
+        tolerance: Fraction { p: 2, q: 1 },
+        samples: vec![(0, 0), (1, 2), (2, 0), (3, -2), (4, 0)],
+    };
+    assert_eq!(WAVE, encode(&wave));
+    let lines = "samples 5 tolerance 2/1\nwalk 3 0 2 4\ngallop 2 5 0 4\nminimum 2 0 4\n";
+    assert_eq!(run(&[WAVE]), lines);
+    assert_eq!(text(WAVE), lines);
+}
+
+#[test]
+fn random_records() {
+    let random = &mut Random::new(31);
+    for kind in KINDS {
+        for most in [1, 3, 12, 12, 40, 200, 200, 1_000] {
+            let samples = random.within(1, most) as usize;
+            let trace = trace(kind, samples, random);
+            let traced = Content {
+                tolerance: content(1, random).tolerance,
+                samples: trace.ticks.into_iter().zip(trace.values).collect(),
+            };
+            assert!(is_record(&encode(&traced)));
+            assert!(is_record(&encode(&content(samples, random))));
+        }
+    }
+}
+
+#[test]
+fn longest_records() {
+    let random = &mut Random::new(32);
+    let longest = longest();
+    assert_eq!(longest.len(), LIMIT - 1);
+    assert!(is_record(&longest));
+    for samples in [4_095, 4_096] {
+        assert!(is_record(&encode(&content(samples, random))));
+    }
+    // Cut off, something after the end, and one sample more.
+    for length in [LIMIT - 2, LIMIT - 4, LIMIT - 5, LIMIT - 10] {
+        assert!(!is_record(&longest[..length]));
+    }
+    for more in [1, 2, MEGABYTE] {
+        let bytes = [&longest[..], &noise(more, random)].concat();
+        assert_eq!(run(&[&bytes]), format!("refused 8 at {}\n", longest.len()));
+        assert!(!is_record(&bytes));
+    }
+    let bytes = [&longest[..LIMIT - 4], &long(256, 9), &end(4_097)].concat();
+    assert!(!is_record(&bytes));
+}
+
+/// Every byte with other values, cuts at every length, and bytes after the end.
+#[test]
+fn damaged_records() {
+    let random = &mut Random::new(33);
+    let steps = [
+        short(255, 127),
+        long(256, 0),
+        short(255, -128),
+        long(1, 500),
+    ]
+    .concat();
+    let record = [tolerance(2, 3), first(5, 0), steps, end(5)].concat();
+    let mut seen = [0; 2];
+    for at in 0..record.len() {
+        let any = random.bits() as u8;
+        for change in [0x01, 0x02, 0x07, 0x10, 0x80, 0xff, any] {
+            let mut damaged = record.clone();
+            damaged[at] ^= change;
+            seen[usize::from(is_record(&damaged))] += 1;
+        }
+        assert!(!is_record(&record[..at]));
+    }
+    for more in [&[0][..], &end(5), &record, &noise(MEGABYTE, random)] {
+        assert!(!is_record(&[&record, more].concat()));
+    }
+    assert!(seen.iter().all(|&count| count > 40), "{seen:?}");
+}
+
+#[test]
+fn no_record() {
+    let random = &mut Random::new(34);
+    let refused = "refused 8 at 0\n";
+    assert_eq!(run(&[]), refused);
+    assert_eq!(run(&[&noise(MEGABYTE, random)]), refused);
+    assert_eq!(run(&[&vec![0x54; MEGABYTE]]), refused);
+    assert_eq!(run(&[&WAVE[..9]]), "refused 8 at 9\n");
+    // Noise after a tolerance, and after a first sample.
+    assert!(!is_record(&[&WAVE[..9], &noise(MEGABYTE, random)].concat()));
+    assert!(!is_record(
+        &[&WAVE[..16], &noise(MEGABYTE, random)].concat()
+    ));
+    // No input at all.
+    let output = start(Stdio::null()).wait_with_output().unwrap();
+    assert_eq!(printed(output), refused);
+    let closed = Command::new("sh")
+        .args(["-c", "exec \"$0\" <&-", PROGRAM])
+        .output();
+    assert_eq!(printed(closed.unwrap()), refused);
+}
+
+/// A pipe that delivers a record little by little.
+#[test]
+fn pieces() {
+    for bytes in [1, 5, 9, 16] {
+        let pieces: Vec<&[u8]> = WAVE.chunks(bytes).collect();
+        assert_eq!(run(&pieces), text(WAVE), "{bytes}");
+    }
+    let longest = longest();
+    let pieces: Vec<&[u8]> = longest.chunks(4_000).collect();
+    assert_eq!(run(&pieces), text(&longest));
+}
