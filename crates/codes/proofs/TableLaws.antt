@@ -59,12 +59,11 @@ pub code-rises : (c d : ℕ) → c < d → d < 256 → codeValue c < codeValue d
 unfolding holds worked codeValue
 code-rises c d h l = rise (worked 0 256) refl refl c d h l
 
--- figures: codes 31, 32, 63, 64, 255 give 31, 32, 94, 96, 8032
-pub figures : (codeValue 31 ≡ 31) × (codeValue 32 ≡ 32) × (codeValue 63 ≡ 94) × (codeValue 64 ≡ 96) × (codeValue 255 ≡ 8032)
+last-code : codeValue 255 ≡ 8032
 unfolding codeValue
-figures = (refl, refl, refl, refl, refl)
+last-code = refl
 
 pub code-most : (c : ℕ) → c < 256 → codeValue c ≤ 8032
 code-most c h =
-    ⊎-elim (λ e. omega (arith, ap codeValue e, figures .4)) (λ lt. omega (arith, code-rises c 255 lt (omega arith), figures .4))
+    ⊎-elim (λ e. omega (arith, ap codeValue e, last-code)) (λ lt. omega (arith, code-rises c 255 lt (omega arith), last-code))
     (eq-or-lt-of-le {n = c} {m = 255} (omega arith))

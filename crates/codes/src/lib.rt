@@ -1,4 +1,4 @@
-// Range codes (document 01): one byte a sample. Each value comes from one function, code_value; the table is behind it.
+// Range codes (document 01): one byte a sample. Each value is taken from the table by one function, code_value.
 ghost use mathlib.Core.Path.{_≡_};
 ghost use Prim.Native.Nat.{_≤_};
 ghost use lib.IntN.{pos};

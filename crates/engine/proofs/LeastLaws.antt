@@ -23,7 +23,6 @@ use Rattle.trace.proofs.TraceLaws.{rows-trace}
 use Rattle.trace.proofs.Errors.{trace-measures}
 use Rattle.closest.specs.declared.Found.{Found}
 use Rattle.closest.specs.Closest.{Task}
-use Rattle.engine.specs.Prepare.{roomRow}
 use Rattle.engine.specs.Least.{allowanceRow, allowedRows, leastRows, okAt, LeastKept}
 
 module _ (n m room : ℕ) where

@@ -14,11 +14,10 @@ use Rattle.lists.specs.Overwrite.{Wrote}
 use Rattle.refusal.specs.declared.Refusal.the-variants.{Length}
 use Rattle.refusal.specs.declared.Checked.{Checked}
 use Rattle.refusal.specs.declared.Checked.the-variants.{Fine, Refused}
-use Rattle.refusal.specs.Table.{row, _thenCheck_}
+use Rattle.refusal.specs.Table.{row, roomRow, _thenCheck_}
 use Rattle.codes.specs.Code.{codeValues}
 use Rattle.engine.specs.declared.Written.{Written}
 use Rattle.engine.specs.declared.Written.the-variants.{Count, Refused as Declined}
-use Rattle.engine.specs.Prepare.{roomRow}
 
 unfoldable pub expandRows : List ℕ → ℕ → Checked
 expandRows codes room = row (leb 1 (length codes) && leb (length codes) 4096) Length thenCheck roomRow (length codes) room

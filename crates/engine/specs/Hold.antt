@@ -1,6 +1,7 @@
 -- The outcome of `hold` (document 01, "Tolerances" and row 4 of "When the engine declines").
 --   toleranceRow   4: tolerance not allowed
---   holdOf         what `hold` answers
+--   holdingOf      what `hold` answers for a meaning
+--   HoldOutcome    the contract
 -- Assumes nothing.
 use mathlib.Core.Path.{_≡_}
 use Rattle.ratio.specs.declared.Ratio.{Ratio}

@@ -1,5 +1,7 @@
 -- The outcome of least (document 01, "The four reductions"), with demand 3 for it.
+--   allowanceRow   row 5
 --   leastRows      the first of the rows 1, 2, 3, 5, 10 that applies
+--   okAt           the link test of a trace at a tolerance p/q
 --   LeastKept      what holds of a list kept, and of its error
 --   LeastOutcome   the contract: by cases on the answer
 -- A refused call leaves the lent list as it was. Otherwise its first entries are the list, and the others stay.
@@ -15,7 +17,7 @@ use Rattle.lists.specs.Overwrite.{Wrote}
 use Rattle.refusal.specs.declared.Refusal.the-variants.{Allowance}
 use Rattle.refusal.specs.declared.Checked.{Checked}
 use Rattle.refusal.specs.declared.Checked.the-variants.{Fine, Refused}
-use Rattle.refusal.specs.Table.{row, _thenCheck_}
+use Rattle.refusal.specs.Table.{row, roomRow, _thenCheck_}
 use Rattle.ratio.specs.declared.Ratio.{Ratio}
 use Rattle.kept.specs.Minimum.{minimumOf}
 use Rattle.kept.specs.Least.{LeastError, leastOf}
@@ -24,7 +26,6 @@ use Rattle.trace.specs.Link.{valid, linkError, criterion, Bounded}
 use Rattle.closest.specs.declared.Found.{Found}
 use Rattle.engine.specs.declared.Closest.{Closest}
 use Rattle.engine.specs.declared.Closest.the-variants.{Kept, Refused as Declined}
-use Rattle.engine.specs.Prepare.{roomRow}
 
 -- 5: allowance below 2 or above 4,096
 abbrev pub allowanceRow : ℕ → Checked

@@ -1,4 +1,5 @@
 -- The outcome of minimum (document 01, "The four reductions").
+--   Shortened        what holds where minimum kept a list
 --   MinimumOutcome   the contract: by cases on the answer
 -- A refused call leaves the lent list as it was. Otherwise its first entries are the list, and the others stay.
 -- Assumes nothing.

@@ -1,8 +1,10 @@
 -- The checks of a trace and a tolerance, which several calls have in common (document 01, "When the engine declines").
 --   commonRows    the first of the rows 1, 2, 3, 4 that applies
 --   criterionOf   the criterion that a tolerance sets
---   Prepared      what the checks give: the criterion of a trace, or the row
+--   Sets, Allowed    what check 4 gives: the criterion that an allowed tolerance sets, or the row
+--   ReadyAt, Prepared   what the checks 1 to 4 give: a trace and that criterion, or the row
 --   outputRows    the first of the rows 1, 2, 3, 4, 10 that applies, for a list that needs as many entries as the trace has samples
+--   OutputReady, OutputPrepared   what these checks give
 -- Assumes nothing.
 use mathlib.Core.Path.{_≡_}
 use mathlib.Core.List.{List}
@@ -11,10 +13,9 @@ use lib.Dec.{leb}
 use lib.IntN.{ℤ}
 use lib.ListN.{length}
 use Rattle.ratio.specs.Order.{over}
-use Rattle.refusal.specs.declared.Refusal.the-variants.{Room}
 use Rattle.refusal.specs.declared.Checked.{Checked}
 use Rattle.refusal.specs.declared.Checked.the-variants.{Fine, Refused}
-use Rattle.refusal.specs.Table.{row, _thenCheck_}
+use Rattle.refusal.specs.Table.{roomRow, _thenCheck_}
 use Rattle.tolerance.specs.declared.Tolerance.{Tolerance}
 use Rattle.tolerance.specs.declared.Meaning.{Meaning}
 use Rattle.tolerance.specs.declared.Meaning.the-variants.{Exact, NotAllowed}
@@ -57,10 +58,6 @@ pub record ReadyAt (ts : List ℕ) (vs : List ℤ) (t : Tolerance) (c : Criterio
 abbrev pub Prepared : List ℕ → List ℤ → Tolerance → Ready → Type 0
 Prepared ts vs t (At c) = ReadyAt ts vs t c
 Prepared ts vs t (Declined x) = commonRows ts vs t ≡ Refused x
-
--- 10: output too short
-abbrev pub roomRow : ℕ → ℕ → Checked
-roomRow needed room = row (leb needed room) (Room needed)
 
 unfoldable pub outputRows : List ℕ → List ℤ → Tolerance → ℕ → Checked
 outputRows ts vs t room = commonRows ts vs t thenCheck roomRow (length ts) room

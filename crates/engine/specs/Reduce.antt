@@ -1,6 +1,7 @@
 -- The outcomes of the greedy reductions, walk and gallop (document 01, "The four reductions", and demands 1, 2 and 3).
 --   okOf            the link test of a trace at a tolerance
 --   GreedyList      a kept list of valid links with maximal stops, and demand 3 of it
+--   Walked, Searched   what holds where walk, gallop kept a list
 --   WalkOutcome, GallopOutcome   the contracts: by cases on the answer
 -- A refused call leaves the lent list as it was. Otherwise its first entries are the list, and the others stay.
 -- Assumes nothing.

@@ -1,7 +1,10 @@
 -- The outcome of write (document 01, "The record" and "When the engine declines").
 --   writeRows      the first row that applies, in rising number: 1, 2, 3, 4, 6, 7, 10
+--   linkRow        row 7: an invalid link
 --   contentOf      what is written: the held tolerance and the samples that the list keeps
+--   Recorded       what holds where a record was written
 --   WriteOutcome   the contract: by cases on the answer
+--   ListReady      what the checks 1 to 4 and 6 give
 -- A refused call leaves the event buffer as it was. Otherwise the record's bytes stand from the place on, and the others stay.
 -- Assumes nothing.
 use mathlib.Core.Path.{_≡_}

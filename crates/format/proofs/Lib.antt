@@ -5,4 +5,4 @@ pub mod RuleLaws
 pub mod ParseEncode
 pub mod EncodeParse
 pub mod SameLaws
-pub mod Figures
+pub mod Examples

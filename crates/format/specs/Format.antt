@@ -1,7 +1,8 @@
 -- The format of a record (document 01, "The record"): what a record says, and the record that says it.
 --   Content, Legal        a tolerance and samples; what can be said
 --   allowed, within, short  the rules
---   stepOf                what the command at a cursor does
+--   shortStep, longStep, endStep   what each command after the first sample does; stepOf: the one at a cursor
+--   headerOf              the tolerance and the first sample, or the fault's byte
 --   Samples, steps        the samples that the commands from a cursor on give, or the fault's byte
 --   Parsed, parse         what a record says, or the fault's byte
 --   encode                the record of a content
@@ -9,7 +10,7 @@
 --   SameRecord            two records are the same: their kept samples agree, tolerance disregarded
 -- A fault lies at the first byte of the first command that breaks a rule or is cut off, at the first byte after a whole end command, or at
 -- the record's end where a command is missing.
--- Laws are in ParseEncode, EncodeParse and SameLaws; figures are in Figures. Assumes nothing.
+-- Laws are in ParseEncode, EncodeParse and SameLaws; examples are in proofs/Examples. Assumes nothing.
 use mathlib.Core.Path.{_≡_}
 use mathlib.Core.Bool.{Bool, not, _&&_}
 use mathlib.Core.List.{List, [], _∷_}

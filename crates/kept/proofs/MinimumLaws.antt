@@ -273,11 +273,7 @@ module _ (ok : ℕ → ℕ → Bool) (last : ℕ) where
             let z = k .spans .0 in
             (omega arith, λ _. from-latest h 0 (rw z at (k .rises)) (rw z at v) (rw z at (k .spans .1)) (omega arith))
 
-    -- it has one sample more than there are links, and at most as many as the trace
-    pub minimum-links : length (minimumOf ok last) ≡ suc (linksOf ok last 0)
-    unfolding minimumOf
-    minimum-links = ap suc (from-is last 0 (omega arith) (omega arith) .count)
-
+    -- it has at most as many samples as the trace
     pub minimum-length : length (minimumOf ok last) ≤ suc last
     minimum-length = kept-length last (minimumOf ok last) (minimum-of .kept)
 

@@ -1,7 +1,7 @@
 -- Laws of `overwrite` where a list is written entry by entry, or part by part: the part of a lent list from a place on is
 -- lent on and comes back.
 --   overwrite-take, overwrite-first      one entry more, the first entry
---   overwrite-part, overwrite-overwrite  a list after another, a list over another
+--   overwrite-part                       a list after another
 --   part-from, part-length               the part of a list from a place on, as it is lent
 --   put-back, written-part               the whole after the part came back
 --   written-from, written-within         a list written from a place on: the whole, and what stands there
@@ -35,14 +35,6 @@ module _ {A : Type 0} where
   pub overwrite-part : (w l o : List A) (i : ℕ) → length w ≡ i → take i (overwrite w o) ++ overwrite l (drop i (overwrite w o)) ≡ overwrite (w ++ l) o
   overwrite-part w l o i e =
       rw (take-at w (drop (length w) o) i e, drop-at w (drop (length w) o) i e, append-assoc, length-append, drop-drop (length l) (length w) o)
-
-  -- what is overwritten whole does not matter
-  pub overwrite-overwrite : (l w o : List A) → length w ≤ length l → overwrite l (overwrite w o) ≡ overwrite l o
-  overwrite-overwrite l w o h =
-      let n : length l ≡ length w + (length l - length w) = omega arith in
-      let e : drop (length l) (overwrite w o) ≡ drop (length l) o =
-      ap (λ (k : ℕ). drop k (overwrite w o)) n ∙ drop-append-add w (drop (length w) o) (length l - length w) ∙ drop-drop (length l - length w) (length w) o ∙ ap (λ (k : ℕ). drop k o) (sym n) in
-      ap (λ (r : List A). l ++ r) e
 
   pub part-from : (d : List A) (i : ℕ) → take (length d - i) (drop i d) ≡ drop i d
   part-from d i = take-all (length d - i) (drop i d) (rw length-drop (omega arith))

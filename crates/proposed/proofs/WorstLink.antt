@@ -7,6 +7,7 @@ use native.Mathlib.Numerals.{add-one}
 use native.Mathlib.Omega.{arith}
 use lib.IntN.{ℤ}
 use lib.ListN.{length, take}
+use lib.Seq.{take-all}
 use Rattle.ratio.specs.declared.Ratio.{Ratio}
 use Rattle.ratio.specs.Order.{over, greater}
 use Rattle.ratio.proofs.OrderLaws.{greater-one}
@@ -19,12 +20,6 @@ pub record Worst (ts : List ℕ) (vs : List ℤ) (l : List ℕ) (k : ℕ) (w : R
   pub is : w ≡ listError ts vs (take (suc k) l)
   pub allowed : Bounded (criterion w)
   pub to : k ≤ length l
-
-take-all : {A : Type 0} (n : ℕ) (l : List A) → length l ≤ n → take n l ≡ l
-take-all zero [] h = refl
-take-all zero (a ∷ l) h = absurd (omega arith)
-take-all (suc n) [] h = refl
-take-all (suc n) (a ∷ l) h = rw (take-all n l (omega arith))
 
 module _ {ts : List ℕ} {vs : List ℤ} {l : List ℕ} where
   pub worst-none : Worst ts vs l 0 (over 0 1)

@@ -1,5 +1,7 @@
 -- Reading and comparing records (document 01, "The record" and "When the engine declines"): each call's complete outcome.
---   recordRow, readRows, sameRows            rows 8, 9 and 10: a faulty record, a second one, output too short
+--   recordRow, outputsRow                    rows 8 and 9: a faulty record; row 10: an output too short
+--   readRows, sameRows                       the first row that applies
+--   Said, ReadBack, ReadDeclined, Compared   what holds of each answer
 --   CheckOutcome, ReadOutcome, SameOutcome   what is answered, and what lent lists then hold
 --   verdictOf                                a record's verdict
 --   shortObeys, longObeys, isSample          the rules for a step; a step that leads to a sample
@@ -40,12 +42,12 @@ recordRow cause (faulty k) = Declined (cause k)
 recordRow cause (says x) = Fine
 
 -- 10: lists of m and n entries, which need one for each sample
-abbrev pub roomRow : ℕ → ℕ → Parsed → Checked
-roomRow m n (faulty k) = Fine
-roomRow m n (says x) = row (leb (length (x .ticks)) m && leb (length (x .ticks)) n) (Room (length (x .ticks)))
+abbrev pub outputsRow : ℕ → ℕ → Parsed → Checked
+outputsRow m n (faulty k) = Fine
+outputsRow m n (says x) = row (leb (length (x .ticks)) m && leb (length (x .ticks)) n) (Room (length (x .ticks)))
 
 abbrev pub readRows : List ℕ → ℕ → ℕ → Checked
-readRows b m n = recordRow Record (parse b) thenCheck roomRow m n (parse b)
+readRows b m n = recordRow Record (parse b) thenCheck outputsRow m n (parse b)
 
 abbrev pub sameRows : List ℕ → List ℕ → Checked
 sameRows a b = recordRow Record (parse a) thenCheck recordRow SecondRecord (parse b)

@@ -1,4 +1,5 @@
 // The program reduce: reads one record from standard input, treats its samples as a trace, and prints what walk, gallop and minimum keep of it.
+// Each printing function says whether all was written; what is cut off is reported on standard error.
 ghost use Prim.Native.Nat.{_≤_};
 use engine::Probed;
 use engine::Reduced;
@@ -6,13 +7,20 @@ use ratio::Ratio;
 use reader::Answer;
 use tolerance::Tolerance;
 
-fn print_sample(k: u16) {
-    io::write_all(1, b" ");
-    io::print_decimal(1, k as u64);
+fn print(word: &[u8]) -> bool {
+    io::write_all(1, word)
 }
 
-fn end_line() {
-    io::write_all(1, b"\n");
+fn print_number(n: u64) -> bool {
+    io::print_decimal(1, n)
+}
+
+fn print_sample(k: u16) -> bool {
+    print(b" ") && print_number(k as u64)
+}
+
+fn end_line() -> bool {
+    print(b"\n")
 }
 
 fn fewer(a: usize, b: usize) -> usize
@@ -22,87 +30,97 @@ fn fewer(a: usize, b: usize) -> usize
 }
 
 // Prints the first n samples of a list, a space before each, and ends the line.
-fn print_samples(list: &[u16], n: usize) {
+fn print_samples(list: &[u16], n: usize) -> bool {
     let end = fewer(n, list.len());
     let mut i = 0;
     while i < end {
-        print_sample(list[i]);
+        if !print_sample(list[i]) {
+            return false;
+        }
         i += 1;
     }
-    end_line();
+    end_line()
 }
 
-fn print_header(samples: usize, t: Ratio) {
-    io::write_all(1, b"samples ");
-    io::print_decimal(1, samples as u64);
-    io::write_all(1, b" tolerance ");
-    io::print_decimal(1, t.p);
-    io::write_all(1, b"/");
-    io::print_decimal(1, t.q);
-    io::write_all(1, b"\n");
+fn print_ratio(t: Ratio) -> bool {
+    print_number(t.p) && print(b"/") && print_number(t.q)
 }
 
-fn print_kept(kept: Reduced, list: &[u16]) {
+fn print_header(samples: usize, t: Ratio) -> bool {
+    print(b"samples ")
+        && print_number(samples as u64)
+        && print(b" tolerance ")
+        && print_ratio(t)
+        && end_line()
+}
+
+fn print_kept(kept: Reduced, list: &[u16]) -> bool {
     match kept {
-        Reduced::Kept(n) => {
-            io::print_decimal(1, n as u64);
-            print_samples(list, n);
-        }
-        Reduced::Refused(_) => {}
+        Reduced::Kept(n) => print_number(n as u64) && print_samples(list, n),
+        Reduced::Refused(_) => end_line(),
     }
 }
 
-fn print_probed(kept: Probed, list: &[u16]) {
+fn print_probed(kept: Probed, list: &[u16]) -> bool {
     match kept {
         Probed::Kept(g) => {
-            io::print_decimal(1, g.count as u64);
-            io::write_all(1, b" ");
-            io::print_decimal(1, g.probes as u64);
-            print_samples(list, g.count);
+            let count = g.count;
+            print_number(count as u64)
+                && print(b" ")
+                && print_number(g.probes as u64)
+                && print_samples(list, count)
         }
-        Probed::Refused(_) => {}
+        Probed::Refused(_) => end_line(),
     }
+}
+
+// What walk keeps of a trace, what gallop, and what minimum.
+fn print_walk(ticks: &[u32], values: &[i16], t: Ratio) -> bool {
+    let mut list = [0u16; 4096];
+    let kept = engine::walk::walk(ticks, values, Tolerance::Ratio(t.p, t.q), &mut list);
+    print(b"walk ") && print_kept(kept, &list)
+}
+
+fn print_gallop(ticks: &[u32], values: &[i16], t: Ratio) -> bool {
+    let mut list = [0u16; 4096];
+    let kept = engine::gallop::gallop(ticks, values, Tolerance::Ratio(t.p, t.q), &mut list);
+    print(b"gallop ") && print_probed(kept, &list)
+}
+
+fn print_minimum(ticks: &[u32], values: &[i16], t: Ratio) -> bool {
+    let mut list = [0u16; 4096];
+    let kept = engine::minimum::minimum(ticks, values, Tolerance::Ratio(t.p, t.q), &mut list);
+    print(b"minimum ") && print_kept(kept, &list)
+}
+
+fn print_reductions(ticks: &[u32], values: &[i16], t: Ratio) -> bool {
+    print_walk(ticks, values, t)
+        && print_gallop(ticks, values, t)
+        && print_minimum(ticks, values, t)
 }
 
 // What the reductions keep of the first n samples of both lists.
-fn print_first(ticks: &[u32], values: &[i16], n: usize, t: Ratio) {
+fn print_first(ticks: &[u32], values: &[i16], n: usize, t: Ratio) -> bool {
     let m = fewer(n, fewer(ticks.len(), values.len()));
-    print_reductions(&ticks[..m], &values[..m], t);
+    print_reductions(&ticks[..m], &values[..m], t)
 }
 
-// What the reductions keep of a trace.
-fn print_reductions(ticks: &[u32], values: &[i16], t: Ratio) {
-    let mut list = [0u16; 4096];
-    io::write_all(1, b"walk ");
-    let walked = engine::walk::walk(ticks, values, Tolerance::Ratio(t.p, t.q), &mut list);
-    print_kept(walked, &list);
-    io::write_all(1, b"gallop ");
-    let galloped = engine::gallop::gallop(ticks, values, Tolerance::Ratio(t.p, t.q), &mut list);
-    print_probed(galloped, &list);
-    io::write_all(1, b"minimum ");
-    let shortest = engine::minimum::minimum(ticks, values, Tolerance::Ratio(t.p, t.q), &mut list);
-    print_kept(shortest, &list);
-}
-
-fn print_record(bytes: &[u8]) {
+fn print_record(bytes: &[u8]) -> bool {
     let mut ticks = [0u32; 4096];
     let mut values = [0i16; 4096];
     let a = engine::read::read(bytes, &mut ticks, &mut values);
     match a {
-        Answer::Samples(n, t) => {
-            print_header(n, t);
-            print_first(&ticks, &values, n, t);
-        }
-        Answer::Refused(x) => {
-            io::write_all(1, b"refused 8 at ");
-            io::print_decimal(1, refusal::returned(x) as u64);
-            io::write_all(1, b"\n");
-        }
+        Answer::Samples(n, t) => print_header(n, t) && print_first(&ticks, &values, n, t),
+        Answer::Refused(x) => print(b"refused 8 at ")
+            && print_number(refusal::returned(x) as u64)
+            && end_line(),
     }
 }
 
 fn main() {
     let mut bytes = [0u8; 24590];
     let n = io::read_full(0, &mut bytes);
-    print_record(&bytes[..n]);
+    if !print_record(&bytes[..n]) {
+        io::write_all(2, b"reduce: the output is cut off\n");
+    }
 }

@@ -30,9 +30,6 @@ module _ (ts : List ℕ) (vs : List ℤ) (c : Criterion) where
   module _ (t : Trace ts vs) where
     -- any greedy list, however it was made
     module _ {l : List ℕ} (g : Greedy (valid ts vs c) (length ts - 1) l) where
-      pub greedy-fits : length l ≤ length ts
-      greedy-fits = omega (arith, kept-length (length ts - 1) l (g .kept), t .some)
-
       pub greedy-short : (h : List ℕ) → KeptList (length ts - 1) h → AllValid (valid ts vs (half c)) h → length l ≤ length h
       greedy-short = greedy-size (valid ts vs c) (length ts - 1) l g (valid ts vs (half c)) (halves (t .rising) vs c)
 

@@ -2,6 +2,7 @@
 --   numberOf, returnedOf    the columns "Number" and "Returned"
 --   row                     a row that applies unless its condition holds
 --   placed                  a row whose place is the result of a search
+--   roomRow                 row 10: an output of `room` entries where more are needed
 --   _thenCheck_             the first row that applies: checks are made in rising number
 -- Assumes nothing.
 use mathlib.Core.Path.{_≡_}
@@ -44,6 +45,9 @@ row false r = Refused r
 -- the first bad one of n is k; none is bad where k is n
 abbrev pub placed : (ℕ → Refusal) → ℕ → ℕ → Checked
 placed cause n k = row (leb n k) (cause k)
+
+abbrev pub roomRow : ℕ → ℕ → Checked
+roomRow needed room = row (leb needed room) (Room needed)
 
 infixr 20 _thenCheck_
 abbrev pub _thenCheck_ : Checked → Checked → Checked

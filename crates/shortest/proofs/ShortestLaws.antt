@@ -32,10 +32,6 @@ module _ (ts : List ℕ) (vs : List ℤ) (c : Criterion) where
   pub minimum-list : Minimum (valid ts vs c) (length ts - 1) (minimumList ts vs c)
   minimum-list = minimum-of _ _ (trace-steps ts vs c _)
 
-  -- it has at most as many samples as the trace
-  pub minimum-fits : 1 ≤ length ts → length (minimumList ts vs c) ≤ length ts
-  minimum-fits some = omega (arith, minimum-length (valid ts vs c) (length ts - 1) (trace-steps ts vs c (length ts - 1)))
-
 -- ---- the better of two ends
 
 module _ (x y : ℕ) (v : Bool) (j b : ℕ) where

@@ -1,4 +1,4 @@
--- Worked examples of `meaning`, each computed.
+-- Examples of `meaning`, each computed. Assumes nothing.
 use mathlib.Core.Path.{_≡_, refl}
 use mathlib.Core.Bool.{true, false}
 use lib.IntN.{pos, negsuc}

@@ -4,7 +4,10 @@
 --   Valid, valid    every sample between i and j does, as a proposition and computed
 --   linkError       the greatest deviation, in lowest terms; 0/1 where nothing lies between
 --   listError       the error of a list's worst link
---   Band            each side by itself, with a ratio of its own
+--   criterion, half   the criterion of a tolerance p/q; of half of it, p over 2q
+--   Bounded         the numbers of a criterion are those of an allowed tolerance
+--   above, below, Band   each side by itself, with a ratio of its own
+--   Linked          i to j is a link of a trace
 -- Laws are in Validity, Errors and Half. Assumes nothing.
 use Prim.Native.Nat.{ℕ, zero, suc, _+_, _-_, _*_, _≤_, _<_, max}
 use mathlib.Core.Bool.{Bool, true, false, _&&_}

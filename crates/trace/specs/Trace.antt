@@ -1,7 +1,8 @@
 -- Traces and their limits (document 01, "The trace and its links"), and the checks 1, 2 and 3 ("When the engine declines").
 --   tick, value      the tick and the value of sample k
 --   Rising, Trace    the limits, as one record
---   traceRows        the first of the rows 1, 2, 3 that applies to lent ticks and values
+--   lengthRow, tickRow, spanRow   rows 1, 2, 3
+--   traceRows        the first of them that applies to lent ticks and values
 -- Laws are in TraceLaws. Assumes nothing.
 use mathlib.Core.Path.{_≡_}
 use mathlib.Core.Bool.{Bool, _&&_}

@@ -23,7 +23,7 @@ use Rattle.refusal.specs.declared.Refusal.{Refusal}
 use Rattle.refusal.specs.declared.Refusal.the-variants.{Room}
 use Rattle.refusal.specs.declared.Checked.{Checked}
 use Rattle.refusal.specs.declared.Checked.the-variants.{Fine, Refused as Declined}
-use Rattle.refusal.specs.Table.{row}
+use Rattle.refusal.specs.Table.{roomRow}
 use Rattle.kept.specs.Kept.{KeptList}
 use Rattle.trace.specs.Trace.{tick, value, Trace}
 use Rattle.trace.specs.Level.{level, LevelOf}
@@ -53,7 +53,7 @@ selected r ts vs l = record { tolerance = r; ticks = keptTicks ts l; values = ke
 
 -- 10: a record in a buffer of m bytes, from a place on; a place past the end counts as an empty part
 abbrev pub writeRow : List ℕ → ℕ → ℕ → Checked
-writeRow b m place = row (leb (length b) (m - place)) (Room (length b))
+writeRow b m place = roomRow (length b) (m - place)
 
 -- n bytes were written: the record of x, from the place on, and read back they say x; other bytes keep their values
 pub record WrittenAt (x : Content) (o : List ℕ) (place n : ℕ) (o′ : List ℕ) : Type 0 where

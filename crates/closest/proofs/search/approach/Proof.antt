@@ -11,7 +11,7 @@ abbrev Inv-loop : tie.InvT-loop
 Inv-loop ticks values m low₀ high₀ turn₀ low high turn = Narrowed ticks values m high₀ (record { low = low; high = high })
 
 abbrev μ-loop : tie.MeasureT-loop
-μ-loop ticks values m low₀ high₀ turn₀ low high turn = 44 - turn
+μ-loop ticks values m low₀ high₀ turn₀ low high turn = 24 - turn
 
 loop-holds : tie.Need-loop-holds Inv-loop μ-loop
 loop-holds c = narrowed-none (record { positive = omega arith; q-bound = omega arith; p-bound = omega arith }) (c .before .pre .1)

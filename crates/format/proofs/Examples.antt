@@ -1,4 +1,4 @@
--- The record's figures (document 01, "Figures to reproduce"), computed, and each place of a fault.
+-- Examples of records, computed: how one is parsed, which steps are short, and each place of a fault.
 -- Assumes nothing.
 use mathlib.Core.Path.{_≡_, refl}
 use mathlib.Core.Bool.{true, false}
@@ -12,31 +12,27 @@ use Rattle.format.specs.Command.{commandOf}
 use Rattle.format.specs.Format.{Content, allowed, short, shortStep, longStep, endStep, steps, faulty, says, parse, stepsOnto, samplesOnto, encode}
 
 -- samples 0 and 2 of ticks 0 1 3 and values 0 1 1, at 2/3
-abbrev pub kept : Content
+abbrev kept : Content
 kept = record { tolerance = record { p = 2; q = 3 }; ticks = 0 ∷ 3 ∷ []; values = pos 0 ∷ pos 1 ∷ [] }
 
-abbrev pub figure : List ℕ
+abbrev figure : List ℕ
 figure = 0x54 ∷ 0x00 ∷ 0x00 ∷ 0x00 ∷ 0x00 ∷ 0x02 ∷ 0x00 ∷ 0x00 ∷ 0x03 ∷ 0x41 ∷ 0x00 ∷ 0x00 ∷ 0x00 ∷ 0x00 ∷ 0x00 ∷ 0x00 ∷ 0x53 ∷ 0x03 ∷ 0x01 ∷ 0x45 ∷ 0x00 ∷ 0x02 ∷ []
 
-pub written : encode kept ≡ figure
-unfolding encode samplesOnto stepsOnto bytesOnto
-written = refl
-
-pub parsed : parse figure ≡ says kept
+parsed : parse figure ≡ says kept
 unfolding parse steps shortStep longStep endStep commandOf allowed gcd numberFrom valueOf
 parsed = refl
 
 -- steps 255/+127 and 255/-128 are short; 256/0 and 1/+128 are long
-pub short-up : short 32768 255 32895 ≡ true
+short-up : short 32768 255 32895 ≡ true
 short-up = refl
 
-pub short-down : short 32768 255 32640 ≡ true
+short-down : short 32768 255 32640 ≡ true
 short-down = refl
 
-pub long-advance : short 32768 256 32768 ≡ false
+long-advance : short 32768 256 32768 ≡ false
 long-advance = refl
 
-pub long-change : short 32768 1 32896 ≡ false
+long-change : short 32768 1 32896 ≡ false
 long-change = refl
 
 -- faults: an empty record
