@@ -131,9 +131,10 @@ typedef struct row {
 
 static row rows[COUNT(KINDS) * COUNT(TOLERANCES)];
 
+/* Nanoseconds of processor time, so that other load counts little. */
 static double now(void) {
   struct timespec time;
-  clock_gettime(CLOCK_MONOTONIC, &time);
+  clock_gettime(CLOCK_PROCESS_CPUTIME_ID, &time);
   return 1e9 * (double)time.tv_sec + (double)time.tv_nsec;
 }
 
@@ -333,6 +334,132 @@ static void print_records(void) {
   }
 }
 
+/* ---- Least ---- */
+
+enum { FEW = 256, LEAST_REPETITIONS = 9 };
+
+/* Parts of the traces above, plateaus, and a trace whose link errors differ by little. */
+static const char *const FEW_KINDS[] = {"pulse", "noise",   "ramp", "zigzag",
+                                        "spike", "plateau", "near"};
+static const size_t ALLOWANCES[] = {2, 3, 5, 10, 20, 50, 100, 200, 255, 256};
+
+static uint32_t few_ticks[COUNT(FEW_KINDS)][FEW];
+static int16_t few_values[COUNT(FEW_KINDS)][FEW];
+
+/* Ticks at distances near powers of 2 and values 0 and 1, with high samples beside low ones at both
+ * ends and in the middle. */
+static void make_near(uint32_t *tick, int16_t *value) {
+  static const int spikes[] = {1, FEW / 2, FEW - 3};
+  size_t k;
+  for (k = 0; k < FEW; k++) {
+    int power = 1 << (6 + within(6));
+    tick[k] = k == 0 ? 0 : tick[k - 1] + (uint32_t)(power + within(power / 4));
+    value[k] = (int16_t)(within(1) > 0);
+  }
+  for (k = 0; k < COUNT(spikes); k++) {
+    value[spikes[k]] = 10000;
+    value[spikes[k] + 1] = -10000;
+  }
+}
+
+static void make_few(void) {
+  size_t kind, k, from = 0;
+  while (from < SAMPLES - FEW && values[0][from + FEW / 4] < 2000) from++;
+  for (kind = 0; kind < COUNT(FEW_KINDS); kind++) {
+    for (k = 0; k < FEW; k++) {
+      few_ticks[kind][k] = ticks[k];
+      few_values[kind][k] = (int16_t)(500 * (k / 32 % 3));
+      if (kind < COUNT(KINDS)) few_values[kind][k] = values[kind][from + k];
+    }
+  }
+  make_near(few_ticks[COUNT(FEW_KINDS) - 1], few_values[COUNT(FEW_KINDS) - 1]);
+}
+
+static least_found library_least(const uint32_t *tick, const int16_t *value, size_t n, size_t m,
+                                 uint16_t *out) {
+  kovrelna_closest closest = kovrelna_least(tick, n, value, n, m, out, n);
+  least_found found = {(size_t)closest.value, (int64_t)closest.p, (int64_t)closest.q, 0};
+  if (closest.number != 0) fail("the library refused a trace");
+  return found;
+}
+
+enum { LEAST, LEAST_C, LEASTS };
+
+static const struct {
+  const char *name;
+  least_found (*call)(const uint32_t *, const int16_t *, size_t, size_t, uint16_t *);
+} LEASTER[LEASTS] = {{"kovrelna_least", library_least}, {"least_c", least_c}};
+
+static least_found call_least(int x, size_t kind, size_t m) {
+  return LEASTER[x].call(few_ticks[kind], few_values[kind], FEW, m, lists[x]);
+}
+
+/* Milliseconds of each, their ratio, and the lists that the search found by minimum. */
+typedef struct least_row {
+  double times[LEASTS], ratio;
+  unsigned runs;
+} least_row;
+
+static least_row measure_least(size_t kind, size_t m) {
+  double list[LEASTS][LEAST_REPETITIONS];
+  least_found found[LEASTS];
+  least_row row;
+  int repetition, x;
+  for (repetition = 0; repetition < LEAST_REPETITIONS; repetition++) {
+    for (x = 0; x < LEASTS; x++) {
+      double start = now();
+      found[x] = call_least(x, kind, m);
+      list[x][repetition] = 1e-6 * (now() - start);
+    }
+  }
+  if (found[LEAST].kept != found[LEAST_C].kept || found[LEAST].p != found[LEAST_C].p ||
+      found[LEAST].q != found[LEAST_C].q ||
+      memcmp(lists[LEAST], lists[LEAST_C], found[LEAST].kept * sizeof(uint16_t)) != 0)
+    fail("least and its peer differ");
+  for (x = 0; x < LEASTS; x++) row.times[x] = median_of(list[x], NULL, LEAST_REPETITIONS);
+  row.ratio = median_of(list[LEAST], list[LEAST_C], LEAST_REPETITIONS);
+  row.runs = found[LEAST_C].runs;
+  return row;
+}
+
+/* The median and the greatest of some numbers. */
+typedef struct spread {
+  double typical, worst;
+} spread;
+
+static spread spread_of(double *list, size_t count) {
+  spread s;
+  qsort(list, count, sizeof(double), order);
+  s.typical = list[count / 2];
+  s.worst = list[count - 1];
+  return s;
+}
+
+static void print_least(void) {
+  double times[LEASTS][COUNT(ALLOWANCES)], ratios[COUNT(ALLOWANCES)], runs[COUNT(ALLOWANCES)];
+  size_t kind, m;
+  int x;
+  printf("\nleast, %d samples, allowances 2 to %d: median and worst of them. Milliseconds a call;\n"
+         "runs: the lists that the search finds by minimum.\n"
+         "         kovrelna   worst       C   worst   ratio   worst    runs   worst\n",
+         FEW, FEW);
+  for (kind = 0; kind < COUNT(FEW_KINDS); kind++) {
+    spread s[4];
+    for (m = 0; m < COUNT(ALLOWANCES); m++) {
+      least_row row = measure_least(kind, ALLOWANCES[m]);
+      for (x = 0; x < LEASTS; x++) times[x][m] = row.times[x];
+      ratios[m] = row.ratio;
+      runs[m] = row.runs;
+    }
+    for (x = 0; x < LEASTS; x++) s[x] = spread_of(times[x], COUNT(ALLOWANCES));
+    s[2] = spread_of(ratios, COUNT(ALLOWANCES));
+    s[3] = spread_of(runs, COUNT(ALLOWANCES));
+    printf("%-8s %8.2f %7.2f %7.2f %7.2f %7.2f %7.2f %7.0f %7.0f\n", FEW_KINDS[kind],
+           s[0].typical, s[0].worst, s[1].typical, s[1].worst, s[2].typical, s[2].worst,
+           s[3].typical, s[3].worst);
+  }
+}
+
 /* ---- Tables ---- */
 
 static void print_times(void) {
@@ -340,7 +467,7 @@ static void print_times(void) {
   const double milliseconds = 1e-6 * SAMPLES; /* of a call with 1 nanosecond a sample */
   printf("Traces of %d samples. Times are nanoseconds a sample, for minimum milliseconds a call:\n"
          "medians of %d repetitions in turn, for minimum %d. Ratios are of the same repetition.\n"
-         "Times depend on the machine and its load.\n"
+         "Times are of the processor, and depend on the machine.\n"
          "C: %s (%s)\n",
          SAMPLES, REPETITIONS, SLOW_REPETITIONS, FLAGS, __VERSION__);
   printf("\nwalk     tolerance    kept  kovrelna       C   ratio\n");
@@ -397,6 +524,7 @@ int main(int argc, char **argv) {
   size_t kind, t;
   int x;
   make_traces();
+  make_few();
   if (argc == 4 && strcmp(argv[1], "once") == 0) {
     static kept_record record;
     for (kind = 0; kind < COUNT(KINDS); kind++) {
@@ -408,6 +536,8 @@ int main(int argc, char **argv) {
         make_record(&record, kind, 1, x == WRITE_C ? library_write : plain_write);
         RECORDER[x].call(&record);
       }
+      for (x = 0; x < LEASTS; x++)
+        if (strcmp(argv[3], LEASTER[x].name) == 0) call_least(x, kind, 20);
     }
     return 0;
   }
@@ -419,6 +549,7 @@ int main(int argc, char **argv) {
     for (t = 0; t < COUNT(TOLERANCES); t++)
       measure(&rows[kind * COUNT(TOLERANCES) + t], kind, TOLERANCES[t]);
   print_times();
+  print_least();
   print_records();
   puts("");
   print_kept();

@@ -6,18 +6,31 @@ if ! command -v valgrind >/dev/null; then
   exit 0
 fi
 kinds="pulse noise ramp zigzag spike"
+
+# table SAMPLES CALL..
+table() {
+  samples=$1
+  shift
+  printf '%-16s' ''
+  printf ' %10s' $kinds
+  echo
+  for call in "$@"; do
+    for function in "kovrelna_$call" "${call}_c"; do
+      printf '%-16s' "$function"
+      for kind in $kinds; do
+        valgrind --tool=callgrind --callgrind-out-file=/dev/null --toggle-collect="$function" \
+          "$bench" once "$kind" "$function" 2>&1 |
+          awk -v samples="$samples" '/Collected/ { printf " %10.1f", $NF / samples }'
+      done
+      echo
+    done
+  done
+}
+
+bench=$1
 echo
 echo "Instructions a sample, whole call, 4096 samples, tolerance 7.50; records and lists of all samples"
-printf '%-16s' ''
-printf ' %10s' $kinds
+table 4096 walk gallop minimum write read judge expand
 echo
-for call in walk gallop minimum write read judge expand; do
-  for function in "kovrelna_$call" "${call}_c"; do
-    printf '%-16s' "$function"
-    for kind in $kinds; do
-      valgrind --tool=callgrind --callgrind-out-file=/dev/null --toggle-collect="$function" \
-        "$1" once "$kind" "$function" 2>&1 | awk '/Collected/ { printf " %10.1f", $NF / 4096 }'
-    done
-    echo
-  done
-done
+echo "Instructions a sample, whole call, 256 samples, allowance 20"
+table 256 least

@@ -199,6 +199,130 @@ reduced douglas_peucker_c(const uint32_t *ticks, const int16_t *values, size_t n
   return answer;
 }
 
+/* The fraction p/q, q from 1 to SPAN. */
+typedef struct fraction {
+  int64_t p, q;
+} fraction;
+
+static int at_most(fraction x, fraction y) { return x.p * y.q <= y.p * x.q; }
+
+static fraction lowest(int64_t p, int64_t q) {
+  int64_t a = p, b = q;
+  fraction x;
+  while (b != 0) {
+    int64_t rest = a % b;
+    a = b;
+    b = rest;
+  }
+  x.p = p / a;
+  x.q = q / a;
+  return x;
+}
+
+/* The most turns k with k v at most u and k by at most room. */
+static int64_t turns(int64_t u, int64_t v, int64_t room, int64_t by) {
+  int64_t most = room / by;
+  if (v == 0) return most;
+  return u / v < most ? u / v : most;
+}
+
+/* The nearest fractions around p/q, p from 1: left below it, right not below it. */
+static void neighbours(int64_t p, int64_t q, fraction *left, fraction *right) {
+  int64_t whole = (p - 1) / q, under = (p - 1) % q + 1, above = q - under;
+  fraction l = {whole, 1}, r = {whole + 1, 1};
+  while (l.q + r.q <= SPAN) {
+    if (above < under) {
+      int64_t k = turns(under - 1, above, SPAN - l.q, r.q);
+      l.p += k * r.p;
+      l.q += k * r.q;
+      under -= k * above;
+    } else {
+      int64_t k = turns(above, under, SPAN - r.q, l.q);
+      r.p += k * l.p;
+      r.q += k * l.q;
+      above -= k * under;
+    }
+  }
+  *left = l;
+  *right = r;
+}
+
+static fraction link_error(const uint32_t *ticks, const int16_t *values, size_t i, size_t j) {
+  int64_t run = ticks[j] - (int64_t)ticks[i], change = values[j] - values[i], greatest = 0;
+  size_t k;
+  for (k = i + 1; k < j; k++) {
+    int64_t rise = values[k] - values[i];
+    int64_t deviation = rise * run - change * (ticks[k] - (int64_t)ticks[i]);
+    if (deviation < 0) deviation = -deviation;
+    if (deviation > greatest) greatest = deviation;
+  }
+  return lowest(greatest, run);
+}
+
+/* A trace with the allowance, the list tried last, and the number of lists tried. */
+typedef struct search {
+  const uint32_t *ticks;
+  const int16_t *values;
+  size_t n, m;
+  uint16_t *out;
+  unsigned runs;
+} search;
+
+/* Whether the minimum's list at x has at most m samples; x is then its error. */
+static int fits(search *s, fraction *x) {
+  size_t kept = minimum_c(s->ticks, s->values, s->n, x->p, x->q, s->out).kept, k;
+  fraction worst = {0, 1};
+  s->runs++;
+  if (kept > s->m) return 0;
+  for (k = 1; k < kept; k++) {
+    fraction error = link_error(s->ticks, s->values, s->out[k - 1], s->out[k]);
+    if (at_most(worst, error)) worst = error;
+  }
+  *x = worst;
+  return 1;
+}
+
+/* Tries a tolerance next to the middle. */
+static void halve(search *s, fraction *low, fraction *high) {
+  fraction left, right, x;
+  if (high->p == 0) return;
+  neighbours(low->p * high->q + high->p * low->q, 2 * low->q * high->q, &left, &right);
+  x = at_most(left, *low) ? right : left;
+  if (at_most(*high, x)) return;
+  if (fits(s, &x))
+    *high = x;
+  else
+    *low = x;
+}
+
+/* Whether the two are at most 1/64 apart. */
+static int is_narrow(fraction low, fraction high) {
+  return 64 * high.p * low.q <= 64 * low.p * high.q + low.q * high.q;
+}
+
+least_found least_c(const uint32_t *ticks, const int16_t *values, size_t n, size_t m,
+                    uint16_t *out) {
+  search s = {ticks, values, n, m, out, 0};
+  fraction low = {0, 1}, high = {0, 1};
+  least_found found = {0, 0, 0, 0};
+  int turn;
+  if (n > 256 || !is_trace(ticks, n)) return found;
+  if (!fits(&s, &high)) high = link_error(ticks, values, 0, n - 1);
+  for (turn = 0; turn < 44 && !is_narrow(low, high); turn++) halve(&s, &low, &high);
+  while (high.p > 0) {
+    fraction x, right;
+    neighbours(high.p, high.q, &x, &right);
+    if (!fits(&s, &x)) break;
+    high = x;
+    halve(&s, &low, &high);
+  }
+  found.kept = minimum_c(ticks, values, n, high.p, high.q, out).kept;
+  found.p = high.p;
+  found.q = high.q;
+  found.runs = s.runs + 1;
+  return found;
+}
+
 static int is_list(const uint16_t *list, size_t kept, size_t n) {
   size_t k;
   if (kept == 0 || list[0] != 0 || list[kept - 1] != n - 1) return 0;

@@ -35,6 +35,20 @@ reduced minimum_c_nostop(const uint32_t *ticks, const int16_t *values, size_t n,
 reduced douglas_peucker_c(const uint32_t *ticks, const int16_t *values, size_t n, int64_t p,
                           int64_t q, uint16_t *out);
 
+/* The kept number, 0 if the trace is refused, the least error in lowest terms, and how many lists
+ * the search for it found by minimum. */
+typedef struct least_found {
+  size_t kept;
+  int64_t p, q;
+  unsigned runs;
+} least_found;
+
+/* Least, for up to 256 samples and an allowance m of 2 or more: halves an interval of tolerances,
+ * each a fraction of a denominator up to 1,048,575 and tried by its minimum's list, then goes down
+ * to an error such that no list fits at the greatest such fraction below it. */
+least_found least_c(const uint32_t *ticks, const int16_t *values, size_t n, size_t m,
+                    uint16_t *out);
+
 /* Whether the list is a kept list of the trace and each link is valid. */
 int judge_c(const uint32_t *ticks, const int16_t *values, size_t n, const uint16_t *list,
             size_t kept, int64_t p, int64_t q);

@@ -17,11 +17,11 @@ use Rattle.trace.specs.declared.Edge.{Edge}
 use Rattle.trace.specs.declared.Cone.{Cone}
 use Rattle.trace.specs.Trace.{Trace}
 use Rattle.trace.specs.Link.{Linked, Bounded, valid}
-use Rattle.trace.specs.Edge.{middle, StartAt, EdgeTo, Slope, Tilt, noSteeper, lowered, raised}
+use Rattle.trace.specs.Edge.{middle, edgeOf, StartAt, EdgeTo, Slope, Tilt, noSteeper, lowered, raised}
 use Rattle.trace.specs.Cone.{coneFrom, admitsEdge, extendedBy, ConeFits}
 use Rattle.trace.proofs.EdgeLaws.{edge-at, tilts, tilt-slope, low-test, high-test}
 use Rattle.trace.proofs.Validity.{true-valid, not-above, not-below}
-use Rattle.trace.proofs.ConeLaws.{takes-none, takes-more, takes-admits}
+use Rattle.trace.proofs.ConeLaws.{low-none, high-none, takes-none, takes-more, takes-admits}
 use Rattle.reduction.specs.declared.Links.{Links}
 use Rattle.reduction.specs.Outgoing.{TakenIn, Next, Later}
 
@@ -75,26 +75,6 @@ module _ {ts : List ℕ} {vs : List ℤ} {c : Criterion} {j : ℕ} {l : Links} {
 
   pub next-taken : {cone : Cone} → cone ≡ extendedBy (l .cone) to (c .p) → ConeFits cone → TakenIn ts vs c (l .from .sample) (j + 1) (record { from = l .from; cone = cone })
   next-taken e f = record { start = n .taken .start; takes = rw e (takes-more link (n .bounded) (n .taken .takes) h); fits = f }
-
--- an edge without ticks, which bounds nothing
-module _ (e to : Edge) (p : ℕ) (none : e .run ≡ 0) (flat : e .rise ≡ middle) where
-  low-none : noSteeper (lowered e p) to ≡ true
-  low-none =
-      let l : e .rise - p ≤ middle = omega arith in
-      le-leb ((e .rise - p) * to .run + middle * e .run) (to .rise * e .run + middle * to .run)
-      (omega (arith, mul-le-mul-right (to .run) l, ap (λ (n : ℕ). to .rise * n) none))
-
-  high-none : noSteeper to (raised e p) ≡ true
-  high-none = le-leb (to .rise * e .run + middle * to .run) ((e .rise + p) * to .run + middle * e .run)
-      (omega (arith, ap (λ (n : ℕ). to .rise * n) none, ap (λ (n : ℕ). n * to .run) flat))
-
--- one sample alone holds both sides of the cone
-module _ (to : Edge) (p : ℕ) where
-  abbrev itself : Edge
-  itself = record { rise = middle; run = 0 }
-
-  pub first-cone : {low high : Edge} → low ≡ lowered to p → high ≡ raised to p → record { low = low; high = high } ≡ extendedBy (coneFrom p) to p
-  first-cone e f = rw (low-none itself (lowered to p) p refl refl, high-none itself (raised to p) p refl refl, e, f)
 
 -- the edge from a sample to itself
 module _ {ts : List ℕ} {vs : List ℤ} {q i k : ℕ} {e : Edge} (h : EdgeTo ts vs q i k e) (same : i ≡ k) where

@@ -5,19 +5,14 @@ ghost use Prim.Native.Nat.{_+_, _<_};
 ghost use lib.ListN.{length};
 ghost use Rattle.trace.specs.Trace.{Trace};
 ghost use Rattle.trace.specs.Link.{Bounded, valid};
-ghost use Rattle.trace.specs.Edge.{Tilt};
-ghost use Rattle.trace.specs.Cone.{coneFrom, extendedBy, ConeFits};
 ghost use Rattle.reduction.specs.Outgoing.{TakenIn, Next, Later};
 use crate::Links;
-use trace::Cone;
 use trace::Criterion;
-use trace::Edge;
 use trace::cones::admits;
 use trace::cones::cone_from;
+use trace::cones::cone_of;
 use trace::cones::extended;
 use trace::edges::edge_to;
-use trace::edges::lower_by;
-use trace::edges::raise_by;
 use trace::edges::start_at;
 
 // The links from sample i, with nothing taken in.
@@ -30,16 +25,6 @@ pub fn links_at(ticks: &[u32], values: &[i16], c: Criterion, i: usize) -> Links
         from,
         cone: cone_from(c.p),
     }
-}
-
-// The cone that has taken in one sample, that of the edge `to`.
-fn cone_of(to: Edge, p: u64) -> Cone
-    requires { ⌜ Tilt to p ⌝ }
-    ensures { λ r. ⌜ (r ≡ extendedBy (coneFrom p) to p) × ConeFits r ⌝ }
-{
-    let low = lower_by(to, p);
-    let high = raise_by(to, p);
-    Cone { low, high }
 }
 
 // The links from sample i, with the next sample taken in.

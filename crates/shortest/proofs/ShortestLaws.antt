@@ -1,13 +1,15 @@
 -- Laws of the minimum of a trace, and of the scan over the ends of the links from one sample. `Scanning` is the invariant of the scan's loop.
 -- Assumes nothing.
-use mathlib.Core.Path.{_≡_}
-use mathlib.Core.Bool.{Bool, true, false}
+use mathlib.Core.Path.{_≡_, refl, sym, ap, _∙_}
+use mathlib.Core.Bool.{Bool, true, false, _&&_}
 use mathlib.Core.List.{List}
 use Prim.Native.Nat.{ℕ, _+_, _-_, _≤_, _<_}
 use native.Mathlib.Omega.{arith}
 use lib.IntN.{ℤ}
+use lib.Dec.{leb}
 use lib.ListN.{length, getD}
 use borrow.Author.Tests.{le-leb, lt-leb}
+use Rattle.lists.proofs.Tests.{by-test}
 use Rattle.kept.specs.Minimum.{StepsTo, Minimum, linksOf, nextOf}
 use Rattle.kept.proofs.MinimumLaws.{minimum-of, minimum-length, Choosing, choosing-none, choosing-more, chosen}
 use Rattle.trace.specs.declared.Criterion.{Criterion}
@@ -18,7 +20,7 @@ use Rattle.trace.specs.Link.{Linked, valid}
 use Rattle.trace.specs.Edge.{StartAt, EdgeTo, Reach, Slope, Tilt, noSteeper}
 use Rattle.trace.specs.Cone.{coneFrom, admitsEdge, extendedBy, ConeFits, Takes}
 use Rattle.trace.proofs.Validity.{steps-valid}
-use Rattle.trace.proofs.EdgeLaws.{reach, edge-at, tilts, tilt-slope}
+use Rattle.trace.proofs.EdgeLaws.{reach, edge-at, tilts, edge-slope, tilt-slope}
 use Rattle.trace.proofs.ConeLaws.{takes-none, takes-more, takes-admits}
 use Rattle.trace.proofs.EmptyCone.{empty-invalid}
 use Rattle.shortest.specs.Shortest.{minimumList, betterEnd, Scan}
@@ -43,9 +45,14 @@ module _ (x y : ℕ) (v : Bool) (j b : ℕ) where
   unfolding betterEnd
   better-valid h e = rw (le-leb x y h, e)
 
-  pub better-invalid : x ≤ y → v ≡ false → b ≡ betterEnd x y v j b
+  better-invalid : v ≡ false → b ≡ betterEnd x y v j b
   unfolding betterEnd
-  better-invalid h e = rw (le-leb x y h, e)
+  better-invalid e = by-test (leb x y) (λ h. rw (h, e)) (λ h. rw h)
+
+  -- both ends are the same
+  better-alone : j ≡ betterEnd x y v j j
+  unfolding betterEnd
+  better-alone = by-test (leb x y && v) (λ h. rw h) (λ h. rw h)
 
 -- ---- the scan from one sample
 
@@ -57,13 +64,23 @@ pub record Scanning (ts : List ℕ) (vs : List ℤ) (c : Criterion) (i : ℕ) (c
   pub to : j ≤ length ts
 
 module _ {ts : List ℕ} {vs : List ℤ} {c : Criterion} {links : List ℕ} {i : ℕ} (s : Scan ts vs c links i) where
-  pub scanning-none : {st : Start} {cone : Cone} → StartAt ts vs (c .q) i st → (cone ≡ coneFrom (c .p)) × ConeFits cone → Scanning ts vs c i cone (i + 1) (i + 1)
-  scanning-none st h = record { choosing = choosing-none; takes = rw (h .0) (takes-none st); fits = h .1; to = omega (arith, s .inside) }
+  pub scanning-none : {st : Start} → StartAt ts vs (c .q) i st → Scanning ts vs c i (coneFrom (c .p)) (i + 1) (i + 1)
+  scanning-none st =
+      let p : c .p ≤ 68718362625 = omega (arith, s .bounded .p-bound, s .bounded .q-bound) in
+      record {
+        choosing = choosing-none;
+        takes = takes-none st;
+        fits = record { low-fits = edge-slope refl (omega arith) (omega arith); high-fits = edge-slope refl (omega arith) (omega arith) };
+        to = omega (arith, s .inside);
+      }
 
   -- the next end j, by the edge to it
   module _ {cone : Cone} {b j : ℕ} {st : Start} (g : Scanning ts vs c i cone b j) (jn : j ≤ length ts - 1) (at : StartAt ts vs (c .q) i st) where
     inside : j < length ts
     inside = omega (arith, s .trace .some)
+
+    pub ends-room : (b < length links) × (j < length links)
+    ends-room = let room = s .counted .links-room in (omega (arith, g .choosing .before), omega arith)
 
     pub edge-requires : Reach ts vs (c .q) st j
     edge-requires = reach at (s .trace) (omega (arith, g .choosing .from)) inside (s .bounded .q-bound)
@@ -72,15 +89,13 @@ module _ {ts : List ℕ} {vs : List ℤ} {c : Criterion} {links : List ℕ} {i :
       pub end-tilt : Tilt to (c .p)
       end-tilt = tilts (edge-at at edge) (s .trace) (omega (arith, g .choosing .from)) inside (s .bounded .q-bound) (s .bounded .p-bound)
 
-      pub choice-requires : (b < length links) × (j < length links) × ConeFits cone × Slope to
-      choice-requires =
-          let room = s .counted .links-room in
-          (omega (arith, g .choosing .before), omega arith, g .fits, tilt-slope end-tilt)
+      pub end-slope : Slope to
+      end-slope = tilt-slope end-tilt
 
       link : Linked ts vs i j
       link = record { trace = s .trace; forward = g .choosing .from; inside = inside }
 
-      pub scanning-more : {r : ℕ} {next : Cone} → r ≡ betterEnd (getD links j 0) (getD links b 0) (admitsEdge cone to) j b
+      scanning-more : {r : ℕ} {next : Cone} → r ≡ betterEnd (getD links j 0) (getD links b 0) (admitsEdge cone to) j b
           → (next ≡ extendedBy cone to (c .p)) × ConeFits next → Scanning ts vs c i next r (j + 1)
       unfolding betterEnd
       scanning-more e h =
@@ -92,6 +107,18 @@ module _ {ts : List ℕ} {vs : List ℤ} {c : Criterion} {links : List ℕ} {i :
             fits = h .1;
             to = omega (arith, inside);
           }
+
+      module _ {next : Cone} (h : (next ≡ extendedBy cone to (c .p)) × ConeFits next) where
+        pub scanning-valid : {v : Bool} {r : ℕ} → v ≡ admitsEdge cone to → v ≡ true → r ≡ betterEnd (getD links j 0) (getD links b 0) true j b → Scanning ts vs c i next r (j + 1)
+        scanning-valid a t e = scanning-more (e ∙ ap (λ (x : Bool). betterEnd (getD links j 0) (getD links b 0) x j b) (sym t ∙ a)) h
+
+        pub scanning-invalid : {v : Bool} → v ≡ admitsEdge cone to → v ≡ false → Scanning ts vs c i next b (j + 1)
+        scanning-invalid a f = scanning-more (better-invalid _ _ _ j b (sym a ∙ f)) h
+
+  -- the first end, whose link is valid
+  pub scanning-first : {st : Start} {to : Edge} {next : Cone} → (at : StartAt ts vs (c .q) i st) → EdgeTo ts vs (c .q) (st .sample) (i + 1) to
+      → (next ≡ extendedBy (coneFrom (c .p)) to (c .p)) × ConeFits next → Scanning ts vs c i next (i + 1) (i + 1 + 1)
+  scanning-first at edge h = scanning-more (scanning-none at) (omega (arith, s .inside)) at edge (better-alone _ _ _ (i + 1) (i + 1)) h
 
   module _ {cone : Cone} {b j : ℕ} (g : Scanning ts vs c i cone b j) where
     scanned : ((e : ℕ) → j ≤ e → e ≤ length ts - 1 → valid ts vs c i e ≡ false) → b ≡ nextOf (valid ts vs c) (length ts - 1) i

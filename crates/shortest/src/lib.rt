@@ -1,69 +1,64 @@
 // The reduction minimum: the shortest kept list of valid links, and of several the latest.
 ghost use mathlib.Core.Path.{_≡_};
-ghost use mathlib.Core.Bool.{not, _&&_};
+ghost use mathlib.Core.Bool.{true, not};
 ghost use Prim.Native.Nat.{_+_, _-_, _≤_, _<_};
-ghost use lib.Dec.{ltb};
 ghost use lib.ListN.{length, getD};
 ghost use Rattle.lists.specs.Overwrite.{overwrite};
 ghost use Rattle.kept.specs.Stops.{listBy};
 ghost use Rattle.kept.specs.Minimum.{nextOf};
 ghost use Rattle.trace.specs.Trace.{Trace};
 ghost use Rattle.trace.specs.Link.{Bounded, valid};
-ghost use Rattle.trace.specs.Edge.{noSteeper, Slope};
-ghost use Rattle.trace.specs.Cone.{admitsEdge, ConeFits};
+ghost use Rattle.trace.specs.Edge.{noSteeper};
+ghost use Rattle.trace.specs.Cone.{ConeFits};
 ghost use Rattle.shortest.specs.Shortest.{minimumList, Planned, Onward, betterEnd, Scan};
 use trace::Cone;
 use trace::Criterion;
-use trace::Edge;
 use trace::cones::admits;
-use trace::cones::cone_from;
+use trace::cones::cone_of;
 use trace::cones::extended;
 use trace::edges::edge_to;
 use trace::edges::no_steeper;
 use trace::edges::start_at;
 
-// The better of two ends: j, of the edge `to`, if its link is valid and no more links lead on from it than from b; otherwise b.
-fn better(links: &[u16], b: usize, j: usize, cone: Cone, to: Edge) -> usize
-    requires { ⌜ (b < length (now links)) × (j < length (now links)) × ConeFits cone × Slope to ⌝ }
-    ensures { λ r. ⌜ r ≡ betterEnd (getD (now (links .entry)) j 0) (getD (now (links .entry)) b 0) (admitsEdge cone to) j b ⌝ }
+// The better of two ends of valid links: j if no more links lead on from it than from b; otherwise b.
+fn better(links: &[u16], b: usize, j: usize) -> usize
+    requires { ⌜ (b < length (now links)) × (j < length (now links)) ⌝ }
+    ensures { λ r. ⌜ r ≡ betterEnd (getD (now (links .entry)) j 0) (getD (now (links .entry)) b 0) true j b ⌝ }
 {
-    if links[b] < links[j] {
-        return b;
-    }
-    if admits(cone, to) { j } else { b }
+    if links[b] < links[j] { b } else { j }
 }
 
-// Whether a scan that has taken in j, with b its best end, may stop: the cone is empty, as its low edge is steeper than its high one.
-// Where b is j it is not tested: the direction of j passes every sample taken in.
-fn may_stop(cone: Cone, b: usize, j: usize) -> bool
+// Whether the cone is empty: its low edge is steeper than its high one.
+fn is_empty(cone: Cone) -> bool
     requires { ⌜ ConeFits cone ⌝ }
-    ensures { λ r. ⌜ r ≡ (ltb b j && not (noSteeper (cone .low) (cone .high))) ⌝ }
+    ensures { λ r. ⌜ r ≡ not (noSteeper (cone .low) (cone .high)) ⌝ }
 {
-    if j <= b {
-        return false;
-    }
     let low = cone.low;
     let high = cone.high;
     !no_steeper(low, high)
 }
 
-// The latest next sample of a shortest list from sample i, by one scan over the ends j of its links with one cone.
+// The latest next sample of a shortest list from sample i, by one scan over the ends j of its links with one cone. The scan stops where
+// the cone is empty, which it is not where the link to j is valid.
 fn next_stop(ticks: &[u32], values: &[i16], c: Criterion, links: &[u16], i: usize) -> usize
     requires { ⌜ Scan (now ticks) (now values) c (now links) i ⌝ }
     ensures { λ r. ⌜ r ≡ nextOf (valid (now (ticks .entry)) (now (values .entry)) c) (length (now (ticks .entry)) - 1) i ⌝ }
 {
     let last = ticks.len() - 1;
     let from = start_at(ticks, values, i, c.q);
-    let mut cone = cone_from(c.p);
+    let mut cone = cone_of(edge_to(ticks, values, from, i + 1, c.q), c.p);
     let mut b = i + 1;
-    let mut j = i + 1;
+    let mut j = b + 1;
     while j <= last {
         let to = edge_to(ticks, values, from, j, c.q);
-        b = better(links, b, j, cone, to);
-        cone = extended(cone, to, c.p);
-        let done = may_stop(cone, b, j);
-        if done {
-            return b;
+        if admits(cone, to) {
+            b = better(links, b, j);
+            cone = extended(cone, to, c.p);
+        } else {
+            cone = extended(cone, to, c.p);
+            if is_empty(cone) {
+                return b;
+            }
         }
         j += 1;
     }

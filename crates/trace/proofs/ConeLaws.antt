@@ -20,7 +20,7 @@ use Rattle.trace.specs.Trace.{tick, value, Rising, Trace}
 use Rattle.trace.specs.Link.{Linked, Bounded, valid, above, below}
 use Rattle.trace.specs.Level.{level}
 use Rattle.trace.proofs.Line.{LowerBound, UpperBound}
-use Rattle.trace.specs.Edge.{middle, StartAt, EdgeTo, noSteeper, lowered, raised}
+use Rattle.trace.specs.Edge.{middle, edgeOf, StartAt, EdgeTo, noSteeper, lowered, raised}
 use Rattle.trace.specs.Cone.{coneFrom, admitsEdge, steeperOf, flatterOf, extendedBy, Takes}
 use Rattle.trace.proofs.Ticks.{later, not-earlier}
 use Rattle.trace.proofs.Level.{level-diff}
@@ -164,7 +164,7 @@ module _ {ts : List ℕ} {vs : List ℤ} {c : Criterion} {start l m : ℕ} {e f 
 
 -- the cone that has taken in nothing: the start stands for both samples
 abbrev itself : Edge
-itself = record { rise = middle; run = 0 }
+itself = edgeOf middle 0
 
 pub takes-none : {ts : List ℕ} {vs : List ℤ} {c : Criterion} {i : ℕ} {s : Start} → StartAt ts vs (c .q) i s → Takes ts vs c i (i + 1) (coneFrom (c .p))
 takes-none {ts} {vs} {c} {i} h = record {
@@ -185,7 +185,24 @@ takes-none {ts} {vs} {c} {i} h = record {
 }
   where
     edge : EdgeTo ts vs (c .q) i i itself
-    edge = record { run = omega arith; rise = refl; from = h .range; to = h .range }
+    edge = record { run = omega arith; rise = refl; climb = refl; from = h .range; to = h .range }
+
+-- an edge without ticks, which bounds nothing
+module _ (e to : Edge) (p : ℕ) (none : e .run ≡ 0) (flat : e .rise ≡ middle) where
+  pub low-none : noSteeper (lowered e p) to ≡ true
+  low-none =
+      let l : e .rise - p ≤ middle = omega arith in
+      le-leb ((e .rise - p) * to .run + middle * e .run) (to .rise * e .run + middle * to .run)
+      (omega (arith, mul-le-mul-right (to .run) l, ap (λ (n : ℕ). to .rise * n) none))
+
+  pub high-none : noSteeper to (raised e p) ≡ true
+  high-none = le-leb (to .rise * e .run + middle * to .run) ((e .rise + p) * to .run + middle * e .run)
+      (omega (arith, ap (λ (n : ℕ). to .rise * n) none, ap (λ (n : ℕ). n * to .run) flat))
+
+-- one sample alone holds both sides of the cone
+module _ (to : Edge) (p : ℕ) where
+  pub first-cone : {low high : Edge} → low ≡ lowered to p → high ≡ raised to p → record { low = low; high = high } ≡ extendedBy (coneFrom p) to p
+  first-cone e f = rw (low-none itself (lowered to p) p refl refl, high-none itself (raised to p) p refl refl, e, f)
 
 -- the sample that bounds from below, with its lowered edge e: the tighter of l and the new sample j
 record Lowest (ts : List ℕ) (vs : List ℤ) (c : Criterion) (start l j : ℕ) (e : Edge) : Type 0 where

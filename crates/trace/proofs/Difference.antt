@@ -1,15 +1,16 @@
 -- An integer as a difference of two naturals. `omega` reads no ℤ: an order on integers becomes one on naturals by these laws.
 -- Assumes nothing.
-use mathlib.Core.Path.{_≡_, refl, ap}
+use mathlib.Core.Path.{_≡_, refl, sym, ap}
 use mathlib.Core.Bool.{Bool, true, false, cond}
 use mathlib.Core.Logic.{_↔_}
 use Prim.Native.Nat.{ℕ, zero, suc, _+_, _-_, _*_, _≤_, _<_}
 use native.Mathlib.Nat.{mul-le-mul-right, le-of-mul-le-mul-right}
 use native.Mathlib.Omega.{arith}
 use lib.IntN.{ℤ, pos, negsuc, negℤ, subℕ, _+ℤ_, _-ℤ_, _*ℤ_, natAbs}
-use lib.Dec.{ltb, leb→le, le→leb}
-use lib.Signed.{_≤ℤ_}
-use borrow.Author.Tests.{ltb-true, ltb-false}
+use lib.Dec.{leb, ltb, leb→le, le→leb}
+use lib.Signed.{mag, leZ, _≤ℤ_}
+use borrow.Author.Tests.{ltb-true, ltb-false, leb-true, le-leb}
+use Rattle.lists.proofs.Tests.{is-false, tests-equal}
 
 abbrev pub IsDiff : ℤ → ℕ → ℕ → Type 0
 IsDiff (pos n) a b = n + b ≡ a
@@ -28,7 +29,7 @@ pub twice : {z : ℤ} {a b c d : ℕ} → Diff z a b → Diff z c d → a + d �
 twice {z = pos n} h k = omega arith
 twice {z = negsuc n} h k = omega arith
 
-minus : (m n a b : ℕ) → m + b ≡ a + n → Diff (subℕ m n) a b
+pub minus : (m n a b : ℕ) → m + b ≡ a + n → Diff (subℕ m n) a b
 minus m n a b h = go (ltb m n) refl
   where
     go : (t : Bool) → ltb m n ≡ t → Diff (cond t (negsuc (n - suc m)) (pos (m - n))) a b
@@ -81,6 +82,20 @@ size-at-most {z = negsuc n} h q m = omega (arith, ap (λ (x : ℕ). x * q) (h .d
 pub size : {z : ℤ} {a b : ℕ} → Diff z a b → natAbs z ≡ (a - b) + (b - a)
 size {z = pos n} h = omega arith
 size {z = negsuc n} h = omega arith
+
+-- a bound on both sides
+pub bounded : {z : ℤ} {a b : ℕ} → Diff z a b → (k : ℕ) → a < b + k → b ≤ a + k → mag z < k
+bounded {z = pos n} h k lt le = omega arith
+bounded {z = negsuc n} h k lt le = omega arith
+
+-- the order of two
+pub ordered : {x y : ℤ} {a b c d : ℕ} → Diff x a b → Diff y c d → leZ x y ≡ leb (a + d) (c + b)
+ordered {x = pos m} {y = pos n} {a} {b} {c} {d} h k =
+    tests-equal (leb m n) (leb (a + d) (c + b)) (λ t. le-leb (a + d) (c + b) (omega (arith, leb-true m n t))) (λ t. le-leb m n (omega (arith, leb-true (a + d) (c + b) t)))
+ordered {x = pos m} {y = negsuc n} {a} {b} {c} {d} h k = sym (is-false (leb (a + d) (c + b)) (λ t. absurd (omega (arith, leb-true (a + d) (c + b) t))))
+ordered {x = negsuc m} {y = pos n} {a} {b} {c} {d} h k = sym (le-leb (a + d) (c + b) (omega arith))
+ordered {x = negsuc m} {y = negsuc n} {a} {b} {c} {d} h k =
+    tests-equal (leb n m) (leb (a + d) (c + b)) (λ t. le-leb (a + d) (c + b) (omega (arith, leb-true n m t))) (λ t. le-leb n m (omega (arith, leb-true (a + d) (c + b) t)))
 
 -- every integer is a difference
 pub parts : (z : ℤ) → (a : ℕ) × (b : ℕ) × Diff z a b

@@ -19,7 +19,7 @@ use Rattle.trace.specs.declared.Criterion.{Criterion}
 use Rattle.trace.specs.Trace.{tick, value, Trace}
 use Rattle.trace.specs.Link.{deviation, within, above, below, Linked, Bounded}
 use Rattle.trace.specs.Level.{level, LevelOf}
-use Rattle.trace.specs.Edge.{middle, StartAt, EdgeTo, Reach, inBand, Slope, Tilt, noSteeper, lowered, raised, distanceOf}
+use Rattle.trace.specs.Edge.{middle, edgeOf, StartAt, EdgeTo, Reach, inBand, Slope, Tilt, noSteeper, lowered, raised, distanceOf}
 use Rattle.trace.proofs.Ticks.{not-earlier, span-bound}
 use Rattle.trace.proofs.Level.{short, level-short, level-diff}
 use Rattle.trace.proofs.Difference.{Diff, same, times, negated, at-most, size}
@@ -33,13 +33,14 @@ module _ {ts : List ℕ} {vs : List ℤ} {q i : ℕ} {s : Start} (h : StartAt ts
   pub base-bound : q ≤ 1048575 → s .base ≤ 68718362625
   base-bound b = omega (arith, h .base, scaled-bound b (level-short (value vs i) (h .range)))
 
-  pub edge-made : {k l r : ℕ} → q ≤ 1048575 → LevelOf (value vs k) l → r ≡ q * l → EdgeTo ts vs q i k (record { rise = r + (middle - s .base); run = tick ts k - s .tick })
+  pub edge-made : {k l r : ℕ} → q ≤ 1048575 → LevelOf (value vs k) l → r ≡ q * l → EdgeTo ts vs q i k (edgeOf (r + (middle - s .base)) (tick ts k - s .tick))
   edge-made {k} {l} {r} b v e =
       let base : s .base ≤ 68718362625 = base-bound b in
       let r-is : r ≡ q * level (value vs k) = e ∙ ap (λ (x : ℕ). q * x) (v .is) in
       record {
         run = ap (λ (x : ℕ). tick ts k - x) (h .tick);
         rise = omega (arith, h .base, r-is);
+        climb = refl;
         from = h .range;
         to = v .range;
       }
@@ -69,10 +70,14 @@ module _ {ts : List ℕ} {vs : List ℤ} {q i k : ℕ} {e : Edge} (h : EdgeTo ts
         low = omega (arith, h .rise);
         high = omega (arith, h .rise);
         run-bound = omega (arith, h .run, span-bound t i k ik kn);
+        climb = h .climb;
       }
 
+pub edge-slope : {x y : ℕ} {e : Edge} → e ≡ edgeOf x y → x ≤ 274877906944 → y ≤ 1048575 → Slope e
+edge-slope h rise run = rw h (record { rise-bound = rise; run-bound = run; climb = refl })
+
 pub tilt-slope : {e : Edge} {p : ℕ} → Tilt e p → Slope e
-tilt-slope h = record { rise-bound = omega (arith, h .high); run-bound = h .run-bound }
+tilt-slope h = record { rise-bound = omega (arith, h .high); run-bound = h .run-bound; climb = h .climb }
 
 -- ---- comparing them
 

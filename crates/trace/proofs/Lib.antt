@@ -12,6 +12,7 @@ pub mod Chord
 pub mod Half
 pub mod Slope
 pub mod Products
+pub mod Climbs
 pub mod EdgeLaws
 pub mod Errors
 pub mod ConeLaws

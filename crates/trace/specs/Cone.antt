@@ -13,10 +13,10 @@ use Rattle.trace.specs.declared.Criterion.{Criterion}
 use Rattle.trace.specs.declared.Edge.{Edge}
 use Rattle.trace.specs.declared.Cone.{Cone}
 use Rattle.trace.specs.Link.{above, below}
-use Rattle.trace.specs.Edge.{middle, EdgeTo, noSteeper, lowered, raised, Slope}
+use Rattle.trace.specs.Edge.{middle, edgeOf, EdgeTo, noSteeper, lowered, raised, Slope}
 
 abbrev pub coneFrom : ℕ → Cone
-coneFrom p = record { low = record { rise = middle - p; run = 0 }; high = record { rise = middle + p; run = 0 } }
+coneFrom p = record { low = edgeOf (middle - p) 0; high = edgeOf (middle + p) 0 }
 
 abbrev pub admitsEdge : Cone → Edge → Bool
 admitsEdge cone to = noSteeper (cone .low) to && noSteeper to (cone .high)

@@ -1,5 +1,6 @@
 -- Edges: the unsigned form in which links are computed.
 --   middle           2^37: a rise is held that much higher, so that it is never negative
+--   climbOf, edgeOf  a rise with its sign; the edge of a rise and a run
 --   StartAt, EdgeTo  what a start and an edge are of a trace
 --   noSteeper        a is no steeper than b
 --   lowered, raised  the edge to p below, above
@@ -12,7 +13,7 @@ use mathlib.Core.Bool.{Bool, _&&_}
 use mathlib.Core.List.{List}
 use Prim.Native.Nat.{ℕ, _+_, _-_, _*_, _≤_, _<_}
 use lib.Dec.{leb}
-use lib.IntN.{ℤ}
+use lib.IntN.{ℤ, pos, _-ℤ_}
 use lib.ListN.{length}
 use lib.Signed.{mag}
 use Rattle.trace.specs.declared.Start.{Start}
@@ -22,6 +23,12 @@ use Rattle.trace.specs.Level.{level}
 
 abbrev pub middle : ℕ
 middle = 137438953472
+
+abbrev pub climbOf : ℕ → ℤ
+climbOf rise = pos rise -ℤ pos middle
+
+abbrev pub edgeOf : ℕ → ℕ → Edge
+edgeOf rise run = record { rise = rise; run = run; climb = climbOf rise }
 
 -- s is sample i as a start
 pub record StartAt (ts : List ℕ) (vs : List ℤ) (q i : ℕ) (s : Start) : Type 0 where
@@ -34,6 +41,7 @@ pub record StartAt (ts : List ℕ) (vs : List ℤ) (q i : ℕ) (s : Start) : Typ
 pub record EdgeTo (ts : List ℕ) (vs : List ℤ) (q i k : ℕ) (e : Edge) : Type 0 where
   pub run : e .run ≡ tick ts k - tick ts i
   pub rise : e .rise + q * level (value vs i) ≡ middle + q * level (value vs k)
+  pub climb : e .climb ≡ climbOf (e .rise)
   pub from : mag (value vs i) < 32768
   pub to : mag (value vs k) < 32768
 
@@ -49,10 +57,10 @@ abbrev pub noSteeper : Edge → Edge → Bool
 noSteeper a b = leb (a .rise * b .run + middle * a .run) (b .rise * a .run + middle * b .run)
 
 abbrev pub lowered : Edge → ℕ → Edge
-lowered e p = record { rise = e .rise - p; run = e .run }
+lowered e p = edgeOf (e .rise - p) (e .run)
 
 abbrev pub raised : Edge → ℕ → Edge
-raised e p = record { rise = e .rise + p; run = e .run }
+raised e p = edgeOf (e .rise + p) (e .run)
 
 -- the sample of the edge e is within p of the link of the edge `to`
 abbrev pub inBand : Edge → Edge → ℕ → Bool
@@ -68,8 +76,10 @@ distanceOf e to =
 pub record Slope (e : Edge) : Type 0 where
   pub rise-bound : e .rise ≤ 274877906944
   pub run-bound : e .run ≤ 1048575
+  pub climb : e .climb ≡ climbOf (e .rise)
 
 pub record Tilt (e : Edge) (p : ℕ) : Type 0 where
   pub low : p ≤ e .rise
   pub high : e .rise + p ≤ 274877906944
   pub run-bound : e .run ≤ 1048575
+  pub climb : e .climb ≡ climbOf (e .rise)

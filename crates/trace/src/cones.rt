@@ -5,6 +5,7 @@ ghost use Rattle.trace.specs.Edge.{Slope, Tilt};
 ghost use Rattle.trace.specs.Cone.{coneFrom, admitsEdge, steeperOf, flatterOf, extendedBy, ConeFits};
 use crate::Cone;
 use crate::Edge;
+use crate::edges::edge_of;
 use crate::edges::lower_by;
 use crate::edges::no_steeper;
 use crate::edges::raise_by;
@@ -14,18 +15,19 @@ pub fn cone_from(p: u64) -> Cone
     requires { ⌜ p ≤ 68718362625 ⌝ }
     ensures { λ r. ⌜ (r ≡ coneFrom p) × ConeFits r ⌝ }
 {
-    let low = Edge {
-        rise: 0x20_0000_0000 - p,
-        run: 0,
-    };
-    let high = Edge {
-        rise: 0x20_0000_0000 + p,
-        run: 0,
-    };
-    Cone {
-        low: low,
-        high: high,
-    }
+    let low = edge_of(0x20_0000_0000 - p, 0);
+    let high = edge_of(0x20_0000_0000 + p, 0);
+    Cone { low, high }
+}
+
+// The cone that has taken in one sample, that of the edge `to`.
+pub fn cone_of(to: Edge, p: u64) -> Cone
+    requires { ⌜ Tilt to p ⌝ }
+    ensures { λ r. ⌜ (r ≡ extendedBy (coneFrom p) to p) × ConeFits r ⌝ }
+{
+    let low = lower_by(to, p);
+    let high = raise_by(to, p);
+    Cone { low, high }
 }
 
 // Whether the link of the edge `to` passes every sample taken in.

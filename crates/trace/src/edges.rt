@@ -1,10 +1,11 @@
 // Edges: directions from a start, compared without a division and without a sign.
 ghost use mathlib.Core.Path.{_≡_};
 ghost use Prim.Native.Nat.{_+_, _-_, _*_, _≤_, _<_};
+ghost use lib.IntN.{pos, _*ℤ_};
 ghost use lib.ListN.{length};
 ghost use Rattle.trace.specs.Trace.{value};
 ghost use Rattle.trace.specs.Level.{level, LevelOf};
-ghost use Rattle.trace.specs.Edge.{StartAt, EdgeTo, Reach, Slope, Tilt, noSteeper, lowered, raised};
+ghost use Rattle.trace.specs.Edge.{climbOf, edgeOf, StartAt, EdgeTo, Reach, Slope, Tilt, noSteeper, lowered, raised};
 use crate::Edge;
 use crate::Start;
 
@@ -59,18 +60,35 @@ pub fn start_at(ticks: &[u32], values: &[i16], i: usize, q: u64) -> Start
     }
 }
 
+// The rise with its sign.
+fn climb_of(rise: u64) -> i64
+    requires { ⌜ rise ≤ 274877906944 ⌝ }
+    ensures { λ r. ⌜ r ≡ climbOf rise ⌝ }
+{
+    rise as i64 - 0x20_0000_0000
+}
+
+pub fn edge_of(rise: u64, run: u64) -> Edge
+    requires { ⌜ rise ≤ 274877906944 ⌝ }
+    ensures { λ r. ⌜ r ≡ edgeOf rise run ⌝ }
+{
+    Edge {
+        rise,
+        run,
+        climb: climb_of(rise),
+    }
+}
+
 // The edge from a start to sample k.
 pub fn edge_to(ticks: &[u32], values: &[i16], s: Start, k: usize, q: u64) -> Edge
     requires { ⌜ Reach (now ticks) (now values) q s k ⌝ }
     ensures { λ r. ⌜ EdgeTo (now (ticks .entry)) (now (values .entry)) q (s .sample) k r ⌝ }
 {
-    Edge {
-        rise: scaled(q, level_at(values, k)) + (MIDDLE - s.base),
-        run: wide(ticks[k]) - s.tick,
-    }
+    let rise = scaled(q, level_at(values, k)) + (MIDDLE - s.base);
+    edge_of(rise, wide(ticks[k]) - s.tick)
 }
 
-// The rise of a, over the run of b: two edges are compared by these.
+// The rise of a, over the run of b: the distance of two edges is taken by these.
 pub fn over_run(a: Edge, b: Edge) -> u64
     requires { ⌜ Slope a × Slope b ⌝ }
     ensures { λ r. ⌜ (r ≡ a .rise * b .run + 137438953472 * a .run) × (r ≤ 576460202547609600) ⌝ }
@@ -78,12 +96,20 @@ pub fn over_run(a: Edge, b: Edge) -> u64
     product(a.rise, b.run) + product(MIDDLE, a.run)
 }
 
+// The climb of a, over the run of b: two edges are compared by these.
+fn climb_over(a: Edge, b: Edge) -> i64
+    requires { ⌜ Slope a × Slope b ⌝ }
+    ensures { λ r. ⌜ r ≡ climbOf (a .rise) *ℤ pos (b .run) ⌝ }
+{
+    a.climb * (b.run as i64)
+}
+
 // Whether a is no steeper than b.
 pub fn no_steeper(a: Edge, b: Edge) -> bool
     requires { ⌜ Slope a × Slope b ⌝ }
     ensures { λ r. ⌜ r ≡ noSteeper a b ⌝ }
 {
-    over_run(a, b) <= over_run(b, a)
+    climb_over(a, b) <= climb_over(b, a)
 }
 
 // The edge p lower.
@@ -91,10 +117,7 @@ pub fn lower_by(e: Edge, p: u64) -> Edge
     requires { ⌜ Tilt e p ⌝ }
     ensures { λ r. ⌜ (r ≡ lowered e p) × Slope r ⌝ }
 {
-    Edge {
-        rise: e.rise - p,
-        run: e.run,
-    }
+    edge_of(e.rise - p, e.run)
 }
 
 // The edge p higher.
@@ -102,8 +125,5 @@ pub fn raise_by(e: Edge, p: u64) -> Edge
     requires { ⌜ Tilt e p ⌝ }
     ensures { λ r. ⌜ (r ≡ raised e p) × Slope r ⌝ }
 {
-    Edge {
-        rise: e.rise + p,
-        run: e.run,
-    }
+    edge_of(e.rise + p, e.run)
 }

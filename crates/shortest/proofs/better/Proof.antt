@@ -1,7 +1,7 @@
 -- `shortest::better` meets its contract. Assumes nothing.
-use mathlib.Core.Path.{sym, _∙_}
+use mathlib.Core.Path.{refl}
 use borrow.Author.Needs.{needs}
-use Rattle.shortest.proofs.ShortestLaws.{better-longer, better-valid, better-invalid}
+use Rattle.shortest.proofs.ShortestLaws.{better-longer, better-valid}
 use Rattle.shortest.proofs.better.Statement.{statement}
 use Rattle.shortest.proofs.better.Tie as tie
 
@@ -20,24 +20,10 @@ shared-slice-read-if1-2 c = search needs
 returns : tie.Need-returns
 returns c = better-longer _ _ _ _ _ (c .if1 .taken)
 
-admits-requires : tie.Need-admits-requires
-admits-requires c κs = search needs
-
 returns-2 : tie.Need-returns-2
-returns-2 c = better-valid _ _ _ _ _ (c .before .before .if1 .left) (sym (c .before .admits .ensures) ∙ c .if2 .taken)
-
-returns-3 : tie.Need-returns-3
-returns-3 c = better-invalid _ _ _ _ _ (c .before .before .if1 .left) (sym (c .before .admits .ensures) ∙ c .if2 .left)
+returns-2 c = better-valid _ _ _ _ _ (c .if1 .left) refl
 
 pub better-spec : {M : Type 1} → statement M
 better-spec =
     tie.close
-    (tie.spec
-    mul-if1
-    shared-slice-read-if1
-    mul-if1-2
-    shared-slice-read-if1-2
-    returns
-    admits-requires
-    returns-2
-    returns-3)
+    (tie.spec mul-if1 shared-slice-read-if1 mul-if1-2 shared-slice-read-if1-2 returns returns-2)

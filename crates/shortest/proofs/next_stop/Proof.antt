@@ -1,12 +1,11 @@
 -- `shortest::next_stop` meets its contract: each turn scans one end more, and the scan is complete at the last sample and where the cone is empty. Assumes nothing.
+use mathlib.Core.Path.{sym, _∙_}
+use mathlib.Core.Logic.{⊎-elim}
 use Prim.Native.Nat.{_+_, _-_}
 use native.Mathlib.Omega.{arith}
-use lib.Dec.{ltb}
 use borrow.Author.Needs.{needs}
 use borrow.Author.Tests.{not-true}
-use mathlib.Core.Path.{sym, _∙_}
-use Rattle.lists.proofs.Tests.{and-second}
-use Rattle.shortest.proofs.ShortestLaws.{Scanning, scanning-none, edge-requires, end-tilt, choice-requires, scanning-more, scanned-all, scanned-empty}
+use Rattle.shortest.proofs.ShortestLaws.{Scanning, scanning-none, edge-requires, end-tilt, end-slope, ends-room, scanning-first, scanning-valid, scanning-invalid, scanned-all, scanned-empty}
 use Rattle.shortest.proofs.next_stop.Statement.{statement}
 use Rattle.shortest.proofs.next_stop.Tie as tie
 
@@ -22,8 +21,19 @@ sub-last c = search needs
 start-at-requires : tie.Need-start-at-requires Inv-loop μ-loop
 start-at-requires c κs = search needs
 
-cone-from-requires : tie.Need-cone-from-requires Inv-loop μ-loop
-cone-from-requires c κs = search needs
+add-edge-to : tie.Need-add-edge-to Inv-loop μ-loop
+add-edge-to c = search needs
+
+edge-to-requires : tie.Need-edge-to-requires Inv-loop μ-loop
+edge-to-requires c κs =
+    let pre = c .before .before .before .pre in
+    edge-requires pre (scanning-none pre (c .start-at .ensures)) (search needs) (c .start-at .ensures)
+
+cone-of-requires : tie.Need-cone-of-requires Inv-loop μ-loop
+cone-of-requires c κs =
+    let s = c .before in
+    let pre = s .before .before .before .pre in
+    end-tilt pre (scanning-none pre (s .start-at .ensures)) (search needs) (s .start-at .ensures) (c .edge-to .ensures)
 
 add-b : tie.Need-add-b Inv-loop μ-loop
 add-b c = search needs
@@ -32,53 +42,77 @@ add-j : tie.Need-add-j Inv-loop μ-loop
 add-j c = search needs
 
 loop-holds : tie.Need-loop-holds Inv-loop μ-loop
-loop-holds c = scanning-none (c .before .before .before .before .pre) (c .before .start-at .ensures) (c .cone-from .ensures)
+loop-holds c =
+    let s = c .before .before in
+    scanning-first (s .before .before .before .pre) (s .start-at .ensures) (c .before .edge-to .ensures) (c .cone-of .ensures)
 
-edge-to-requires : tie.Need-edge-to-requires Inv-loop μ-loop
-edge-to-requires c κs = edge-requires (c .before .before .before .before .before .before .pre) (c .before .loop .inv) (search needs) (c .before .before .before .start-at .ensures)
+edge-to-requires-2 : tie.Need-edge-to-requires-2 Inv-loop μ-loop
+edge-to-requires-2 c κs =
+    let s = c .before .before .before .before in
+    edge-requires (s .before .before .before .pre) (c .before .loop .inv) (c .loop-test .taken) (s .start-at .ensures)
+
+admits-requires : tie.Need-admits-requires Inv-loop μ-loop
+admits-requires c κs =
+    let l = c .before .before in
+    let s = l .before .before .before in
+    (l .loop .inv .fits, end-slope (s .before .before .before .pre) (l .loop .inv) (c .before .loop-test .taken) (s .start-at .ensures) (c .edge-to2 .ensures))
 
 better-requires : tie.Need-better-requires Inv-loop μ-loop
 better-requires c κs =
-    let s = c .before .before .before .before in
-    choice-requires (s .before .before .before .pre) (c .before .before .loop .inv) (search needs) (s .start-at .ensures) (c .edge-to .ensures)
+    let l = c .before .before .before .before in
+    let s = l .before .before .before in
+    ends-room (s .before .before .before .pre) (l .loop .inv) (c .before .before .before .loop-test .taken) (s .start-at .ensures)
 
 extended-requires : tie.Need-extended-requires Inv-loop μ-loop
 extended-requires c κs =
-    let l = c .before .before .before in
-    let s = l .before .before in
-    (l .loop .inv .fits, end-tilt (s .before .before .before .pre) (l .loop .inv) (search needs) (s .start-at .ensures) (c .before .edge-to .ensures))
+    let e = c .before .before .before in
+    let l = e .before .before in
+    let s = l .before .before .before in
+    (l .loop .inv .fits, end-tilt (s .before .before .before .pre) (l .loop .inv) (e .before .loop-test .taken) (s .start-at .ensures) (e .edge-to2 .ensures))
 
-may-stop-requires : tie.Need-may-stop-requires Inv-loop μ-loop
-may-stop-requires c κs = c .extended .ensures .1
+extended-requires-2 : tie.Need-extended-requires-2 Inv-loop μ-loop
+extended-requires-2 c κs =
+    let e = c .before .before in
+    let l = e .before .before in
+    let s = l .before .before .before in
+    (l .loop .inv .fits, end-tilt (s .before .before .before .pre) (l .loop .inv) (e .before .loop-test .taken) (s .start-at .ensures) (e .edge-to2 .ensures))
 
--- the state after a turn
-turned : (c : tie.After-may-stop Inv-loop μ-loop) →
-    let l = c .before .before .before .before .before in
-    let a = l .before .before .before .before .before .args in
-    Scanning (a .ticks .now) (a .values .now) (a .c) (a .i) (c .before .extended .result) (c .before .before .better .result) (l .loop .j + 1)
-turned c =
-    let l = c .before .before .before .before .before in
-    let s = l .before .before in
-    scanning-more (s .before .before .before .pre) (l .loop .inv) (search needs) (s .start-at .ensures) (c .before .before .before .edge-to .ensures)
-    (c .before .before .better .ensures) (c .before .extended .ensures)
+is-empty-requires : tie.Need-is-empty-requires Inv-loop μ-loop
+is-empty-requires c κs = c .extended2 .ensures .1
 
 returns : tie.Need-returns Inv-loop μ-loop
 returns c =
-    let l = c .before .before .before .before .before .before in
-    let empty = and-second (ltb (c .before .before .before .better .result) (l .loop .j)) _ (sym (c .before .may-stop .ensures) ∙ c .if1 .taken) in
-    scanned-empty (l .before .before .before .before .before .pre) (turned (c .before)) (not-true _ empty)
+    let x = c .before .before in
+    let e = x .before .before .before in
+    let l = e .before .before in
+    let s = l .before .before .before in
+    let pre = s .before .before .before .pre in
+    scanned-empty pre
+    (scanning-invalid pre (l .loop .inv) (e .before .loop-test .taken) (s .start-at .ensures) (e .edge-to2 .ensures) (x .extended2 .ensures) (x .before .before .admits .ensures) (x .before .if1 .left))
+    (not-true _ (sym (c .before .is-empty .ensures) ∙ c .if2 .taken))
 
 add-j-2 : tie.Need-add-j-2 Inv-loop μ-loop
-add-j-2 c = omega (arith, turned (c .before) .to, c .before .before .before .before .before .before .before .before .before .before .before .pre .trace .few)
+add-j-2 c =
+    let l = c .before .before .before .before in
+    omega (arith, c .before .before .before .loop-test .taken, l .before .before .before .before .before .before .pre .trace .few)
 
 loop-less : tie.Need-loop-less Inv-loop μ-loop
-loop-less c = search needs
+loop-less c = omega (arith, c .before .before .before .loop-test .taken)
 
 loop-again : tie.Need-loop-again Inv-loop μ-loop
-loop-again c = turned (c .before)
+loop-again c =
+    let e = c .before .before in
+    let l = e .before .before in
+    let s = l .before .before .before in
+    let pre = s .before .before .before .pre in
+    let t = e .before .loop-test .taken in
+    ⊎-elim
+    (λ w. rw (w .3, w .4) (scanning-valid pre (l .loop .inv) t (s .start-at .ensures) (e .edge-to2 .ensures) (w .2 .ensures) (c .before .admits .ensures) (w .0 .taken) (w .1 .ensures)))
+    (λ w. rw (w .4, w .5) (scanning-invalid pre (l .loop .inv) t (s .start-at .ensures) (e .edge-to2 .ensures) (w .1 .ensures) (c .before .admits .ensures) (w .0 .left)))
+    (c .if1 .came)
 
 returns-2 : tie.Need-returns-2 Inv-loop μ-loop
-returns-2 c = scanned-all (c .before .before .before .before .before .before .pre) (c .before .loop .inv) (c .loop-test .left)
+returns-2 c = scanned-all (c .before .before .before .before .before .before .before .pre) (c .before .loop .inv) (c .loop-test .left)
 
 pub next-stop-spec : {M : Type 1} → statement M
 next-stop-spec =
@@ -88,14 +122,18 @@ next-stop-spec =
     μ-loop
     sub-last
     start-at-requires
-    cone-from-requires
+    add-edge-to
+    edge-to-requires
+    cone-of-requires
     add-b
     add-j
     loop-holds
-    edge-to-requires
+    edge-to-requires-2
+    admits-requires
     better-requires
     extended-requires
-    may-stop-requires
+    extended-requires-2
+    is-empty-requires
     returns
     add-j-2
     loop-less
