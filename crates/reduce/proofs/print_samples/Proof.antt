@@ -27,6 +27,9 @@ shared-slice-read-print-sample c = search needs
 print-sample-requires : tie.Need-print-sample-requires Inv-loop μ-loop
 print-sample-requires c κs = search needs
 
+returns : tie.Need-returns Inv-loop μ-loop
+returns c = search needs
+
 add-i : tie.Need-add-i Inv-loop μ-loop
 add-i c = search needs
 
@@ -39,8 +42,8 @@ loop-again c = search needs
 end-line-requires : tie.Need-end-line-requires Inv-loop μ-loop
 end-line-requires c κs = search needs
 
-returns : tie.Need-returns Inv-loop μ-loop
-returns c = search needs
+returns-2 : tie.Need-returns-2 Inv-loop μ-loop
+returns-2 c = search needs
 
 pub print-samples-spec : {M : Type 1} → statement M
 print-samples-spec =
@@ -53,8 +56,9 @@ print-samples-spec =
     mul-print-sample
     shared-slice-read-print-sample
     print-sample-requires
+    returns
     add-i
     loop-less
     loop-again
     end-line-requires
-    returns)
+    returns-2)
