@@ -502,6 +502,10 @@ fn files_survive_errors() {
     for folder in [unwritable, folder.join("missing")] {
         let output = folder.join("out");
         fails(&["record", "-t1", "-o", path(&output)], WAVE, path(&output));
+        if folder.is_dir() {
+            let (_, _, error) = told(&run(&["record", "-t1", "-o", path(&output)], WAVE));
+            assert!(error.contains("no file can be made in /"), "{error}");
+        }
     }
     let message = format!("{}: Is a directory\n", path(&folder));
     fails(&["record", "-t1", "-o", path(&folder)], WAVE, &message);
@@ -528,6 +532,16 @@ fn files_are_replaced() {
     );
     assert!(fs::symlink_metadata(&link).unwrap().is_symlink());
     assert_eq!(fs::read_dir(&folder).unwrap().count(), 2);
+    // A link to no file yet makes the file, and a name may be as long as a name may.
+    let (next, long) = (folder.join("next"), folder.join("n".repeat(255)));
+    std::os::unix::fs::symlink(&long, &next).unwrap();
+    done(&["record", "-t2", "-o", path(&next)], WAVE);
+    assert!(fs::symlink_metadata(&next).unwrap().is_symlink());
+    assert_eq!(fs::read(&long).unwrap(), fs::read(&file).unwrap());
+    std::os::unix::fs::symlink("round", folder.join("round")).unwrap();
+    let round = folder.join("round");
+    let message = format!("{}: too many links\n", path(&round));
+    fails(&["record", "-t2", "-o", path(&round)], WAVE, &message);
     // A name alone is in the folder where the tool runs.
     let mut tool = Command::new(TOOL);
     tool.current_dir(&folder)
@@ -537,4 +551,26 @@ fn files_are_replaced() {
         fs::read(folder.join("new")).unwrap(),
         fs::read(&file).unwrap()
     );
+}
+
+/// Standard output by its names: what is in the file behind it stays.
+#[test]
+fn standard_output_by_name() {
+    let folder = folder("standard_output_by_name");
+    let record = done(&["record", "-t2"], WAVE);
+    assert_eq!(done(&["record", "-t2", "-o", "-"], WAVE), record);
+    let file = folder.join("all");
+    for name in ["-", "/dev/stdout", "/dev/fd/1", "/proc/self/fd/1"] {
+        assert_eq!(done(&["record", "-t2", "-o", name], WAVE), record, "{name}");
+        fs::write(&file, "before").unwrap();
+        let mut tool = Command::new(TOOL);
+        let all = File::options().append(true).open(&file).unwrap();
+        tool.current_dir(&folder)
+            .args(["record", "-t2", "-o", name])
+            .stdout(all);
+        assert_eq!(told(&run_with(tool, WAVE.as_bytes())).0, 0, "{name}");
+        let expected = [&b"before"[..], &record].concat();
+        assert_eq!(fs::read(&file).unwrap(), expected, "{name}");
+    }
+    assert_eq!(fs::read_dir(&folder).unwrap().count(), 1);
 }
