@@ -41,7 +41,7 @@ Verdict(passed=False, link=0)
 >>> judge(ticks, values, [0, 1], Ratio(4, 6))
 Traceback (most recent call last):
     ...
-kovrelna.Refusal: refused as 6: no kept list: it is wrong or ends at position 2
+kovrelna.Refusal: refused as 6: no kept list: entry 2 is bad, or the list stops short there
 """
 
 import numbers
@@ -119,7 +119,7 @@ if it only stops short; 0 if it is empty |
         3: "sample {} is over 1,048,575 ticks after the first",
         4: "the tolerance is not allowed",
         5: "the allowance is below 2 or above 4,096",
-        6: "no kept list: it is wrong or ends at position {}",
+        6: "no kept list: entry {} is bad, or the list stops short there",
         7: "link {} is invalid",
         8: "the record is faulty at byte {}",
         9: "the second record is faulty at byte {}",

@@ -132,10 +132,13 @@ fn judges() {
     assert_eq!((status, &printed[..]), (2, ""));
     assert_eq!(
         error,
-        "kovrelna: <stdin>: no kept list: it is wrong or ends at position 2\n"
+        "kovrelna: --list: no kept list: entry 2 is bad, or the list stops short there\n"
     );
     let folder = folder("judges");
     let list = folder.join("list");
+    fs::write(&list, "0\n# c\n3 3\n4\n").unwrap();
+    let message = format!("{}:3: no kept list: entry 2 is bad", path(&list));
+    fails(&["judge", "-t2", "-f", path(&list)], zigzag, &message);
     fs::write(&list, "0 # the first\n3\n4\n").unwrap();
     let answer = done(&["judge", "-t2", "-f", path(&list)], zigzag);
     assert_eq!(answer, b"yes\n");
@@ -232,11 +235,11 @@ fn draws() {
     let svg = done(&arguments, "");
     assert_eq!(svg, fs::read(shipped("docs/pulse.svg")).unwrap());
     let svg = String::from_utf8(svg).unwrap();
-    let title = "<title>pulse.csv: 128 samples, 12 kept by minimum, tolerance 8</title>";
+    let title = "<title>128 samples, 12 kept by minimum, tolerance 8: pulse.csv</title>";
     assert!(svg.contains(title));
     let wave = shipped("examples/wave.record");
     let svg = String::from_utf8(done(&["draw", path(&wave)], "")).unwrap();
-    assert!(svg.contains("<title>wave.record: 5 samples kept, tolerance 2</title>"));
+    assert!(svg.contains("<title>5 samples kept, tolerance 2: wave.record</title>"));
     assert!(!svg.contains("class=\"sample\""));
     let from_pipe = done(&["draw"], fs::read(&wave).unwrap());
     assert!(String::from_utf8(from_pipe)
@@ -245,7 +248,24 @@ fn draws() {
     let message = format!("{} is a record", path(&wave));
     fails(&["draw", "-t2", path(&wave)], "", &message);
     fails(&["draw"], WAVE, "<stdin>: --tolerance is missing");
-    fails(&["draw"], "T\0", "<stdin>: the record is faulty at byte 0");
+    fails(&["draw"], "T\0", "<stdin>: --tolerance is missing");
+    // The text of a record is drawn as the record is.
+    let shown = done(&["show", path(&wave)], "");
+    assert_eq!(
+        done(&["draw"], &shown),
+        done(&["draw"], fs::read(&wave).unwrap())
+    );
+    fails(
+        &["draw", "-t2"],
+        shown,
+        "<stdin>:1: samples are reduced already at 2/1",
+    );
+    // A name is no part of the picture's text.
+    let odd = folder("draws").join("a<b>&c.csv");
+    fs::write(&odd, "0,0\n").unwrap();
+    let svg = String::from_utf8(done(&["draw", "-t1", path(&odd)], "")).unwrap();
+    let title = "<title>1 sample, 1 kept by walk, tolerance 1: a&lt;b&gt;&amp;c.csv</title>";
+    assert!(svg.contains(title), "{svg}");
 }
 
 #[test]
@@ -304,9 +324,41 @@ fn places_of_errors() {
     fails(&["show", path(&folder)], "", &message);
     fails(
         &["record"],
-        "# tolerance 1/0\n0,0\n",
-        "<stdin>: tolerance: the tolerance is not allowed",
+        "# c\n# tolerance 1/0\n0,0\n",
+        "<stdin>:2: tolerance: the tolerance is not allowed",
     );
+}
+
+/// No tolerance is stated that the samples were not reduced at.
+#[test]
+fn false_tolerances() {
+    let wave = shipped("examples/wave.record");
+    let wave = path(&wave);
+    let two = done(&["show", wave, wave], "");
+    fails(&["record"], &two, "<stdin>:9: a second record begins here");
+    let one = done(&["show", wave], "");
+    for arguments in [&["record", "-t8"][..], &["record", "-t8", "-mminimum"]] {
+        let cause = "<stdin>:1: samples are reduced already at 2/1: tolerances would add";
+        fails(arguments, &one, cause);
+    }
+}
+
+/// A record in the place of text, and text in the place of a record.
+#[test]
+fn the_other_kind() {
+    let wave = fs::read(shipped("examples/wave.record")).unwrap();
+    for arguments in [
+        &["record", "-t1"][..],
+        &["judge", "-t1", "-l0"],
+        &["least", "-a2"],
+    ] {
+        fails(
+            arguments,
+            &wave,
+            "<stdin> is a record: use `kovrelna show`\n",
+        );
+    }
+    fails(&["show"], WAVE, "<stdin> is no record (faulty at byte 0)\n");
 }
 
 /// Noise of every sort is refused with status 2; nothing panics.
@@ -365,6 +417,8 @@ fn command_lines() {
         (&["record", "-m", "walk"], "--method needs --tolerance"),
         (&["record", "-t1", "a", "b"], "b: only one input is read"),
         (&["judge", "-l0"], "--tolerance is missing"),
+        (&["--version", "extra"], "extra: nothing may follow"),
+        (&["--help", "record"], "record: nothing may follow"),
         (&["judge", "-t1"], "one of --list and --list-file is wanted"),
         (
             &["judge", "-t1", "-l", "0,70000"],
