@@ -64,9 +64,11 @@ install-cli: cli
 	@install -d "$(DESTDIR)$(BINDIR)"
 	@install -m 755 bindings/rust/target/release/kovrelna "$(DESTDIR)$(BINDIR)"
 
-# Compare the library with the slow reference: make evidence [CASES=n | MINUTES=m] [SEED=s].
+# Compare the library with the slow reference: make evidence [CASES=n | MINUTES=m] [SEED=s], or one case of an earlier
+# run: make evidence SEED=s CASE=k.
 evidence: lib
-	@$(EVIDENCE) $(if $(MINUTES),--minutes $(MINUTES),$(if $(CASES),--cases $(CASES))) $(if $(SEED),--seed $(SEED))
+	@$(EVIDENCE) $(if $(MINUTES),--minutes $(MINUTES)) $(if $(CASES),--cases $(CASES)) $(if $(SEED),--seed $(SEED)) \
+	$(if $(CASE),--case $(CASE))
 
 # Reduce the samples of a shipped record.
 example:
