@@ -44,6 +44,7 @@ Traceback (most recent call last):
 kovrelna.Refusal: refused as 6: no kept list: entry 2 is bad, or the list stops short there
 """
 
+import math
 import numbers
 import operator
 from dataclasses import dataclass
@@ -172,13 +173,14 @@ def _tolerance(tolerance: Tolerance) -> _library.Tolerance:
     if isinstance(tolerance, Ratio):
         return _ratio(tolerance.p, tolerance.q)
     if isinstance(tolerance, Counts):
-        return _library.Tolerance(1, 0, 0, tolerance.counts, 0.0)
+        return _library.Tolerance(1, 0, 0, _float(tolerance.counts), 0.0)
     if isinstance(tolerance, Noise):
-        return _library.Tolerance(2, 0, 0, tolerance.noise, tolerance.multiple)
+        noise, multiple = _float(tolerance.noise), _float(tolerance.multiple)
+        return _library.Tolerance(2, 0, 0, noise, multiple)
     if isinstance(tolerance, numbers.Rational):
         return _ratio(tolerance.numerator, tolerance.denominator)
     if isinstance(tolerance, numbers.Real):
-        return _library.Tolerance(1, 0, 0, float(tolerance), 0.0)
+        return _library.Tolerance(1, 0, 0, _float(tolerance), 0.0)
     raise TypeError(
         "tolerance must be Ratio, Counts, Noise, a whole number, a Fraction or a float, "
         f"not {type(tolerance).__name__}"
@@ -192,6 +194,18 @@ def _ratio(p: Any, q: Any) -> _library.Tolerance:
     if not (0 <= p < 2**64 and 0 <= q < 2**64):
         p, q = 0, 0
     return _library.Tolerance(0, p, q, 0.0, 0.0)
+
+
+def _float(number: Any) -> float:
+    """The number as a float. One that no float equals is lent as NaN, which is not allowed either:
+    whatever is allowed is a float."""
+    if not isinstance(number, numbers.Real):
+        raise TypeError(f"a tolerance must be of real numbers, not {type(number).__name__}")
+    try:
+        nearest = float(number)
+    except OverflowError:
+        return math.nan
+    return nearest if nearest == number else math.nan
 
 
 def hold(tolerance: Tolerance) -> Fraction:
