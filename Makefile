@@ -83,11 +83,12 @@ test:
 	grep '^rt:' "$$log"; \
 	rt staticlib kovrelna >/dev/null && rt check reduce >/dev/null && make --no-print-directory test-rust test-c test-install test-python && tail -n 1 "$$log"
 
-# The Rust tests, which run the program reduce too.
+# The Rust tests, which run the program reduce too, and the example, which prints what the C example prints.
 test-rust:
 	@$(CARGO) test $(CARGO_FLAGS) --workspace --lib --tests
 	@$(CARGO) test $(CARGO_FLAGS) --workspace --doc
 	@$(EVIDENCE) $(GATE_EVIDENCE)
+	@$(CARGO) run $(CARGO_FLAGS) --release --package kovrelna --example reduce | diff bindings/c/example.txt -
 
 # The C test, also as C++ and under sanitizers where there are compilers for it.
 test-c:
