@@ -488,6 +488,27 @@ fn full_output() {
     }
 }
 
+/// A record is not written to a terminal, an answer is.
+#[test]
+fn terminal() {
+    let Ok(terminal) = File::options().read(true).write(true).open("/dev/ptmx") else {
+        return;
+    };
+    for (arguments, status) in [
+        (&["record", "-t1"][..], 2),
+        (&["record", "-t1", "-o-"], 2),
+        (&["judge", "-t2", "-l0,4"], 0),
+    ] {
+        let mut command = Command::new(TOOL);
+        command
+            .args(arguments)
+            .stdout(terminal.try_clone().unwrap());
+        let (ended, _, error) = told(&run_with(command, WAVE.as_bytes()));
+        assert_eq!(ended, status, "{arguments:?} {error}");
+        assert_eq!(error.contains("is not written to a terminal"), status == 2);
+    }
+}
+
 /// A reader that goes away: a silent failure.
 #[test]
 fn broken_pipe() {
