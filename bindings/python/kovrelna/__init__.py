@@ -22,8 +22,8 @@ Its links join neighbouring entries and are counted from 0.
 
 Lists are lent as buffers and not copied: arrays of numpy, array.array, bytes, bytearray,
 memoryview, or anything else with a one-dimensional, contiguous, aligned buffer of these elements.
-Other elements raise TypeError; nothing is converted. Only a list, a tuple or a range of whole
-numbers is copied into such a buffer; a number that does not fit raises OverflowError.
+Other elements and masked arrays raise TypeError; nothing is converted. Only a list, a tuple or a
+range of whole numbers is copied into such a buffer; a number that does not fit raises OverflowError.
 
 An output is a buffer that the caller lends, or is made anew: an array of numpy if the ticks (the
 codes, the record) are one, otherwise an array.array. Of a lent output only the entries used change,
