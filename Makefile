@@ -15,13 +15,19 @@ PREFIX = /usr/local
 BINDIR = $(PREFIX)/bin
 LIBDIR = $(PREFIX)/lib
 INCLUDEDIR = $(PREFIX)/include
+PYTHONDIR = $(LIBDIR)/kovrelna-python
 PYTHON = python3
+
+# Refuses a place that pkg-config could not name: a relative one, or one with spaces.
+PLACES = PREFIX BINDIR LIBDIR INCLUDEDIR PYTHONDIR
+CHECK_PLACES = $(foreach place,$(PLACES),$(if $(and $(filter 1,$(words $($(place)))),$(filter /%,$($(place)))),,\
+$(error $(place) must be an absolute path without spaces, not '$($(place))')))
 
 # The gate's run of evidence: about 6 seconds.
 GATE_EVIDENCE = --cases 30000 --seed 1
 EVIDENCE = $(CARGO) run $(CARGO_FLAGS) --release --package kovrelna-evidence --
 
-.PHONY: lib shared cli install install-cli uninstall example evidence test test-rust test-c test-install test-python bench
+.PHONY: lib shared cli install install-cli install-python uninstall example evidence test test-rust test-c test-install test-python bench
 
 # Prove the library and write the archive that programs link.
 lib: $(ARCHIVE)
@@ -42,6 +48,7 @@ $(SHARED): $(ARCHIVE) bindings/c/kovrelna.map Makefile
 
 # Header, both libraries and the pkg-config file, below DESTDIR where that is given.
 install: $(SHARED)
+	@$(CHECK_PLACES)
 	@install -d "$(DESTDIR)$(INCLUDEDIR)" "$(DESTDIR)$(LIBDIR)/pkgconfig"
 	@install -m 644 bindings/c/kovrelna.h "$(DESTDIR)$(INCLUDEDIR)"
 	@install -m 644 $(ARCHIVE) "$(DESTDIR)$(LIBDIR)"
@@ -50,23 +57,35 @@ install: $(SHARED)
 	@ln -sf $(SONAME) "$(DESTDIR)$(LIBDIR)/libkovrelna.so"
 	@sed -e 's|@PREFIX@|$(PREFIX)|' -e 's|@LIBDIR@|$(LIBDIR)|' -e 's|@INCLUDEDIR@|$(INCLUDEDIR)|' \
 	-e 's|@VERSION@|$(VERSION)|' bindings/c/kovrelna.pc.in >"$(DESTDIR)$(LIBDIR)/pkgconfig/kovrelna.pc"
+	@chmod 644 "$(DESTDIR)$(LIBDIR)/pkgconfig/kovrelna.pc"
 
 uninstall:
 	@rm -f "$(DESTDIR)$(BINDIR)/kovrelna" "$(DESTDIR)$(INCLUDEDIR)/kovrelna.h" "$(DESTDIR)$(LIBDIR)/pkgconfig/kovrelna.pc"
 	@for name in a so $(patsubst libkovrelna.%,%,$(SONAME) $(notdir $(SHARED))); do \
 	rm -f "$(DESTDIR)$(LIBDIR)/libkovrelna.$$name"; done
+	@rm -rf "$(DESTDIR)$(PYTHONDIR)/kovrelna"
 
 # The command-line tool, as bindings/rust/target/release/kovrelna.
 cli: lib
 	@$(CARGO) build $(CARGO_FLAGS) --release --package kovrelna-cli
 
 install-cli: cli
+	@$(CHECK_PLACES)
 	@install -d "$(DESTDIR)$(BINDIR)"
 	@install -m 755 bindings/rust/target/release/kovrelna "$(DESTDIR)$(BINDIR)"
 
-# Compare the library with the slow reference: make evidence [CASES=n | MINUTES=m] [SEED=s].
+# The Python module, with the shared library beside it.
+install-python: $(SHARED)
+	@$(CHECK_PLACES)
+	@install -d "$(DESTDIR)$(PYTHONDIR)/kovrelna"
+	@install -m 644 bindings/python/kovrelna/*.py bindings/python/kovrelna/py.typed "$(DESTDIR)$(PYTHONDIR)/kovrelna"
+	@install -m 755 $(SHARED) "$(DESTDIR)$(PYTHONDIR)/kovrelna/$(SONAME)"
+
+# Compare the library with the slow reference: make evidence [CASES=n | MINUTES=m] [SEED=s], or one case of an earlier
+# run: make evidence SEED=s CASE=k.
 evidence: lib
-	@$(EVIDENCE) $(if $(MINUTES),--minutes $(MINUTES),$(if $(CASES),--cases $(CASES))) $(if $(SEED),--seed $(SEED))
+	@$(EVIDENCE) $(if $(MINUTES),--minutes $(MINUTES)) $(if $(CASES),--cases $(CASES)) $(if $(SEED),--seed $(SEED)) \
+	$(if $(CASE),--case $(CASE))
 
 # Reduce the samples of a shipped record.
 example:
@@ -81,11 +100,12 @@ test:
 	grep '^rt:' "$$log"; \
 	rt staticlib kovrelna >/dev/null && rt check reduce >/dev/null && make --no-print-directory test-rust test-c test-install test-python && tail -n 1 "$$log"
 
-# The Rust tests, which run the program reduce too.
+# The Rust tests, which run the program reduce too, and the example, which prints what the C example prints.
 test-rust:
 	@$(CARGO) test $(CARGO_FLAGS) --workspace --lib --tests
 	@$(CARGO) test $(CARGO_FLAGS) --workspace --doc
 	@$(EVIDENCE) $(GATE_EVIDENCE)
+	@$(CARGO) run $(CARGO_FLAGS) --release --package kovrelna --example reduce | diff bindings/c/example.txt -
 
 # The C test, also as C++ and under sanitizers where there are compilers for it.
 test-c:
@@ -96,9 +116,9 @@ test-c:
 	$(CC) -std=c99 $(C_FLAGS) $(SANITIZE) bindings/c/test.c $(ARCHIVE) -o target/test-c-sanitized \
 	&& target/test-c-sanitized; else echo "c: no sanitizers here"; fi
 
-# Install into a temporary place; build and run the C example from there.
+# Install into a temporary place; build and run the C example and run the Python example from there.
 test-install: $(SHARED)
-	@CC="$(CC)" bindings/c/test-install.sh $(VERSION)
+	@CC="$(CC)" PYTHON="$(PYTHON)" bindings/c/test-install.sh $(VERSION)
 
 # The tests of the Python module, and its example.
 test-python: export KOVRELNA_LIBRARY = $(CURDIR)/$(SHARED)

@@ -1,5 +1,5 @@
-/* Kovrelna: reduced traces. For C and C++; link with libkovrelna.a or libkovrelna.so (x86-64,
- * System V ABI), as `pkg-config --cflags --libs kovrelna` says once they are installed.
+/* Kovrelna: reduced traces. For C99, C++11 and later; link with libkovrelna.a or libkovrelna.so
+ * (x86-64, System V ABI), as `pkg-config --cflags --libs kovrelna` says once they are installed.
  *
  * Contents, in order: refusals; tolerances; lists; reductions; range codes; records.
  *

@@ -1,7 +1,8 @@
 #!/bin/sh
 # Installs into a temporary place, builds example.c there through pkg-config, with the shared
-# library and with the archive, and compares what it prints with example.txt. Then checks what the
-# shared library exports, that every version is the same, and that make uninstall leaves nothing.
+# library and with the archive, and compares what it prints with example.txt; the same with the
+# Python example. Then checks what the shared library exports, that every version is the same, that
+# unfit places are refused, and that make uninstall leaves nothing.
 # Run from the repository's root: test-install.sh VERSION.
 set -eu
 version=$1
@@ -17,7 +18,7 @@ fail() {
 # The files below a folder, one a line.
 files() { (cd "$1" && find . ! -type d | sort); }
 
-make --no-print-directory install PREFIX="$prefix" >/dev/null
+(umask 077 && make --no-print-directory install install-python PREFIX="$prefix" >/dev/null)
 export PKG_CONFIG_PATH="$prefix/lib/pkgconfig"
 found=$(pkg-config --modversion kovrelna)
 [ "$found" = "$version" ] || fail "pkg-config has version $found, not $version"
@@ -30,6 +31,17 @@ LD_LIBRARY_PATH="$prefix/lib" "$work/shared" | diff bindings/c/example.txt - \
 "$work/static" | diff bindings/c/example.txt - \
   || fail "the example prints something else with the archive"
 if "$work/shared" >/dev/null 2>&1; then fail "the example does not load the shared library"; fi
+env -u KOVRELNA_LIBRARY PYTHONPATH="$prefix/lib/kovrelna-python" \
+  "${PYTHON:-python3}" -B <bindings/python/example.py | diff bindings/python/example.txt - \
+  || fail "the Python example prints something else"
+closed=$(find "$prefix" ! -type l ! -perm -444)
+[ -z "$closed" ] || fail "not everybody may read $closed"
+
+for place in relative "$work/a space" ""; do
+  if make --no-print-directory install PREFIX="$place" >/dev/null 2>&1; then
+    fail "PREFIX='$place' is not refused"
+  fi
+done
 
 # Exported: what the header declares. Needed from outside: no allocation.
 sed -n 's/^kovrelna_[a-z]* \(kovrelna_[a-z]*\)(.*/\1/p' "$prefix/include/kovrelna.h" | sort \
@@ -43,7 +55,7 @@ for file in bindings/rust/Cargo.toml bindings/python/pyproject.toml; do
   grep -qx "version = \"$version\"" "$file" || fail "$file has another version than $version"
 done
 
-make --no-print-directory install DESTDIR="$work/stage" PREFIX=/opt/kovrelna >/dev/null
+make --no-print-directory install install-python DESTDIR="$work/stage" PREFIX=/opt/kovrelna >/dev/null
 files "$prefix" >"$work/installed"
 files "$work/stage/opt/kovrelna" | diff "$work/installed" - || fail "DESTDIR has other files"
 grep -qx 'prefix=/opt/kovrelna' "$work/stage/opt/kovrelna/lib/pkgconfig/kovrelna.pc" \

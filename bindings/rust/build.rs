@@ -12,7 +12,7 @@ fn main() {
     println!("cargo:rerun-if-changed={}", archive.display());
     let archive = archive.canonicalize().unwrap_or_else(|error| {
         panic!(
-            "{}: {error}. Build the library with `rt staticlib kovrelna`, or set KOVRELNA_LIB_DIR \
+            "{}: {error}. Build the library with `make lib`, or set KOVRELNA_LIB_DIR \
              to the directory of libkovrelna.a",
             archive.display()
         )

@@ -22,8 +22,8 @@ Its links join neighbouring entries and are counted from 0.
 
 Lists are lent as buffers and not copied: arrays of numpy, array.array, bytes, bytearray,
 memoryview, or anything else with a one-dimensional, contiguous, aligned buffer of these elements.
-Other elements raise TypeError; nothing is converted. Only a list, a tuple or a range of whole
-numbers is copied into such a buffer; a number that does not fit raises OverflowError.
+Other elements and masked arrays raise TypeError; nothing is converted. Only a list, a tuple or a
+range of whole numbers is copied into such a buffer; a number that does not fit raises OverflowError.
 
 An output is a buffer that the caller lends, or is made anew: an array of numpy if the ticks (the
 codes, the record) are one, otherwise an array.array. Of a lent output only the entries used change,
@@ -41,9 +41,10 @@ Verdict(passed=False, link=0)
 >>> judge(ticks, values, [0, 1], Ratio(4, 6))
 Traceback (most recent call last):
     ...
-kovrelna.Refusal: refused as 6: no kept list: it is wrong or ends at position 2
+kovrelna.Refusal: refused as 6: no kept list: entry 2 is bad, or the list stops short there
 """
 
+import math
 import numbers
 import operator
 from dataclasses import dataclass
@@ -119,7 +120,7 @@ if it only stops short; 0 if it is empty |
         3: "sample {} is over 1,048,575 ticks after the first",
         4: "the tolerance is not allowed",
         5: "the allowance is below 2 or above 4,096",
-        6: "no kept list: it is wrong or ends at position {}",
+        6: "no kept list: entry {} is bad, or the list stops short there",
         7: "link {} is invalid",
         8: "the record is faulty at byte {}",
         9: "the second record is faulty at byte {}",
@@ -172,13 +173,14 @@ def _tolerance(tolerance: Tolerance) -> _library.Tolerance:
     if isinstance(tolerance, Ratio):
         return _ratio(tolerance.p, tolerance.q)
     if isinstance(tolerance, Counts):
-        return _library.Tolerance(1, 0, 0, tolerance.counts, 0.0)
+        return _library.Tolerance(1, 0, 0, _float(tolerance.counts), 0.0)
     if isinstance(tolerance, Noise):
-        return _library.Tolerance(2, 0, 0, tolerance.noise, tolerance.multiple)
+        noise, multiple = _float(tolerance.noise), _float(tolerance.multiple)
+        return _library.Tolerance(2, 0, 0, noise, multiple)
     if isinstance(tolerance, numbers.Rational):
         return _ratio(tolerance.numerator, tolerance.denominator)
     if isinstance(tolerance, numbers.Real):
-        return _library.Tolerance(1, 0, 0, float(tolerance), 0.0)
+        return _library.Tolerance(1, 0, 0, _float(tolerance), 0.0)
     raise TypeError(
         "tolerance must be Ratio, Counts, Noise, a whole number, a Fraction or a float, "
         f"not {type(tolerance).__name__}"
@@ -192,6 +194,18 @@ def _ratio(p: Any, q: Any) -> _library.Tolerance:
     if not (0 <= p < 2**64 and 0 <= q < 2**64):
         p, q = 0, 0
     return _library.Tolerance(0, p, q, 0.0, 0.0)
+
+
+def _float(number: Any) -> float:
+    """The number as a float. One that no float equals is lent as NaN, which is not allowed either:
+    whatever is allowed is a float."""
+    if not isinstance(number, numbers.Real):
+        raise TypeError(f"a tolerance must be of real numbers, not {type(number).__name__}")
+    try:
+        nearest = float(number)
+    except OverflowError:
+        return math.nan
+    return nearest if nearest == number else math.nan
 
 
 def hold(tolerance: Tolerance) -> Fraction:

@@ -43,6 +43,9 @@ VALUE = Item("h", 2, -(2**15), 2**15 - 1)
 ENTRY = Item("H", 2, 0, 2**16 - 1)
 BYTE = Item("B", 1, 0, 2**8 - 1)
 
+# No call takes more elements of a list: one that has more is refused as its beginning is.
+MOST = 2**16
+
 
 class _Buffer(ctypes.Structure):
     """Py_buffer of the interpreter's C interface."""
@@ -96,9 +99,10 @@ class Loan:
             lent.view.release()
 
     def input(self, name: str, given: Any, item: Item) -> Tuple[Optional[int], int]:
-        """The address and the length of a buffer, or of a copy of a list, a tuple or a range."""
+        """The address and the length of a buffer, or of a copy of a list, a tuple or a range: of its
+        first `MOST` elements."""
         if isinstance(given, (list, tuple, range)):
-            given = _converted(name, given, item)
+            given = _converted(name, given[:MOST], item)
         return self._lend(name, given, item, False)
 
     def output(self, name: str, given: Any, item: Item) -> Tuple[Optional[int], int]:
@@ -139,6 +143,8 @@ def _view(name: str, given: Any, item: Item, output: bool) -> memoryview:
             fault = "it is not contiguous"
         elif output and view.readonly:
             fault = "it is read-only"
+        elif hasattr(given, "mask"):
+            fault = "it has a mask, which would be lost"
         else:
             return view
         view.release()

@@ -132,6 +132,7 @@ class Tolerances(Case):
             (Counts(65534.984375), Fraction(4194239, 64)),
             (Counts(-0.0), Fraction(0)),
             (Counts(3), Fraction(3)),
+            (Counts(Fraction(3, 2)), Fraction(3, 2)),
             (Noise(0.015625, 0.125), Fraction(1, 512)),
             (Noise(1023, 63), Fraction(64449)),
             (7, Fraction(7)),
@@ -147,7 +148,10 @@ class Tolerances(Case):
         numbers = [-1, 65536, 2**64, -(2**64), Fraction(-1, 2), Fraction(1, 1048576), 1 / 128, -0.5]
         ratios = [Ratio(0, 0), Ratio(1, 0), Ratio(-1, -2), Ratio(2**64, 2**64), Ratio(1, 2**64 + 1)]
         counts = [Counts(x) for x in (65535.015625, 0.0078125, nan, infinity, -infinity)]
+        # The nearest float is allowed, or there is none.
+        counts += [Counts(2 + Fraction(1, 2**60)), Counts(10**400), Counts(-(10**400))]
         noises = [Noise(1023.015625, 0), Noise(0, 63.125), Noise(1, 0.0625), Noise(nan, 0)]
+        noises += [Noise(2 + Fraction(1, 2**60), 1), Noise(1, 2 + Fraction(1, 2**60))]
         for tolerance in numbers + ratios + counts + noises + [nan, infinity]:
             self.refused(4, 0, kovrelna.hold, tolerance)
             for call in REDUCTIONS:
@@ -155,7 +159,8 @@ class Tolerances(Case):
                 self.refused(2, 1, call, [5, 5], [0, 0], tolerance)
 
     def test_other_types(self):
-        for tolerance in ("2", None, b"2", [2], 2j, Ratio(1.5, 2), Ratio("1", 2), Counts("2")):
+        forms = [Ratio(1.5, 2), Ratio("1", 2), Counts("2"), Noise(1, None)]
+        for tolerance in ["2", None, b"2", [2], 2j] + forms:
             with self.assertRaises(TypeError):
                 kovrelna.hold(tolerance)
 
@@ -281,7 +286,7 @@ class Refusals(Case):
             (3, 31, "sample 31 is over 1,048,575 ticks"),
             (4, 0, "tolerance is not allowed"),
             (5, 0, "allowance is below 2 or above 4,096"),
-            (6, 61, "ends at position 61"),
+            (6, 61, "entry 61 is bad"),
             (7, 71, "link 71 is invalid"),
             (8, 81, "record is faulty at byte 81"),
             (9, 91, "second record is faulty at byte 91"),
@@ -413,6 +418,31 @@ class Buffers(Case):
         with self.assertRaisesRegex(OverflowError, r"codes\[0\] must be from 0 to 255, not 256"):
             kovrelna.expand([256])
 
+    def test_long_lists(self):
+        endless = range(10**12)
+        for call in REDUCTIONS + (kovrelna.least,):
+            self.refused(1, 0, call, endless, [0], 2)
+        self.refused(1, 0, kovrelna.expand, [0] * 65537)
+        for kept, position in [(endless, 5), ([0] * 65537, 1), (tuple(range(5)) * 20000, 5)]:
+            self.refused(6, position, kovrelna.judge, EVEN, WAVE, kept, 1)
+            self.refused(6, position, kovrelna.write, EVEN, WAVE, kept, 1)
+        long = list(RECORD) + [0] * 65536
+        self.refused(8, len(RECORD), kovrelna.read, long)
+        self.refused(9, len(RECORD), kovrelna.same, RECORD, long)
+
+    def test_masks(self):
+        class Masked(array.array):
+            mask = False
+
+        trace = array.array("I", [0, 1]), array.array("h", [0, 0])
+        for ticks, values, out in [
+            (Masked("I", [0, 1]), trace[1], None),
+            (trace[0], Masked("h", [0, 0]), None),
+            (*trace, Masked("H", [9, 9])),
+        ]:
+            with self.assertRaisesRegex(TypeError, "it has a mask"):
+                kovrelna.walk(ticks, values, 1, out)
+
     def test_wrong_buffers(self):
         wrong = [
             (array.array("d", [0, 1]), "format 'd' with 8 bytes"),
@@ -538,18 +568,36 @@ class NumpyArrays:
             kept = kovrelna.walk(EVEN, WAVE, 2, out)
         self.assertIsInstance(kept, self.module.ndarray)
         self.assertEqual((kept.tolist(), out.tolist()), ([0, 2, 4], [0, 2, 4, 9, 9]))
+        kept[1] = 7
+        self.assertEqual(out.tolist(), [0, 7, 4, 9, 9])
 
 
 class StandIn(NumpyArrays, Case):
-    class ndarray(array.array):
+    class ndarray:
+        """Beside an array of ctypes: a slice shares the memory."""
+
         def __getitem__(self, key):
-            item = super().__getitem__(key)
-            return type(self)(self.typecode, item) if isinstance(key, slice) else item
+            if not isinstance(key, slice):
+                return super().__getitem__(key)
+            start, stop, _ = key.indices(len(self))
+            part = StandIn.kind(self._type_, stop - start)
+            return part.from_buffer(self, start * ctypes.sizeof(self._type_))
+
+        def tolist(self):
+            return list(self)
+
+    def kind(element, length):
+        return type(ctypes.Array)("array", (StandIn.ndarray, element * length), {})
+
+    def made(numbers, code):
+        elements = {"B": ctypes.c_uint8, "H": ctypes.c_uint16, "h": ctypes.c_int16}
+        element = elements.get(code, ctypes.c_uint32)
+        return StandIn.kind(element, len(numbers))(*numbers)
 
     module = types.ModuleType("numpy")
     module.ndarray = ndarray
-    module.array = lambda numbers, code: StandIn.ndarray(code, numbers)
-    module.empty = lambda length, code: StandIn.ndarray(code, [1] * length)
+    module.array = made
+    module.empty = lambda length, code: StandIn.made([1] * length, code)
 
 
 @unittest.skipIf(numpy is None, "numpy is not installed")

@@ -147,7 +147,7 @@ impl fmt::Display for Refusal {
             Refusal::List(position) => {
                 write!(
                     f,
-                    "no kept list: it is wrong or ends at position {position}"
+                    "no kept list: entry {position} is bad, or the list stops short there"
                 )
             }
             Refusal::Link(position) => write!(f, "link {position} is invalid"),

@@ -1,12 +1,12 @@
 //! One function for each command. It takes the arguments after the command's name.
 
 use crate::failure::{Failure, Status};
-use crate::line::{Line, ALLOWANCE, LIST, LIST_FILE, METHOD, METHODS, OUTPUT, TOLERANCE};
+use crate::line::{Kept, Line, ALLOWANCE, LIST, LIST_FILE, METHOD, OUTPUT, TOLERANCE};
 use crate::records::{self, Record};
 use crate::source::{shown, Source};
 use crate::svg::{self, Picture};
-use crate::text::{self, Text};
-use crate::{help, output, tolerance};
+use crate::text::{self, List, Text};
+use crate::{help, output};
 use kovrelna::{Least, Ratio, Refusal, Verdict};
 use std::ffi::{OsStr, OsString};
 use std::fmt::Display;
@@ -32,29 +32,13 @@ fn record(arguments: &[OsString]) -> Result<Status, Failure> {
     if line.arguments.help {
         return output::print(help::RECORD);
     }
-    let (tolerance, method) = (line.tolerance()?, line.method()?);
-    if tolerance.is_none() && method.is_some() {
-        return Err(line.wrong("--method needs --tolerance"));
-    }
+    let reduction = line.reduction()?;
     let text = Text::read(Source::open(line.input()?)?)?;
-    let (list, tolerance) = match (tolerance, &text.tolerance) {
-        (Some((tolerance, _)), _) => {
-            let method = method.unwrap_or(METHODS[0]);
-            (method.list(&text, tolerance)?, tolerance)
-        }
-        (None, Some(written)) => {
-            let parsed = tolerance::parse(written);
-            let (tolerance, _) =
-                parsed.map_err(|cause| Failure::at(&text.name, format!("tolerance: {cause}")))?;
-            let every = (0..text.ticks.len()).map(|sample| sample as u16);
-            (every.collect(), tolerance)
-        }
-        (None, None) => {
-            let cause = "--tolerance is missing, and there is no line `# tolerance p/q`";
-            return Err(line.wrong(&format!("{}: {cause}", text.name)));
-        }
+    let Some(kept) = Kept::of(&text, reduction)? else {
+        let cause = "--tolerance is missing, and there is no line `# tolerance p/q`";
+        return Err(line.wrong(&format!("{}: {cause}", text.name)));
     };
-    let record = records::save(&text.ticks, &text.values, &list, tolerance)
+    let record = records::save(&text.ticks, &text.values, &kept.list, kept.tolerance)
         .map_err(|refusal| text.refused(refusal))?;
     output::write(line.value(OUTPUT), &record, false)
 }
@@ -108,20 +92,18 @@ fn judge(arguments: &[OsString]) -> Result<Status, Failure> {
         return Err(line.wrong("--tolerance is missing"));
     };
     let list = match (line.text(LIST)?, line.value(LIST_FILE)) {
-        (Some(list), None) => {
-            let entries = text::entries(list);
-            entries.map_err(|cause| line.wrong(&format!("--list: {cause}")))?
-        }
-        (None, Some(file)) => text::list(Source::open(Some(file))?)?,
+        (Some(list), None) => List::of(LIST.0, list).map_err(|cause| line.wrong(&cause))?,
+        (None, Some(file)) => List::read(Source::open(Some(file))?)?,
         _ => return Err(line.wrong("one of --list and --list-file is wanted")),
     };
     let text = Text::read(Source::open(line.input()?)?)?;
-    match kovrelna::judge(&text.ticks, &text.values, &list, tolerance) {
+    match kovrelna::judge(&text.ticks, &text.values, &list.entries, tolerance) {
         Ok(Verdict::Within) => output::print("yes\n"),
         Ok(Verdict::Outside { link }) => {
             output::print(&format!("no at link {link}\n"))?;
             Ok(Status::No)
         }
+        Err(Refusal::List(entry)) => Err(list.refused(entry)),
         Err(refusal) => Err(text.refused(refusal)),
     }
 }
@@ -226,7 +208,7 @@ fn draw(arguments: &[OsString]) -> Result<Status, Failure> {
     }
     let input = line.input()?;
     let mut source = Source::open(input)?;
-    let beginning = source.bytes(records::BEGINNING)?;
+    let beginning = source.up_to(records::BEGINNING)?;
     let is_record = records::begins(&beginning);
     let source = source.put_back(beginning);
     let (counts, picture) = match is_record {
@@ -234,16 +216,21 @@ fn draw(arguments: &[OsString]) -> Result<Status, Failure> {
         false => picture_of_trace(&line, source)?,
     };
     let name = match input.and_then(|input| Path::new(input).file_name()) {
-        Some(name) if name != "-" => shown(name) + ": ",
+        Some(name) if name != "-" => format!(": {}", shown(name)),
         _ => String::new(),
     };
     let tolerance = match picture.tolerance {
         Ratio { p, q: 1 } => p.to_string(),
         Ratio { p, q } => format!("{p}/{q}"),
     };
-    let title = format!("{name}{counts}, tolerance {tolerance}");
+    let title = format!("{counts}, tolerance {tolerance}{name}");
     let svg = svg::draw(&title, &picture);
     output::write(line.value(OUTPUT), svg.as_bytes(), true)
+}
+
+/// So many samples, in words.
+fn samples(count: usize) -> String {
+    format!("{count} sample{}", if count == 1 { "" } else { "s" })
 }
 
 /// The lines of a record, and how many samples there are in words.
@@ -253,7 +240,7 @@ fn picture_of_record(line: &Line, source: Source) -> Result<(String, Picture), F
         return Err(line.wrong(&format!("{} {cause}", source.name)));
     }
     let record = records::load(source)?;
-    let counts = format!("{} samples kept", record.ticks.len());
+    let counts = format!("{} kept", samples(record.ticks.len()));
     let picture = Picture {
         kept: record.ticks.into_iter().zip(record.values).collect(),
         samples: Vec::new(),
@@ -264,24 +251,29 @@ fn picture_of_record(line: &Line, source: Source) -> Result<(String, Picture), F
 
 /// A trace and the lines that are kept of it, and how many samples there are in words.
 fn picture_of_trace(line: &Line, source: Source) -> Result<(String, Picture), Failure> {
-    let Some((tolerance, held)) = line.tolerance()? else {
-        let cause = "--tolerance is missing, and this is no record";
-        return Err(line.wrong(&format!("{}: {cause}", source.name)));
-    };
-    let method = line.method()?.unwrap_or(METHODS[0]);
+    let reduction = line.reduction()?;
     let text = Text::read(source)?;
-    let list = method.list(&text, tolerance)?;
-    let samples: Vec<_> = text.ticks.into_iter().zip(text.values).collect();
-    let counts = format!(
-        "{} samples, {} kept by {}",
-        samples.len(),
-        list.len(),
-        method.name
-    );
+    let Some(kept) = Kept::of(&text, reduction)? else {
+        let cause = "--tolerance is missing, and this is no record";
+        return Err(line.wrong(&format!("{}: {cause}", text.name)));
+    };
+    let trace: Vec<_> = text.ticks.into_iter().zip(text.values).collect();
+    let counts = match kept.method {
+        Some(method) => format!(
+            "{}, {} kept by {method}",
+            samples(trace.len()),
+            kept.list.len()
+        ),
+        None => format!("{} kept", samples(trace.len())),
+    };
     let picture = Picture {
-        kept: list.iter().map(|&k| samples[usize::from(k)]).collect(),
-        samples,
-        tolerance: held,
+        kept: kept.list.iter().map(|&k| trace[usize::from(k)]).collect(),
+        samples: if kept.method.is_some() {
+            trace
+        } else {
+            Vec::new()
+        },
+        tolerance: kept.held,
     };
     Ok((counts, picture))
 }

@@ -18,8 +18,9 @@ Usage: kovrelna COMMAND [OPTION..] [FILE..]
 
 A trace is text: a line for each sample with its tick (0 to 4294967295) and its
 value (-32768 to 32767), between them a comma, a semicolon, a tab or spaces.
-What follows a # is skipped; so are blank lines and a heading. A trace has 1 to
-4,096 samples; ticks rise; the last is at most 1,048,575 above the first.
+What follows a # is skipped; so are blank lines and a heading of words. A trace
+has 1 to 4,096 samples; ticks rise; the last is at most 1,048,575 above the
+first.
 
 A tolerance is p/q (2/3), counts (2 or 1.5, in steps of 1/64), or a channel's
 noise and the multiple wanted (3.25x4).
@@ -27,7 +28,8 @@ noise and the multiple wanted (3.25x4).
 Without a file, or with -, standard input is read. Errors go to standard error
 as `kovrelna: FILE:LINE: cause`.
 
-Exit status: 0 done (judge: yes), 1 judge says no, 2 error.
+Exit status: 0 done (judge: yes), 1 judge says no, 2 error. A closed standard
+output (>&-) is not noticed: what is written there is lost.
 ";
 
 pub const RECORD: &str = "\
@@ -40,12 +42,15 @@ Usage: kovrelna record -t TOLERANCE [-m METHOD] [-o FILE] [INPUT]
   -t, --tolerance T   p/q, counts, or noise x multiple: 2/3, 1.5, 3.25x4
   -m, --method M      walk (the default; one pass), gallop, or minimum (as few
                       samples as possible)
-  -o, --output FILE   write to FILE instead of standard output; FILE is
-                      replaced only when all is written
+  -o, --output FILE   write to FILE instead of standard output (-); FILE is
+                      replaced only when all is written, and other hard links
+                      to it keep what they had
 
 Without a tolerance, INPUT has a line `# tolerance p/q` before its samples, as
 `kovrelna show` prints it, and every sample is kept: show and record without
-options give the same record again.
+options give the same record again. With a tolerance such a line is refused:
+samples reduced at one tolerance and again at another are within the sum of
+both only.
 
 Exit status: 0 done, 2 error.
 ";
@@ -104,15 +109,17 @@ Exit status: 0 done, 2 error (also if one record is faulty).
 
 pub const DRAW: &str = "\
 Draws a trace with the lines that are kept of it and their tolerance band, as
-SVG. Of a record the lines and the band are drawn, without options.
+SVG. Of a record, or its text as `kovrelna show` prints it, the lines and the
+band are drawn at its own tolerance.
 
 Usage: kovrelna draw -t TOLERANCE [-m METHOD] [-o FILE] [INPUT]
        kovrelna draw [-o FILE] [RECORD]
 
   -t, --tolerance T   p/q, counts, or noise x multiple: 2/3, 1.5, 3.25x4
   -m, --method M      walk (the default), gallop or minimum
-  -o, --output FILE   write to FILE instead of standard output; FILE is
-                      replaced only when all is written
+  -o, --output FILE   write to FILE instead of standard output (-); FILE is
+                      replaced only when all is written, and other hard links
+                      to it keep what they had
 
 Exit status: 0 done, 2 error.
 ";

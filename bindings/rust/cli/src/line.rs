@@ -1,4 +1,4 @@
-//! What the commands share: their options, and the reductions by name.
+//! What the commands share: their options, the reductions by name, and what is kept of a trace.
 
 use crate::args::{Arguments, Known};
 use crate::failure::Failure;
@@ -61,7 +61,7 @@ impl Line {
         }
     }
 
-    pub fn method(&self) -> Result<Option<Method>, Failure> {
+    fn method(&self) -> Result<Option<Method>, Failure> {
         let Some(name) = self.text(METHOD)? else {
             return Ok(None);
         };
@@ -70,6 +70,17 @@ impl Line {
             None => Err(self.wrong(&format!(
                 "--method: `{name}` is not walk, gallop or minimum"
             ))),
+        }
+    }
+
+    /// The method, which is walk if none is given, and the tolerance that it needs.
+    pub fn reduction(&self) -> Result<Option<(Method, Tolerance, Ratio)>, Failure> {
+        match (self.method()?, self.tolerance()?) {
+            (None, None) => Ok(None),
+            (Some(_), None) => Err(self.wrong("--method needs --tolerance")),
+            (method, Some((tolerance, held))) => {
+                Ok(Some((method.unwrap_or(METHODS[0]), tolerance, held)))
+            }
         }
     }
 
@@ -100,7 +111,7 @@ pub struct Method {
     reduce: Reduction,
 }
 
-pub const METHODS: [Method; 3] = [
+const METHODS: [Method; 3] = [
     Method {
         name: "walk",
         reduce: kovrelna::walk,
@@ -119,11 +130,52 @@ pub const METHODS: [Method; 3] = [
 
 impl Method {
     /// The kept list.
-    pub fn list(self, text: &Text, tolerance: Tolerance) -> Result<Vec<u16>, Failure> {
+    fn list(self, text: &Text, tolerance: Tolerance) -> Result<Vec<u16>, Failure> {
         let mut list = vec![0; text.ticks.len()];
         let kept = (self.reduce)(&text.ticks, &text.values, tolerance, &mut list)
             .map_err(|refusal| text.refused(refusal))?;
         list.truncate(kept);
         Ok(list)
+    }
+}
+
+/// What is kept of a trace.
+pub struct Kept {
+    pub list: Vec<u16>,
+    pub tolerance: Tolerance,
+    /// The ratio as which the tolerance is held.
+    pub held: Ratio,
+    /// The method's name; none if every sample is kept.
+    pub method: Option<&'static str>,
+}
+
+impl Kept {
+    /// By the reduction given; without one every sample, at the tolerance of the trace's own line.
+    /// Nothing if there is neither. Samples that were reduced before are not reduced again, as they
+    /// are not the samples that the tolerance would be about.
+    pub fn of(
+        text: &Text,
+        reduction: Option<(Method, Tolerance, Ratio)>,
+    ) -> Result<Option<Kept>, Failure> {
+        Ok(Some(match (reduction, text.tolerance()?) {
+            (None, None) => return Ok(None),
+            (Some(_), Some((_, Ratio { p, q }))) => {
+                let cause = "samples are reduced already at";
+                let cause = format!("{cause} {p}/{q}: tolerances would add");
+                return Err(text.at_tolerance(&cause));
+            }
+            (Some((method, tolerance, held)), None) => Kept {
+                list: method.list(text, tolerance)?,
+                tolerance,
+                held,
+                method: Some(method.name),
+            },
+            (None, Some((tolerance, held))) => Kept {
+                list: (0..text.ticks.len()).map(|sample| sample as u16).collect(),
+                tolerance,
+                held,
+                method: None,
+            },
+        }))
     }
 }

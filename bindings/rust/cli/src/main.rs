@@ -50,9 +50,16 @@ fn run(arguments: &[OsString]) -> Result<Status, Failure> {
     let Some((name, rest)) = arguments.split_first() else {
         return Err(Failure::usage("a command is missing", ""));
     };
+    let alone = |text| match rest {
+        [] => output::print(text),
+        [more, ..] => {
+            let cause = format!("{}: nothing may follow", source::shown(more));
+            Err(Failure::usage(&cause, ""))
+        }
+    };
     match name.to_str() {
-        Some("--help" | "-h") => output::print(help::TOOL),
-        Some("--version" | "-V") => output::print(help::VERSION),
+        Some("--help" | "-h") => alone(help::TOOL),
+        Some("--version" | "-V") => alone(help::VERSION),
         name => match name.and_then(commands::find) {
             Some(command) => command(rest),
             None => {

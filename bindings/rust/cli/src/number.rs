@@ -5,7 +5,7 @@
 #[derive(Clone, Copy, Debug, PartialEq, Eq)]
 pub struct Decimal {
     negative: bool,
-    digits: u128,
+    digits: i128,
     power: i64,
 }
 
@@ -20,6 +20,9 @@ pub enum Product {
 
 const NONE: &str = "not a number";
 const LONG: &str = "a number with too many digits";
+
+/// The digits are below this, so that their product with any factor is exact.
+const DIGITS: i128 = i128::MAX >> u32::BITS;
 
 /// Longer exponents are cut to this; no limit here is near 10^30.
 const EXPONENT: i64 = 1_000_000;
@@ -41,7 +44,7 @@ impl Decimal {
         if all().next().is_none() || !all().all(|byte| byte.is_ascii_digit()) {
             return Err(NONE);
         }
-        let (mut digits, mut zeros) = (0u128, 0u32);
+        let (mut digits, mut zeros) = (0, 0u32);
         for byte in all() {
             if byte == b'0' {
                 zeros += 1;
@@ -60,19 +63,14 @@ impl Decimal {
     /// The number times the factor, exactly.
     pub fn times(self, factor: u32) -> Product {
         let ten = |power: i64| 10i128.checked_pow(power.try_into().ok()?);
-        let product = i128::try_from(self.digits)
-            .ok()
-            .and_then(|digits| digits.checked_mul(factor.into()));
+        let product = self.digits * i128::from(factor);
         let size = match (product, self.power) {
-            (Some(0), _) => 0,
-            (None, _) => return Product::Huge,
-            (Some(product), 0..) => {
-                match ten(self.power).and_then(|ten| product.checked_mul(ten)) {
-                    Some(size) => size,
-                    None => return Product::Huge,
-                }
-            }
-            (Some(product), _) => match ten(-self.power) {
+            (0, _) => 0,
+            (_, 0..) => match ten(self.power).and_then(|ten| product.checked_mul(ten)) {
+                Some(size) => size,
+                None => return Product::Huge,
+            },
+            _ => match ten(-self.power) {
                 Some(ten) if product % ten == 0 => product / ten,
                 _ => return Product::Fraction,
             },
@@ -82,12 +80,13 @@ impl Decimal {
 }
 
 /// The digits with so many zeros and this digit after them; zeros before the first digit do not count.
-fn appended(digits: u128, zeros: u32, digit: u8) -> Option<u128> {
+fn appended(digits: i128, zeros: u32, digit: u8) -> Option<i128> {
     let shifted = match digits {
         0 => 0,
-        _ => digits.checked_mul(10u128.checked_pow(zeros + 1)?)?,
+        _ => digits.checked_mul(10i128.checked_pow(zeros + 1)?)?,
     };
-    shifted.checked_add(digit.into())
+    let longer = shifted.checked_add(digit.into())?;
+    (longer < DIGITS).then_some(longer)
 }
 
 /// The exponent, cut to plus or minus `EXPONENT`.
@@ -159,7 +158,11 @@ mod tests {
         ] {
             assert_eq!(Decimal::parse(text), Err(NONE), "{text}");
         }
-        for text in ["1".repeat(40), format!("1{}1", "0".repeat(40))] {
+        for text in [
+            "1".repeat(40),
+            format!("1{}1", "0".repeat(40)),
+            format!("2.{}1", "0".repeat(36)),
+        ] {
             assert_eq!(Decimal::parse(&text), Err(LONG), "{text}");
         }
     }

@@ -6,7 +6,7 @@
 use crate::failure::{Failure, Status};
 use crate::source::shown;
 use std::ffi::{OsStr, OsString};
-use std::fs::{self, File, OpenOptions};
+use std::fs::{self, File, Metadata, OpenOptions};
 use std::io::{self, IsTerminal, Write};
 use std::path::{Path, PathBuf};
 use std::process;
@@ -34,15 +34,12 @@ pub fn print(text: &str) -> Result<Status, Failure> {
     Ok(Status::Done)
 }
 
-/// Writes to this file, or to standard output if there is none. Bytes that are no text are not written
-/// to a terminal.
+/// Writes to this file, or to standard output if there is none or it is `-`. Bytes that are no text are
+/// not written to a terminal.
 pub fn write(path: Option<&OsStr>, bytes: &[u8], is_text: bool) -> Result<Status, Failure> {
-    match path {
+    match path.filter(|&path| path != "-") {
         Some(path) if path.is_empty() => return Err(Failure::at("--output", "the name is empty")),
-        Some(path) => {
-            let written = replace(Path::new(path), bytes);
-            written.map_err(|error| Failure::io(&shown(path), &error))?;
-        }
+        Some(path) => replace(path, bytes)?,
         None if !is_text && io::stdout().is_terminal() => {
             let cause =
                 "a record is not written to a terminal; redirect it, or name a file with -o";
@@ -54,37 +51,68 @@ pub fn write(path: Option<&OsStr>, bytes: &[u8], is_text: bool) -> Result<Status
 }
 
 /// Replaces a file's content, or makes the file. A link is followed. A file that may not be written is
-/// refused. What is no regular file, such as a device or a pipe, is written to as it is.
-fn replace(path: &Path, bytes: &[u8]) -> io::Result<()> {
-    let before = fs::metadata(path).ok();
-    let path = match &before {
-        Some(before) => {
-            let mut file = OpenOptions::new().write(true).open(path)?;
-            if !before.is_file() {
-                file.write_all(bytes)?;
-                return file.flush();
-            }
-            fs::canonicalize(path)?
+/// refused. What is no regular file, such as a device or a pipe, is written to as it is, and so is a
+/// file that a process has open, such as `/dev/stdout`.
+fn replace(given: &OsStr, bytes: &[u8]) -> Result<(), Failure> {
+    let failed = |error: io::Error| Failure::io(&shown(given), &error);
+    let (folder, name) = followed(Path::new(given)).map_err(failed)?;
+    let path = folder.join(name);
+    let before = fs::metadata(&path).ok();
+    if let Some(before) = &before {
+        let file = OpenOptions::new().append(true).open(&path);
+        let mut file = file.map_err(failed)?;
+        if !before.is_file() || is_open_file(&folder, &path) {
+            return file.write_all(bytes).map_err(failed);
         }
-        None => path.to_path_buf(),
-    };
-    let Some(name) = path.file_name() else {
-        return Err(io::ErrorKind::IsADirectory.into());
-    };
-    let folder = match path.parent() {
-        Some(folder) if folder != Path::new("") => folder,
-        _ => Path::new("."),
-    };
-    let (mut file, temporary) = Temporary::create(folder, name)?;
+    }
+    let made = Temporary::create(&folder).map_err(|error| {
+        let cause = format!("no file can be made in {}", shown(folder.as_ref()));
+        Failure::io(&format!("{}: {cause}", shown(given)), &error)
+    });
+    let (file, temporary) = made?;
+    fill(file, bytes, before).map_err(failed)?;
+    temporary.rename(&path).map_err(failed)?;
+    // The new name is in the folder by now; some file systems cannot flush a folder.
+    let _ = File::open(folder).and_then(|folder| folder.sync_all());
+    Ok(())
+}
+
+/// Writes to a new file, with the permissions of the one before.
+fn fill(mut file: File, bytes: &[u8], before: Option<Metadata>) -> io::Result<()> {
     if let Some(before) = before {
         file.set_permissions(before.permissions())?;
     }
     file.write_all(bytes)?;
-    file.sync_all()?;
-    temporary.rename(&path)?;
-    // The new name is in the folder by now; some file systems cannot flush a folder.
-    let _ = File::open(folder).and_then(|folder| folder.sync_all());
-    Ok(())
+    file.sync_all()
+}
+
+/// Whether this is the link, below /proc, to a file that a process has open.
+fn is_open_file(folder: &Path, path: &Path) -> bool {
+    folder.starts_with("/proc") && path.is_symlink()
+}
+
+/// The most links that are followed.
+const LINKS: usize = 40;
+
+/// The folder and the name in it that the path leads to, through links, up to the first that leads to
+/// an open file. There need be nothing of that name.
+fn followed(path: &Path) -> io::Result<(PathBuf, OsString)> {
+    let mut path = path.to_path_buf();
+    for _ in 0..LINKS {
+        let Some(name) = path.file_name() else {
+            return Err(io::ErrorKind::IsADirectory.into());
+        };
+        let folder = match path.parent() {
+            Some(folder) if folder != Path::new("") => fs::canonicalize(folder)?,
+            _ => fs::canonicalize(".")?,
+        };
+        let found = folder.join(name);
+        match fs::read_link(&found) {
+            Ok(link) if !is_open_file(&folder, &found) => path = folder.join(link),
+            _ => return Ok((folder, name.to_os_string())),
+        }
+    }
+    Err(io::Error::other("too many links"))
 }
 
 /// A file that is removed unless it gets another name.
@@ -92,12 +120,9 @@ struct Temporary(PathBuf);
 
 impl Temporary {
     /// Makes a file in this folder that was not there.
-    fn create(folder: &Path, name: &OsStr) -> io::Result<(File, Temporary)> {
+    fn create(folder: &Path) -> io::Result<(File, Temporary)> {
         for attempt in 0..1_000 {
-            let mut hidden = OsString::from(".");
-            hidden.push(name);
-            hidden.push(format!(".{}-{attempt}", process::id()));
-            let path = folder.join(hidden);
+            let path = folder.join(format!(".kovrelna-{}-{attempt}", process::id()));
             match OpenOptions::new().write(true).create_new(true).open(&path) {
                 Ok(file) => return Ok((file, Temporary(path))),
                 Err(error) if error.kind() != io::ErrorKind::AlreadyExists => return Err(error),

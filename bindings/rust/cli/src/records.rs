@@ -22,10 +22,14 @@ pub struct Record {
 /// Reads a record.
 pub fn load(mut source: Source) -> Result<Record, Failure> {
     // One byte more than a record may have: enough to find any fault.
-    let bytes = source.bytes(BYTES + 1)?;
+    let bytes = source.up_to(BYTES + 1)?;
     let (mut ticks, mut values) = (vec![0; SAMPLES], vec![0; SAMPLES]);
-    let content = read(&bytes, &mut ticks, &mut values)
-        .map_err(|refusal| Failure::at(&source.name, refusal))?;
+    let content = read(&bytes, &mut ticks, &mut values).map_err(|refusal| match refusal {
+        Refusal::Record(0) => {
+            Failure::Told(format!("{} is no record (faulty at byte 0)", source.name))
+        }
+        refusal => Failure::at(&source.name, refusal),
+    })?;
     ticks.truncate(content.samples);
     values.truncate(content.samples);
     Ok(Record {
@@ -52,13 +56,10 @@ pub fn save(
 /// How many bytes `begins` looks at.
 pub const BEGINNING: usize = 10;
 
-/// Whether a record begins like this, and no text: the first command, then the high byte of p, which
-/// is at most 0F; below 09 it is in no text, and otherwise the second command is looked for.
+/// Whether a record begins like this, and no text: the first command, with the high bytes of p and q,
+/// which are at most 0F, and the second command.
 pub fn begins(bytes: &[u8]) -> bool {
-    matches!(
-        bytes,
-        [0x54, 0..=0x08, ..] | [0x54, 0x09..=0x0f, _, _, _, _, 0..=0x0f, _, _, 0x41]
-    )
+    matches!(bytes, [0x54, 0..=0x0f, _, _, _, _, 0..=0x0f, _, _, 0x41])
 }
 
 #[cfg(test)]
@@ -77,6 +78,24 @@ mod tests {
         let cut = load(Source::of("in", &bytes[..20])).unwrap_err();
         let told = "in: the record is faulty at byte 19".to_string();
         assert_eq!(cut, Failure::Told(told));
+        let text = load(Source::of("in", b"0,1\n")).unwrap_err();
+        let told = "in is no record (faulty at byte 0)".to_string();
+        assert_eq!(text, Failure::Told(told));
+    }
+
+    /// A byte after the longest record is a fault.
+    #[test]
+    fn longest() {
+        let ticks: Vec<u32> = (0..4_096).collect();
+        let values: Vec<i16> = ticks.iter().map(|tick| (tick % 2) as i16 * 999).collect();
+        let list: Vec<u16> = (0..4_096).collect();
+        let mut bytes = save(&ticks, &values, &list, Tolerance::Counts(0.0)).unwrap();
+        assert_eq!(bytes.len(), BYTES);
+        assert_eq!(load(Source::of("in", &bytes)).unwrap().bytes, BYTES);
+        bytes.push(0);
+        let told = format!("in: the record is faulty at byte {BYTES}");
+        let long = load(Source::of("in", &bytes)).unwrap_err();
+        assert_eq!(long, Failure::Told(told));
     }
 
     #[test]
@@ -87,7 +106,14 @@ mod tests {
         };
         let bytes = save(&[0], &[0], &[0], greatest).unwrap();
         assert!(begins(&bytes[..BEGINNING]));
-        for text in ["", "T", "Tick,value\n0,1", "T\tvalue\n0\t1\n", "0,1"] {
+        for text in [
+            "",
+            "T",
+            "Tick,value\n0,1",
+            "T\tvalue\n0\t1\n",
+            "T\0i\0c\0k\0,\0",
+            "0,1",
+        ] {
             let beginning = text.bytes().take(BEGINNING).collect::<Vec<_>>();
             assert!(!begins(&beginning), "{text}");
         }

@@ -53,7 +53,7 @@ impl Source {
     }
 
     /// Up to so many bytes from here on.
-    pub fn bytes(&mut self, most: usize) -> Result<Vec<u8>, Failure> {
+    pub fn up_to(&mut self, most: usize) -> Result<Vec<u8>, Failure> {
         let mut bytes = Vec::new();
         match (&mut self.reader).take(most as u64).read_to_end(&mut bytes) {
             Ok(_) => Ok(bytes),

@@ -26,6 +26,8 @@ const TOP: f64 = 60.0;
 const BOTTOM: f64 = 420.0;
 /// Up to so many samples a line joins them.
 const JOINED: usize = 600;
+/// How the band of one sample alone is drawn.
+const ALONE: &str = "stroke=\"#54aeff\" stroke-opacity=\".5\" stroke-width=\"12\" ";
 
 const STYLE: &str = "\
 .ground{fill:#ffffff}.ink{fill:#1f2328}.quiet{fill:#59636e}.grid{stroke:#d1d9e0}.edge{stroke:#59636e}
@@ -65,13 +67,11 @@ impl Axis {
 /// The axes that have room for everything, with a little space beside.
 fn axes(picture: &Picture) -> (Axis, Axis) {
     let tolerance = picture.tolerance.p as f64 / picture.tolerance.q as f64;
-    let all = || picture.samples.iter().chain(&picture.kept);
-    let ticks = || all().map(|&(tick, _)| f64::from(tick));
+    // The first and the last sample are kept.
+    let ticks = || picture.kept.iter().map(|&(tick, _)| f64::from(tick));
     let band = |&(_, value): &Sample| [-tolerance, tolerance].map(|side| f64::from(value) + side);
-    let values = || {
-        let samples = picture.samples.iter().map(|&(_, value)| f64::from(value));
-        samples.chain(picture.kept.iter().flat_map(band))
-    };
+    // No sample is outside the band.
+    let values = || picture.kept.iter().flat_map(band);
     let (left, right) = (
         ticks().fold(f64::INFINITY, f64::min),
         ticks().fold(f64::NEG_INFINITY, f64::max),
@@ -203,9 +203,11 @@ fn curves(svg: &mut String, picture: &Picture, x: &Axis, y: &Axis) {
     let Picture { samples, kept, .. } = picture;
     let (above, mut below) = (points(kept, tolerance), points(kept, -tolerance));
     below.reverse();
+    // The band of one sample has no width: it is drawn as a stroke.
+    let stroke = if kept.len() == 1 { ALONE } else { "" };
     path(
         "band",
-        "",
+        stroke,
         format!("M{}Z", [above, below].concat().join("L")),
     );
     if (2..=JOINED).contains(&samples.len()) {
@@ -279,11 +281,40 @@ mod tests {
                     kept: samples.clone(),
                     tolerance: Ratio { p, q },
                 };
-                let svg = draw("t", &picture);
+                let svg = draw("a<b>&\"c\"", &picture);
                 assert!(!svg.contains("NaN") && !svg.contains("inf"), "{svg}");
-                assert_eq!(svg, draw("t", &picture));
+                well_formed(&svg);
+                assert_eq!(svg.contains(ALONE), samples.len() == 1);
+                assert_eq!(svg, draw("a<b>&\"c\"", &picture));
             }
         }
+    }
+
+    /// Every element is closed, in order, by its name, and nothing stands outside the first. Quotation
+    /// marks are in pairs, and `&` begins one of the entities.
+    fn well_formed(svg: &str) {
+        let mut open = Vec::new();
+        let mut parts = svg.split('<');
+        assert_eq!(parts.next(), Some(""));
+        for part in parts {
+            let (tag, text) = part.split_once('>').expect(part);
+            assert!(
+                !text.contains('>') && tag.matches('"').count() % 2 == 0,
+                "{part}"
+            );
+            let name = tag.split(['/', ' ']).find(|word| !word.is_empty());
+            if tag.starts_with('/') {
+                assert_eq!(open.pop(), name);
+            } else if !tag.ends_with('/') {
+                open.push(name.expect(part));
+            }
+            assert!(!open.is_empty() || text == "\n", "{part}");
+            for entity in part.split('&').skip(1) {
+                let known = ["amp;", "lt;", "gt;", "quot;"];
+                assert!(known.iter().any(|name| entity.starts_with(name)), "{part}");
+            }
+        }
+        assert!(open.is_empty(), "{open:?}");
     }
 
     #[test]

@@ -1,14 +1,15 @@
 //! Traces and lists as text.
 //!
 //! A trace has a line for each sample with its tick and its value, between them a semicolon, a comma,
-//! a tab or spaces. What follows a `#` is skipped, as are blank lines; a first line without a number
-//! is a heading. `# tolerance p/q` before the samples, as `show` prints it, is taken notice of. A
+//! a tab or spaces. What follows a `#` is skipped, as are blank lines; a first line of words is a
+//! heading. One line `# tolerance p/q` before the samples, as `show` prints it, is taken notice of. A
 //! carriage return at a line's end and a byte order mark are tolerated.
 
 use crate::failure::Failure;
 use crate::number::{Decimal, Product};
 use crate::source::{plain, Source};
-use kovrelna::Refusal;
+use crate::{records, tolerance};
+use kovrelna::{Ratio, Refusal, Tolerance};
 use std::fmt::Display;
 use std::io::{BufRead, BufReader, Read};
 
@@ -23,8 +24,8 @@ pub struct Text {
     pub name: String,
     pub ticks: Vec<u32>,
     pub values: Vec<i16>,
-    /// What stands after `# tolerance`.
-    pub tolerance: Option<String>,
+    /// What stands after `# tolerance`, and in which line.
+    tolerance: Option<(String, usize)>,
     /// The line of each sample, counted from 1.
     lines: Vec<usize>,
 }
@@ -32,28 +33,32 @@ pub struct Text {
 impl Text {
     /// Reads a trace. It may break any rule of a trace, which the library is to say; of a trace that
     /// is too long only the beginning is read.
-    pub fn read(source: Source) -> Result<Text, Failure> {
+    pub fn read(mut source: Source) -> Result<Text, Failure> {
         let mut text = Text {
             name: source.name.clone(),
             ..Text::default()
         };
+        let beginning = source.up_to(records::BEGINNING)?;
+        if records::begins(&beginning) {
+            let cause = "is a record: use `kovrelna show`";
+            return Err(Failure::Told(format!("{} {cause}", text.name)));
+        }
         let mut heading = true;
-        let mut lines = Lines::new(source);
+        let mut lines = Lines::new(source.put_back(beginning));
         while text.ticks.len() < ENOUGH {
             let Some(line) = lines.next()? else {
                 break;
             };
             let (data, comment) = line.split_once('#').unwrap_or((line, ""));
-            if let Some(tolerance) = comment.trim().strip_prefix("tolerance ") {
-                if text.ticks.is_empty() && text.tolerance.is_none() {
-                    text.tolerance = Some(tolerance.trim().to_string());
-                }
-            }
             if data.trim().is_empty() {
+                if let Some(tolerance) = comment.trim().strip_prefix("tolerance ") {
+                    let tolerance = tolerance.trim().to_string();
+                    text.note_tolerance(tolerance, lines.number)?;
+                }
                 continue;
             }
             let fields = fields(data);
-            if heading && !fields.iter().any(|field| numeric(field)) {
+            if heading && fields.iter().all(|field| is_word(field)) {
                 heading = false;
                 continue;
             }
@@ -65,6 +70,35 @@ impl Text {
             text.lines.push(lines.number);
         }
         Ok(text)
+    }
+
+    /// Takes the tolerance of this line, if it is the only one and no sample is before it.
+    fn note_tolerance(&mut self, tolerance: String, line: usize) -> Result<(), Failure> {
+        if self.tolerance.is_some() || !self.ticks.is_empty() {
+            let cause = "a second record begins here, or its tolerance comes after its samples";
+            return Err(Failure::at_line(&self.name, line, cause));
+        }
+        self.tolerance = Some((tolerance, line));
+        Ok(())
+    }
+
+    /// The tolerance of the trace's own line, and the ratio it is held as.
+    pub fn tolerance(&self) -> Result<Option<(Tolerance, Ratio)>, Failure> {
+        let Some((written, _)) = &self.tolerance else {
+            return Ok(None);
+        };
+        match tolerance::parse(written) {
+            Ok(tolerance) => Ok(Some(tolerance)),
+            Err(cause) => Err(self.at_tolerance(&format!("tolerance: {cause}"))),
+        }
+    }
+
+    /// At the line of the tolerance.
+    pub fn at_tolerance(&self, cause: &str) -> Failure {
+        match self.tolerance {
+            Some((_, line)) => Failure::at_line(&self.name, line, cause),
+            None => Failure::at(&self.name, cause),
+        }
     }
 
     /// The refusal at the line that it is about.
@@ -100,27 +134,60 @@ impl Text {
     }
 }
 
-/// Reads a list of samples, separated by commas, semicolons or white space.
-pub fn list(source: Source) -> Result<Vec<u16>, Failure> {
-    let mut list = Vec::new();
-    let name = source.name.clone();
-    let mut lines = Lines::new(source);
-    while let Some(line) = lines.next()? {
-        let (data, _) = line.split_once('#').unwrap_or((line, ""));
-        list.extend(entries(data).map_err(|cause| Failure::at_line(&name, lines.number, cause))?);
-        if list.len() > usize::from(u16::MAX) + 1 {
-            return Err(Failure::at_line(
-                &name,
-                lines.number,
-                "the list is too long",
-            ));
+/// A list of samples as it was read.
+#[derive(Debug)]
+pub struct List {
+    name: String,
+    pub entries: Vec<u16>,
+    /// The line of each entry, counted from 1; nothing if the list is no file.
+    lines: Vec<usize>,
+}
+
+impl List {
+    /// The list in this option.
+    pub fn of(option: &str, line: &str) -> Result<List, String> {
+        let (name, lines) = (format!("--{option}"), Vec::new());
+        let entries = entries(line).map_err(|cause| format!("{name}: {cause}"))?;
+        Ok(List {
+            name,
+            entries,
+            lines,
+        })
+    }
+
+    /// Reads a list of samples, separated by commas, semicolons or white space.
+    pub fn read(source: Source) -> Result<List, Failure> {
+        let mut list = List {
+            name: source.name.clone(),
+            entries: Vec::new(),
+            lines: Vec::new(),
+        };
+        let mut lines = Lines::new(source);
+        while let Some(line) = lines.next()? {
+            let (data, _) = line.split_once('#').unwrap_or((line, ""));
+            let more = entries(data);
+            let wrong = |cause: &str| Failure::at_line(&list.name, lines.number, cause);
+            list.entries.extend(more.map_err(|cause| wrong(&cause))?);
+            if list.entries.len() > usize::from(u16::MAX) + 1 {
+                return Err(wrong("the list is too long"));
+            }
+            list.lines.resize(list.entries.len(), lines.number);
+        }
+        Ok(list)
+    }
+
+    /// The refusal of the list at the line of this entry.
+    pub fn refused(&self, entry: usize) -> Failure {
+        let refusal = Refusal::List(entry);
+        match self.lines.get(entry) {
+            Some(&line) => Failure::at_line(&self.name, line, refusal),
+            None => Failure::at(&self.name, refusal),
         }
     }
-    Ok(list)
 }
 
 /// The entries of a list in one line.
-pub fn entries(line: &str) -> Result<Vec<u16>, String> {
+fn entries(line: &str) -> Result<Vec<u16>, String> {
     line.split([',', ';', ' ', '\t'])
         .filter(|entry| !entry.is_empty())
         .map(|entry| whole("sample number", entry, 0, u16::MAX))
@@ -190,12 +257,13 @@ fn bare(field: &str) -> &str {
     unquoted.map_or(field, str::trim)
 }
 
-/// Whether the field is a number, or would be one.
-fn numeric(field: &str) -> bool {
-    let unsigned = field.trim_start_matches(['+', '-']).to_ascii_lowercase();
-    unsigned.len() < field.len()
-        || unsigned.starts_with(|c: char| c.is_ascii_digit() || c == '.')
-        || ["nan", "inf", "infinity"].contains(&unsigned.as_str())
+/// What stands for a number that is missing, or is none.
+const MISSING: [&str; 7] = ["n/a", "na", "nan", "null", "none", "inf", "infinity"];
+
+/// Whether the field may be in a heading.
+fn is_word(field: &str) -> bool {
+    let field = field.to_lowercase();
+    field.starts_with(char::is_alphabetic) && !MISSING.contains(&field.as_str())
 }
 
 /// The tick and the value in the fields of a line.
@@ -269,12 +337,53 @@ mod tests {
     }
 
     #[test]
+    fn headings() {
+        for heading in ["tick,value", "Time (ns);ADC/counts", "temps\tunité", "t"] {
+            let text = format!("{heading}\n7,8\n");
+            assert_eq!(read(text.as_bytes()).unwrap().ticks, [7], "{heading}");
+        }
+        for no_heading in [
+            "N/A,N/A",
+            "na,value",
+            "NaN NaN",
+            "null;null",
+            "tick,None",
+            "-inf,v",
+            "?,?",
+            "--,--",
+            "\"\",v",
+        ] {
+            let text = format!("{no_heading}\n7,8\n");
+            let told = read(text.as_bytes()).unwrap_err();
+            assert!(told.starts_with("in:1: the tick `"), "{told}");
+        }
+    }
+
+    #[test]
     fn tolerance_lines() {
-        let read = |text: &str| read(text.as_bytes()).unwrap().tolerance;
-        assert_eq!(read("# tolerance 2/3\n0,1\n").as_deref(), Some("2/3"));
-        assert_eq!(read("#tolerance  2/3 \r\n").as_deref(), Some("2/3"));
-        assert_eq!(read("# tolerances 2/3\n0,1\n"), None);
-        assert_eq!(read("0,1\n# tolerance 2/3\n"), None);
+        let tolerance = |text: &str| read(text.as_bytes()).unwrap().tolerance;
+        let at = |line| Some(("2/3".to_string(), line));
+        assert_eq!(tolerance("# tolerance 2/3\n0,1\n"), at(1));
+        assert_eq!(tolerance("# c\n#tolerance  2/3 \r\n"), at(2));
+        assert_eq!(tolerance("# tolerances 2/3\n0,1\n"), None);
+        assert_eq!(tolerance("0,1 # tolerance 2/3\n"), None);
+        for (text, line) in [
+            ("0,1\n# tolerance 2/3\n", 2),
+            ("# tolerance 2/3\n# tolerance 2/3\n0,1\n", 2),
+            ("# tolerance 2/3\n0,1\n# b\n# tolerance 1/3\n2,1\n", 4),
+        ] {
+            let told = read(text.as_bytes()).unwrap_err();
+            assert!(told.starts_with(&format!("in:{line}: a second")), "{told}");
+        }
+    }
+
+    #[test]
+    fn a_record_is_no_text() {
+        let record = b"T\0\0\0\0\x02\0\0\x01A\0\0\0\0\0\0E\0\x01";
+        assert_eq!(
+            read(record).unwrap_err(),
+            "in is a record: use `kovrelna show`"
+        );
     }
 
     #[test]
@@ -351,7 +460,17 @@ mod tests {
         assert!(entries("70000")
             .unwrap_err()
             .contains("is not from 0 to 65535"));
-        let list = list(Source::of("in", b"0 # first\n3\n\n4"));
-        assert_eq!(list, Ok(vec![0, 3, 4]));
+        let list = List::read(Source::of("in", b"0 # first\n3\n\n4")).unwrap();
+        assert_eq!(list.entries, [0, 3, 4]);
+        let told =
+            |words: &str| Failure::Told(format!("{words} is bad, or the list stops short there"));
+        assert_eq!(list.refused(2), told("in:4: no kept list: entry 2"));
+        assert_eq!(list.refused(3), told("in: no kept list: entry 3"));
+        let given = List::of("list", "0,3").unwrap();
+        assert_eq!(given.refused(1), told("--list: no kept list: entry 1"));
+        let read = |entries| List::read(Source::of("in", "0\n".repeat(entries).as_bytes()));
+        assert_eq!(read(65_536).unwrap().entries.len(), 65_536);
+        let long = Failure::at_line("in", 65_537, "the list is too long");
+        assert_eq!(read(65_537).unwrap_err(), long);
     }
 }

@@ -132,10 +132,13 @@ fn judges() {
     assert_eq!((status, &printed[..]), (2, ""));
     assert_eq!(
         error,
-        "kovrelna: <stdin>: no kept list: it is wrong or ends at position 2\n"
+        "kovrelna: --list: no kept list: entry 2 is bad, or the list stops short there\n"
     );
     let folder = folder("judges");
     let list = folder.join("list");
+    fs::write(&list, "0\n# c\n3 3\n4\n").unwrap();
+    let message = format!("{}:3: no kept list: entry 2 is bad", path(&list));
+    fails(&["judge", "-t2", "-f", path(&list)], zigzag, &message);
     fs::write(&list, "0 # the first\n3\n4\n").unwrap();
     let answer = done(&["judge", "-t2", "-f", path(&list)], zigzag);
     assert_eq!(answer, b"yes\n");
@@ -232,11 +235,11 @@ fn draws() {
     let svg = done(&arguments, "");
     assert_eq!(svg, fs::read(shipped("docs/pulse.svg")).unwrap());
     let svg = String::from_utf8(svg).unwrap();
-    let title = "<title>pulse.csv: 128 samples, 12 kept by minimum, tolerance 8</title>";
+    let title = "<title>128 samples, 12 kept by minimum, tolerance 8: pulse.csv</title>";
     assert!(svg.contains(title));
     let wave = shipped("examples/wave.record");
     let svg = String::from_utf8(done(&["draw", path(&wave)], "")).unwrap();
-    assert!(svg.contains("<title>wave.record: 5 samples kept, tolerance 2</title>"));
+    assert!(svg.contains("<title>5 samples kept, tolerance 2: wave.record</title>"));
     assert!(!svg.contains("class=\"sample\""));
     let from_pipe = done(&["draw"], fs::read(&wave).unwrap());
     assert!(String::from_utf8(from_pipe)
@@ -245,7 +248,24 @@ fn draws() {
     let message = format!("{} is a record", path(&wave));
     fails(&["draw", "-t2", path(&wave)], "", &message);
     fails(&["draw"], WAVE, "<stdin>: --tolerance is missing");
-    fails(&["draw"], "T\0", "<stdin>: the record is faulty at byte 0");
+    fails(&["draw"], "T\0", "<stdin>: --tolerance is missing");
+    // The text of a record is drawn as the record is.
+    let shown = done(&["show", path(&wave)], "");
+    assert_eq!(
+        done(&["draw"], &shown),
+        done(&["draw"], fs::read(&wave).unwrap())
+    );
+    fails(
+        &["draw", "-t2"],
+        shown,
+        "<stdin>:1: samples are reduced already at 2/1",
+    );
+    // A name is no part of the picture's text.
+    let odd = folder("draws").join("a<b>&c.csv");
+    fs::write(&odd, "0,0\n").unwrap();
+    let svg = String::from_utf8(done(&["draw", "-t1", path(&odd)], "")).unwrap();
+    let title = "<title>1 sample, 1 kept by walk, tolerance 1: a&lt;b&gt;&amp;c.csv</title>";
+    assert!(svg.contains(title), "{svg}");
 }
 
 #[test]
@@ -304,9 +324,41 @@ fn places_of_errors() {
     fails(&["show", path(&folder)], "", &message);
     fails(
         &["record"],
-        "# tolerance 1/0\n0,0\n",
-        "<stdin>: tolerance: the tolerance is not allowed",
+        "# c\n# tolerance 1/0\n0,0\n",
+        "<stdin>:2: tolerance: the tolerance is not allowed",
     );
+}
+
+/// No tolerance is stated that the samples were not reduced at.
+#[test]
+fn false_tolerances() {
+    let wave = shipped("examples/wave.record");
+    let wave = path(&wave);
+    let two = done(&["show", wave, wave], "");
+    fails(&["record"], &two, "<stdin>:9: a second record begins here");
+    let one = done(&["show", wave], "");
+    for arguments in [&["record", "-t8"][..], &["record", "-t8", "-mminimum"]] {
+        let cause = "<stdin>:1: samples are reduced already at 2/1: tolerances would add";
+        fails(arguments, &one, cause);
+    }
+}
+
+/// A record in the place of text, and text in the place of a record.
+#[test]
+fn the_other_kind() {
+    let wave = fs::read(shipped("examples/wave.record")).unwrap();
+    for arguments in [
+        &["record", "-t1"][..],
+        &["judge", "-t1", "-l0"],
+        &["least", "-a2"],
+    ] {
+        fails(
+            arguments,
+            &wave,
+            "<stdin> is a record: use `kovrelna show`\n",
+        );
+    }
+    fails(&["show"], WAVE, "<stdin> is no record (faulty at byte 0)\n");
 }
 
 /// Noise of every sort is refused with status 2; nothing panics.
@@ -365,6 +417,8 @@ fn command_lines() {
         (&["record", "-m", "walk"], "--method needs --tolerance"),
         (&["record", "-t1", "a", "b"], "b: only one input is read"),
         (&["judge", "-l0"], "--tolerance is missing"),
+        (&["--version", "extra"], "extra: nothing may follow"),
+        (&["--help", "record"], "record: nothing may follow"),
         (&["judge", "-t1"], "one of --list and --list-file is wanted"),
         (
             &["judge", "-t1", "-l", "0,70000"],
@@ -431,6 +485,27 @@ fn full_output() {
         };
         let expected = format!("kovrelna: {place}: No space left on device\n");
         assert_eq!(error, expected, "{arguments:?}");
+    }
+}
+
+/// A record is not written to a terminal, an answer is.
+#[test]
+fn terminal() {
+    let Ok(terminal) = File::options().read(true).write(true).open("/dev/ptmx") else {
+        return;
+    };
+    for (arguments, status) in [
+        (&["record", "-t1"][..], 2),
+        (&["record", "-t1", "-o-"], 2),
+        (&["judge", "-t2", "-l0,4"], 0),
+    ] {
+        let mut command = Command::new(TOOL);
+        command
+            .args(arguments)
+            .stdout(terminal.try_clone().unwrap());
+        let (ended, _, error) = told(&run_with(command, WAVE.as_bytes()));
+        assert_eq!(ended, status, "{arguments:?} {error}");
+        assert_eq!(error.contains("is not written to a terminal"), status == 2);
     }
 }
 
@@ -502,6 +577,10 @@ fn files_survive_errors() {
     for folder in [unwritable, folder.join("missing")] {
         let output = folder.join("out");
         fails(&["record", "-t1", "-o", path(&output)], WAVE, path(&output));
+        if folder.is_dir() {
+            let (_, _, error) = told(&run(&["record", "-t1", "-o", path(&output)], WAVE));
+            assert!(error.contains("no file can be made in /"), "{error}");
+        }
     }
     let message = format!("{}: Is a directory\n", path(&folder));
     fails(&["record", "-t1", "-o", path(&folder)], WAVE, &message);
@@ -528,6 +607,16 @@ fn files_are_replaced() {
     );
     assert!(fs::symlink_metadata(&link).unwrap().is_symlink());
     assert_eq!(fs::read_dir(&folder).unwrap().count(), 2);
+    // A link to no file yet makes the file, and a name may be as long as a name may.
+    let (next, long) = (folder.join("next"), folder.join("n".repeat(255)));
+    std::os::unix::fs::symlink(&long, &next).unwrap();
+    done(&["record", "-t2", "-o", path(&next)], WAVE);
+    assert!(fs::symlink_metadata(&next).unwrap().is_symlink());
+    assert_eq!(fs::read(&long).unwrap(), fs::read(&file).unwrap());
+    std::os::unix::fs::symlink("round", folder.join("round")).unwrap();
+    let round = folder.join("round");
+    let message = format!("{}: too many links\n", path(&round));
+    fails(&["record", "-t2", "-o", path(&round)], WAVE, &message);
     // A name alone is in the folder where the tool runs.
     let mut tool = Command::new(TOOL);
     tool.current_dir(&folder)
@@ -537,4 +626,26 @@ fn files_are_replaced() {
         fs::read(folder.join("new")).unwrap(),
         fs::read(&file).unwrap()
     );
+}
+
+/// Standard output by its names: what is in the file behind it stays.
+#[test]
+fn standard_output_by_name() {
+    let folder = folder("standard_output_by_name");
+    let record = done(&["record", "-t2"], WAVE);
+    assert_eq!(done(&["record", "-t2", "-o", "-"], WAVE), record);
+    let file = folder.join("all");
+    for name in ["-", "/dev/stdout", "/dev/fd/1", "/proc/self/fd/1"] {
+        assert_eq!(done(&["record", "-t2", "-o", name], WAVE), record, "{name}");
+        fs::write(&file, "before").unwrap();
+        let mut tool = Command::new(TOOL);
+        let all = File::options().append(true).open(&file).unwrap();
+        tool.current_dir(&folder)
+            .args(["record", "-t2", "-o", name])
+            .stdout(all);
+        assert_eq!(told(&run_with(tool, WAVE.as_bytes())).0, 0, "{name}");
+        let expected = [&b"before"[..], &record].concat();
+        assert_eq!(fs::read(&file).unwrap(), expected, "{name}");
+    }
+    assert_eq!(fs::read_dir(&folder).unwrap().count(), 1);
 }

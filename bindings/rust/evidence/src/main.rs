@@ -42,6 +42,7 @@ struct Options {
 }
 
 fn options() -> Result<Option<Options>, String> {
+    let mut until = None;
     let mut options = Options {
         until: Until::Cases(10_000),
         seed: RandomState::new().build_hasher().finish(),
@@ -60,17 +61,24 @@ fn options() -> Result<Option<Options>, String> {
         let wrong = |_| format!("{option}: `{value}` is not a number");
         let number = || value.parse::<u64>().map_err(|_| wrong(()));
         match &option[..] {
-            "--cases" => options.until = Until::Cases(number()?),
+            "--cases" | "--minutes" if until.is_some() => {
+                return Err(format!("{option}: how long to run is given already"));
+            }
+            "--cases" => until = Some(Until::Cases(number()?)),
             "--minutes" => {
                 let minutes = value.parse::<f64>().map_err(|_| wrong(()))?;
                 let time = Duration::try_from_secs_f64(60.0 * minutes).map_err(|_| wrong(()))?;
-                options.until = Until::Elapsed(time);
+                until = Some(Until::Elapsed(time));
             }
             "--seed" => options.seed = number()?,
             "--case" => options.case = Some(number()?),
             _ => return Err(format!("there is no option {option}")),
         }
+        if let Some(Until::Cases(0) | Until::Elapsed(Duration::ZERO)) = until {
+            return Err(format!("{option}: with 0 nothing is compared"));
+        }
     }
+    options.until = until.unwrap_or(options.until);
     Ok(Some(options))
 }
 
@@ -125,10 +133,8 @@ fn compare(options: &Options) -> Differed {
         if told.elapsed() >= Duration::from_secs(1) {
             told = Instant::now();
             let (seconds, count) = (begun.elapsed().as_secs(), differed.count);
-            let _ = writeln!(
-                io::stderr(),
-                "{seconds} s: {cases} cases, {count} disagreements"
-            );
+            let (cases, count) = (counted(cases, "case"), counted(count, "disagreement"));
+            let _ = writeln!(io::stderr(), "{seconds} s: {cases}, {count}");
         }
     };
     differed.cases = match options.case {
@@ -162,9 +168,15 @@ fn report(options: &Options, differed: &Differed) -> String {
         cases, time, count, ..
     } = differed;
     let (seed, time) = (options.seed, time.as_secs_f64());
-    report += &format!("\nseed {seed}, {cases} cases in {time:.1} s, {count} disagreements\n");
+    let (cases, count) = (counted(*cases, "case"), counted(*count, "disagreement"));
+    report += &format!("\nseed {seed}, {cases} in {time:.1} s, {count}\n");
     if let Some(case) = differed.first {
-        report += &format!("the first again: evidence --seed {seed} --case {case}\n");
+        report += &format!("the first again: make evidence SEED={seed} CASE={case}\n");
     }
     report
+}
+
+/// So many of these, in words.
+fn counted(count: u64, what: &str) -> String {
+    format!("{count} {what}{}", if count == 1 { "" } else { "s" })
 }

@@ -33,7 +33,7 @@ fn a_seed_gives_the_same_cases() {
 fn one_case() {
     let output = run(&["--seed", "7", "--case", "12"]);
     assert_eq!(output.status.code(), Some(0));
-    assert!(String::from_utf8_lossy(&output.stdout).contains("seed 7, 1 cases"));
+    assert!(String::from_utf8_lossy(&output.stdout).contains("seed 7, 1 case in"));
 }
 
 #[test]
@@ -51,6 +51,12 @@ fn command_lines() {
         (&["--minutes", "-1"], "--minutes: `-1` is not a number"),
         (&["--minutes", "nan"], "--minutes: `nan` is not a number"),
         (&["--hours", "1"], "there is no option --hours"),
+        (&["--cases", "0"], "--cases: with 0 nothing is compared"),
+        (&["--minutes", "0"], "--minutes: with 0 nothing is compared"),
+        (
+            &["--cases", "1", "--minutes", "1"],
+            "--minutes: how long to run is given already",
+        ),
     ] {
         let output = run(arguments);
         assert_eq!(output.status.code(), Some(2), "{arguments:?}");
