@@ -1,6 +1,4 @@
 // Tolerances tried: whether some kept list of at most m samples is within one.
-ghost use mathlib.Core.Path.{_≡_};
-ghost use Rattle.trace.specs.Trace.{Trace};
 ghost use Rattle.trace.specs.Link.{Bounded, criterion};
 ghost use Rattle.closest.specs.Closest.{Task, Reached, Tried};
 use crate::Trial;

@@ -1,13 +1,13 @@
 -- The contract of `hold`, from the answer.
 -- Assumes nothing.
-use mathlib.Core.Path.{_≡_, refl, sym, _∙_, subst}
+use mathlib.Core.Path.{_≡_, sym, _∙_}
 use Prim.Native.Nat.{ℕ}
 use native.Mathlib.Omega.{arith}
 use Rattle.ratio.specs.declared.Ratio.{Ratio}
 use Rattle.tolerance.specs.declared.Tolerance.{Tolerance}
 use Rattle.tolerance.specs.declared.Meaning.{Meaning}
 use Rattle.tolerance.specs.declared.Meaning.the-variants.{Exact, NotAllowed}
-use Rattle.tolerance.specs.Meaning.{meaning, Held as IsHeld}
+use Rattle.tolerance.specs.Meaning.{meaning}
 use Rattle.tolerance.proofs.Meanings.{exact-held}
 use Rattle.engine.specs.declared.Holding.{Holding}
 use Rattle.engine.specs.declared.Holding.the-variants.{Held}

@@ -1,6 +1,6 @@
 -- Laws of the rows of least, and of its outcome.
 -- Assumes nothing.
-use mathlib.Core.Path.{_≡_, refl, sym, _∙_}
+use mathlib.Core.Path.{_≡_}
 use mathlib.Core.List.{List}
 use Prim.Native.Nat.{ℕ, _-_, _≤_, _<_}
 use native.Mathlib.Omega.{arith}
@@ -17,7 +17,7 @@ use Rattle.refusal.proofs.TableLaws.{row-fine, then-fine}
 use Rattle.kept.specs.Minimum.{minimumOf}
 use Rattle.kept.specs.Least.{leastOf}
 use Rattle.kept.proofs.LeastLaws.{least-error}
-use Rattle.trace.specs.Trace.{Trace, traceRows}
+use Rattle.trace.specs.Trace.{traceRows}
 use Rattle.trace.specs.Link.{linkError, criterion, Bounded}
 use Rattle.trace.proofs.TraceLaws.{rows-trace}
 use Rattle.trace.proofs.Errors.{trace-measures}

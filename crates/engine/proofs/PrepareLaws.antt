@@ -1,6 +1,6 @@
 -- Laws of the checks 1 to 4.
 -- Assumes nothing.
-use mathlib.Core.Path.{_≡_, refl, sym, _∙_}
+use mathlib.Core.Path.{_≡_}
 use mathlib.Core.List.{List}
 use Prim.Native.Nat.{ℕ, _≤_, _<_}
 use native.Mathlib.Omega.{arith}
@@ -18,7 +18,7 @@ use Rattle.tolerance.specs.Meaning.{meaning}
 use Rattle.tolerance.proofs.Meanings.{exact-held}
 use Rattle.trace.specs.declared.Criterion.{Criterion}
 use Rattle.trace.specs.Trace.{Trace, traceRows}
-use Rattle.trace.specs.Link.{criterion, Bounded}
+use Rattle.trace.specs.Link.{criterion}
 use Rattle.trace.proofs.TraceLaws.{rows-trace}
 use Rattle.engine.specs.declared.Ready.{Ready}
 use Rattle.engine.specs.declared.Ready.the-variants.{At, Refused as Declined}

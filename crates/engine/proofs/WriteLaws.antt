@@ -1,13 +1,12 @@
 -- Laws of the rows of write, and its contract from the writer's.
 -- Assumes nothing.
-use mathlib.Core.Path.{_≡_, refl, sym, subst, ap, _∙_}
+use mathlib.Core.Path.{_≡_, refl, sym, subst}
 use mathlib.Core.List.{List}
 use Prim.Native.Nat.{ℕ, _-_, _≤_, _<_}
 use native.Mathlib.Omega.{arith}
 use lib.IntN.{ℤ}
 use lib.ListN.{length}
 use borrow.Author.Tests.{le-leb, lt-leb}
-use Rattle.ratio.specs.declared.Ratio.{Ratio}
 use Rattle.refusal.specs.declared.Refusal.{Refusal}
 use Rattle.refusal.specs.declared.Refusal.the-variants.{Link}
 use Rattle.refusal.specs.declared.Checked.{Checked}
@@ -24,13 +23,12 @@ use Rattle.proposed.specs.Proposed.{listRow, firstInvalid}
 use Rattle.proposed.proofs.ProposedLaws.{row-kept}
 use Rattle.format.specs.Format.{encode}
 use Rattle.writer.specs.declared.Answer as W
-use Rattle.writer.specs.declared.Answer.the-variants.{Written as WrittenAs, Refused as NotWritten}
 use Rattle.writer.specs.Writing.{Kept, selected, writeRow, WrittenAt, WriteDeclined}
 use Rattle.writer.specs.Writing as Writing
 use Rattle.engine.specs.Hold.{toleranceRow}
 use Rattle.engine.specs.Prepare.{commonRows, criterionIn, criterionOf, ReadyAt}
 use Rattle.engine.specs.Judge.{judgeRows}
-use Rattle.engine.specs.Write.{ratioOf, contentOf, linkRow, writeRows, Recorded, ListReady}
+use Rattle.engine.specs.Write.{ratioOf, contentOf, writeRows, Recorded, ListReady}
 
 -- an allowed tolerance is held in lowest terms
 row-held : (t : Tolerance) → toleranceRow (meaning t) ≡ Fine → Held (ratioOf (criterionOf t))

@@ -1,13 +1,13 @@
 -- Laws of commands: a command that was written is read as it is, and one that was read is written as it was.
 -- Assumes nothing.
 use mathlib.Core.Path.{_≡_, refl, sym, ap, _∙_}
-use mathlib.Core.Bool.{Bool, true, false, _&&_}
+use mathlib.Core.Bool.{Bool, true, false}
 use mathlib.Core.List.{List, [], _∷_, _++_}
 use Prim.Native.Nat.{ℕ, _+_, _-_, _^_, _≤_, _<_}
 use native.Mathlib.Omega.{arith}
-use borrow.Author.Tests.{le-leb, lt-leb, leb-true, eqb-true, ne-eqb}
-use lib.Dec.{leb, eqb}
-use lib.ListN.{length, take, drop, getD, length-drop, take-append-drop, List·getD-eq-default}
+use borrow.Author.Tests.{le-leb, leb-true, eqb-true}
+use lib.Dec.{eqb}
+use lib.ListN.{length, take, drop, getD, length-drop, take-append-drop}
 use lib.Seq.{drop-drop, drop-cons, length-take-le}
 use Rattle.lists.proofs.Tests.{and-first, and-second}
 use Rattle.format.specs.Number.{numberFrom, bytesOnto, field, Bytes, flip16, flip8}

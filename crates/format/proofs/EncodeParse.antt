@@ -2,7 +2,7 @@
 -- samples of an accepted record are those of a trace.
 --   Stepped, stepped   what holds of a step from one cursor to the next
 -- Assumes nothing.
-use mathlib.Core.Path.{_≡_, refl, sym, ap, _∙_, subst}
+use mathlib.Core.Path.{_≡_, refl, ap, _∙_, subst}
 use mathlib.Core.Bool.{Bool, true, false, not, _&&_}
 use mathlib.Core.List.{List, [], _∷_}
 use Prim.Native.Nat.{ℕ, zero, suc, _+_, _-_, _≤_, _<_}
@@ -17,14 +17,14 @@ use Rattle.lists.proofs.Tests.{and-first, and-second}
 use Rattle.ratio.specs.declared.Ratio.{Ratio}
 use Rattle.trace.specs.Level.{level}
 use Rattle.format.specs.Number.{Bytes, valueOf}
-use Rattle.format.specs.Command.{sizeOf, choose, commandOf, commandOnto}
+use Rattle.format.specs.Command.{choose, commandOf, commandOnto}
 use Rattle.format.specs.Format.{Content, Legal, Accepted, allowed, within, short, follows, moved, shortStep, longStep, endStep, obey, stepOf, Samples, fault, samples, onto, follow, steps, firstOf, toleranceOf, Parsed, faulty, says, attach, began, parse, stepTo, stepsOnto, samplesOnto, encode}
 use Rattle.format.specs.declared.Cursor.{Cursor}
 use Rattle.format.specs.declared.Command.{Command}
 use Rattle.format.specs.declared.Command.the-variants.{Tolerance, First, Short, Long, End, Invalid}
 use Rattle.format.specs.declared.Step.{Step}
 use Rattle.format.specs.declared.Step.the-variants.{Sample, End as Ended, Fault}
-use Rattle.format.specs.declared.Header.the-variants.{Start, Fault as NoHeader}
+use Rattle.format.specs.declared.Header.the-variants.{Fault as NoHeader}
 use Rattle.format.proofs.NumberLaws.{bytes-drop, level-value, value-short}
 use Rattle.format.proofs.CommandLaws.{Starts, Read, read}
 use Rattle.format.proofs.RuleLaws.{within-le, allowed-held, Follows, follows-legal}

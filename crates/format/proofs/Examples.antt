@@ -7,9 +7,9 @@ use Prim.Native.Nat.{ℕ}
 use lib.IntN.{pos}
 use lib.ListN.{take, set}
 use Rattle.ratio.specs.Gcd.{gcd}
-use Rattle.format.specs.Number.{numberFrom, bytesOnto, valueOf}
+use Rattle.format.specs.Number.{numberFrom, valueOf}
 use Rattle.format.specs.Command.{commandOf}
-use Rattle.format.specs.Format.{Content, allowed, short, shortStep, longStep, endStep, steps, faulty, says, parse, stepsOnto, samplesOnto, encode}
+use Rattle.format.specs.Format.{Content, allowed, short, shortStep, longStep, endStep, steps, faulty, says, parse}
 
 -- samples 0 and 2 of ticks 0 1 3 and values 0 1 1, at 2/3
 abbrev kept : Content

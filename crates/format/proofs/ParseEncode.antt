@@ -1,7 +1,7 @@
 -- What is written is read back: `parse (encode x)` is x for every legal content x.
 -- Assumes nothing.
 use mathlib.Core.Path.{_≡_, refl, sym, ap, _∙_}
-use mathlib.Core.Bool.{Bool, true, false, not}
+use mathlib.Core.Bool.{true, false}
 use mathlib.Core.List.{List, [], _∷_}
 use Prim.Native.Nat.{ℕ, zero, suc, _+_, _-_, _≤_, _<_}
 use native.Mathlib.Nat.{add-zero}
@@ -11,14 +11,12 @@ use lib.Dec.{leb}
 use lib.IntN.{ℤ}
 use lib.ListN.{length, drop, length-drop}
 use lib.Seq.{drop-drop}
-use lib.Signed.{mag}
 use Rattle.lists.proofs.Tests.{by-test}
 use Rattle.ratio.specs.declared.Ratio.{Ratio}
 use Rattle.trace.specs.Level.{level}
 use Rattle.trace.proofs.Level.{level-short}
-use Rattle.format.specs.Number.{valueOf}
-use Rattle.format.specs.Command.{sizeOf, choose, commandOf, commandOnto}
-use Rattle.format.specs.Format.{Content, Legal, within, short, shortStep, longStep, endStep, stepOf, Samples, samples, onto, steps, Parsed, says, parse, stepTo, stepsOnto, samplesOnto, encode}
+use Rattle.format.specs.Command.{sizeOf, commandOnto}
+use Rattle.format.specs.Format.{Content, Legal, within, short, shortStep, longStep, endStep, stepOf, samples, steps, says, parse, stepTo, stepsOnto, samplesOnto, encode}
 use Rattle.format.specs.declared.Cursor.{Cursor}
 use Rattle.format.specs.declared.Command.{Command}
 use Rattle.format.specs.declared.Command.the-variants.{Tolerance, First, Short, Long, End}

@@ -1,8 +1,8 @@
 -- Laws of the rules: what each test says, and that samples which follow one another by the rules are those of a trace.
 --   Follows     each sample after one at a tick t rises and is within the limits of a trace that starts at a tick first
 -- Assumes nothing.
-use mathlib.Core.Path.{_≡_, refl, sym, ap, _∙_}
-use mathlib.Core.Bool.{Bool, true, false, _&&_}
+use mathlib.Core.Path.{_≡_, refl, ap}
+use mathlib.Core.Bool.{true, _&&_}
 use mathlib.Core.List.{List, [], _∷_}
 use Prim.Native.Nat.{ℕ, zero, suc, _+_, _-_, _*_, _≤_, _<_}
 use native.Mathlib.Omega.{arith}
@@ -11,13 +11,13 @@ use lib.Dec.{leb, eqb}
 use lib.IntN.{ℤ}
 use lib.ListN.{length}
 use lib.Signed.{mag}
-use Rattle.lists.proofs.Tests.{and-true, and-first, and-second}
+use Rattle.lists.proofs.Tests.{and-first, and-second}
 use Rattle.ratio.specs.declared.Ratio.{Ratio}
 use Rattle.ratio.specs.Gcd.{gcd}
 use Rattle.tolerance.specs.Meaning.{Held}
-use Rattle.trace.specs.Trace.{tick, value, Rising, Trace}
+use Rattle.trace.specs.Trace.{tick, value, Rising}
 use Rattle.trace.proofs.Ticks.{not-earlier}
-use Rattle.format.specs.Format.{Content, Legal, allowed, within, short}
+use Rattle.format.specs.Format.{Legal, allowed, within, short}
 
 -- ---- tests
 

@@ -1,7 +1,7 @@
 -- A kept list within p/q has its lines within p/q of the trace's own at every tick between the first and the last. Inside a link both are
 -- straight from each sample to the next, so their difference there is a mean of those at two samples, which are deviations of the link.
 -- Assumes nothing.
-use mathlib.Core.Path.{_≡_, refl, sym, _∙_, ap, subst}
+use mathlib.Core.Path.{_≡_, refl, _∙_, ap, subst}
 use mathlib.Core.Bool.{true}
 use mathlib.Core.Logic.{⊎-elim}
 use mathlib.Core.List.{List}

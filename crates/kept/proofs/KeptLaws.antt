@@ -1,13 +1,13 @@
 -- Laws of kept lists, and the size theorem of the greedy reductions.
 -- Assumes nothing.
-use mathlib.Core.Path.{_≡_, refl, sym, _∙_, ap, subst}
+use mathlib.Core.Path.{_≡_, refl, sym, _∙_}
 use mathlib.Core.Bool.{Bool, true, false, true≢false}
-use mathlib.Core.List.{List, [], _∷_, _++_}
+use mathlib.Core.List.{List, [], _∷_}
 use Prim.Native.Nat.{ℕ, zero, suc, _+_, _≤_, _<_}
 use native.Mathlib.Omega.{arith}
 use native.Mathlib.Decide.{decLe}
 use lib.ListN.{length, getD}
-use Rattle.kept.specs.Kept.{LinksFrom, EachLink, final, Spans, KeptList, AllValid, MaximalStops, Halves, GreedyStop, Greedy, SizeBound}
+use Rattle.kept.specs.Kept.{LinksFrom, EachLink, final, KeptList, MaximalStops, Halves, GreedyStop, Greedy, SizeBound}
 
 -- a list that rises ends above its start by at least its number of links
 pub rise-le : (i : ℕ) (s : List ℕ) → LinksFrom _<_ i s → i + length s ≤ final i s

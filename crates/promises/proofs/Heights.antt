@@ -1,7 +1,7 @@
 -- The error budget (heights: specs/Heights) of every list that a call writes or passes, from the call's contract alone.
 -- What a call wrote is read from its output: the first n entries, n being the number that it returned.
 -- Assumes nothing.
-use mathlib.Core.Path.{_≡_, refl, sym, subst}
+use mathlib.Core.Path.{_≡_, refl, subst}
 use mathlib.Core.List.{List}
 use Prim.Native.Nat.{ℕ, _-_, _≤_}
 use native.Mathlib.Omega.{arith}

@@ -2,24 +2,24 @@
 -- Assumes nothing.
 use mathlib.Core.Path.{_≡_, refl, sym, ap, subst, _∙_}
 use mathlib.Core.Logic.{_↔_}
-use mathlib.Core.Bool.{Bool, true, false, cond, not, _&&_, _||_}
+use mathlib.Core.Bool.{Bool, true, false, not, _||_}
 use mathlib.Core.List.{List, [], _∷_}
 use Prim.Native.Nat.{ℕ, zero, suc, _+_, _-_, _≤_, _<_}
 use native.Mathlib.Numerals.{add-one}
 use native.Mathlib.Omega.{arith}
 use lib.Dec.{leb, eqb}
 use lib.IntN.{ℤ}
-use lib.ListN.{length, getD}
-use borrow.Author.Tests.{le-leb, lt-leb, leb-true, leb-false, eq-eqb, ne-eqb, eqb-true, eqb-false, not-true, not-false}
+use lib.ListN.{length}
+use borrow.Author.Tests.{le-leb, lt-leb, leb-true, leb-false, eq-eqb, ne-eqb, eqb-true, not-false}
 use Rattle.lists.specs.First.{first}
-use Rattle.lists.proofs.Tests.{by-test, and-true, and-first, and-second, true-false}
-use Rattle.lists.proofs.FirstLaws.{first-found, first-none, first-at}
+use Rattle.lists.proofs.Tests.{and-first, and-second, true-false}
+use Rattle.lists.proofs.FirstLaws.{first-found, first-none}
 use Rattle.refusal.specs.declared.Refusal.the-variants.{List as NoKeptList}
 use Rattle.refusal.specs.declared.Checked.{Checked}
 use Rattle.refusal.specs.declared.Checked.the-variants.{Fine, Refused}
 use Rattle.refusal.specs.Table.{placed}
 use Rattle.refusal.proofs.TableLaws.{row-fine, then-fine}
-use Rattle.kept.specs.Kept.{LinksFrom, EachLink, final, KeptList, AllValid}
+use Rattle.kept.specs.Kept.{LinksFrom, final, KeptList, AllValid}
 use Rattle.kept.proofs.KeptLaws.{links-at, links-of, kept-links}
 use Rattle.trace.specs.declared.Criterion.{Criterion}
 use Rattle.trace.specs.Trace.{Trace}

@@ -1,15 +1,14 @@
 -- Laws of the links from one sample: how they begin, what they say of a link, and one sample more.
 -- Assumes nothing.
-use mathlib.Core.Path.{_≡_, refl, sym, ap, subst, _∙_}
+use mathlib.Core.Path.{_≡_, sym, subst, _∙_}
 use mathlib.Core.Logic.{⊎-elim}
 use mathlib.Core.Bool.{Bool, true, false}
 use mathlib.Core.List.{List}
-use Prim.Native.Nat.{ℕ, _+_, _-_, _*_, _≤_, _<_}
-use native.Mathlib.Nat.{eq-or-lt-of-le, mul-le-mul-right}
+use Prim.Native.Nat.{ℕ, _+_, _-_, _<_}
+use native.Mathlib.Nat.{eq-or-lt-of-le}
 use native.Mathlib.Omega.{arith}
 use lib.IntN.{ℤ}
 use lib.ListN.{length}
-use borrow.Author.Tests.{le-leb}
 use Rattle.lists.proofs.Tests.{and-true, is-false, is-true-unless, true-false}
 use Rattle.trace.specs.declared.Criterion.{Criterion}
 use Rattle.trace.specs.declared.Start.{Start}
@@ -17,7 +16,7 @@ use Rattle.trace.specs.declared.Edge.{Edge}
 use Rattle.trace.specs.declared.Cone.{Cone}
 use Rattle.trace.specs.Trace.{Trace}
 use Rattle.trace.specs.Link.{Linked, Bounded, valid}
-use Rattle.trace.specs.Edge.{middle, edgeOf, StartAt, EdgeTo, Slope, Tilt, noSteeper, lowered, raised}
+use Rattle.trace.specs.Edge.{middle, StartAt, EdgeTo, Slope, Tilt, noSteeper}
 use Rattle.trace.specs.Cone.{coneFrom, admitsEdge, extendedBy, ConeFits}
 use Rattle.trace.proofs.EdgeLaws.{edge-at, tilts, tilt-slope, low-test, high-test}
 use Rattle.trace.proofs.Validity.{true-valid, not-above, not-below}

@@ -9,7 +9,7 @@ use lib.IntN.{ℤ}
 use lib.ListN.{length}
 use Rattle.kept.specs.Kept.{KeptList, AllValid, Greedy, EachLink}
 use Rattle.kept.specs.Gallop.{gallopSearch, linkSum, floorLog2}
-use Rattle.kept.proofs.KeptLaws.{kept-length, greedy-size}
+use Rattle.kept.proofs.KeptLaws.{greedy-size}
 use Rattle.kept.proofs.WalkLaws.{walk-greedy}
 use Rattle.kept.proofs.GallopLaws.{gallop-greedy, stop-probes, gallop-probes}
 use Rattle.trace.specs.declared.Criterion.{Criterion}

@@ -11,7 +11,7 @@ use lib.ListN.{length, getD}
 use borrow.Author.Tests.{le-leb, lt-leb}
 use Rattle.lists.proofs.Tests.{by-test}
 use Rattle.kept.specs.Minimum.{StepsTo, Minimum, linksOf, nextOf}
-use Rattle.kept.proofs.MinimumLaws.{minimum-of, minimum-length, Choosing, choosing-none, choosing-more, chosen}
+use Rattle.kept.proofs.MinimumLaws.{minimum-of, Choosing, choosing-none, choosing-more, chosen}
 use Rattle.trace.specs.declared.Criterion.{Criterion}
 use Rattle.trace.specs.declared.Start.{Start}
 use Rattle.trace.specs.declared.Edge.{Edge}

@@ -12,15 +12,13 @@
 use mathlib.Core.Path.{_≡_}
 use mathlib.Core.List.{List, []}
 use Prim.Native.Nat.{ℕ, suc, _+_, _-_, _≤_, _<_}
-use lib.Dec.{leb}
 use lib.IntN.{ℤ, pos}
-use lib.ListN.{length, take, drop, getD}
+use lib.ListN.{length, take, drop}
 use lib.Signed.{mag}
 use Rattle.lists.specs.Part.{overwriteFrom}
 use Rattle.lists.specs.Select.{select}
 use Rattle.ratio.specs.declared.Ratio.{Ratio}
 use Rattle.refusal.specs.declared.Refusal.{Refusal}
-use Rattle.refusal.specs.declared.Refusal.the-variants.{Room}
 use Rattle.refusal.specs.declared.Checked.{Checked}
 use Rattle.refusal.specs.declared.Checked.the-variants.{Fine, Refused as Declined}
 use Rattle.refusal.specs.Table.{roomRow}

@@ -2,7 +2,6 @@
 ghost use mathlib.Core.Path.{_≡_};
 ghost use Prim.Native.Nat.{_+_, _<_};
 ghost use lib.ListN.{length};
-ghost use Rattle.format.specs.Format.{stepTo};
 ghost use Rattle.writer.specs.Writing.{Kept, SampleAt, StepBetween, StepOk, MoveFrom};
 use crate::Move;
 use crate::Sample;

@@ -1,7 +1,5 @@
 -- `reduce::print_samples` is safe and ends. Assumes nothing.
 use Prim.Native.Nat.{_-_, _≤_}
-use lib.ListN.{length}
-use native.Mathlib.Omega.{arith}
 use borrow.Author.Needs.{needs}
 use Rattle.reduce.proofs.print_samples.Statement.{statement}
 use Rattle.reduce.proofs.print_samples.Tie as tie

@@ -1,5 +1,4 @@
 -- `closest::search::descend` meets its contract: the loop has an error that is reached, and goes on at a lesser one. Assumes nothing.
-use mathlib.Core.Bool.{not}
 use borrow.Author.Tests.{not-true, not-false}
 use native.Mathlib.Omega.{arith}
 use Rattle.trace.specs.Link.{criterion, Bounded}

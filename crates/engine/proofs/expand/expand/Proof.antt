@@ -1,7 +1,6 @@
 -- `engine::expand::expand` meets its contract. Assumes nothing.
 use mathlib.Core.Path.{refl}
 use lib.ListN.{length}
-use Rattle.codes.specs.Code.{codeValues}
 use Rattle.engine.proofs.ExpandLaws.{codes-none, codes-many, codes-room, codes-fine, codes-count}
 use borrow.Author.Needs.{needs}
 use Rattle.engine.proofs.expand.expand.Statement.{statement}

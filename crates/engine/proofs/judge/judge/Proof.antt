@@ -1,6 +1,6 @@
 -- `engine::judge::judge` meets its contract. Assumes nothing.
 use borrow.Author.Needs.{needs}
-use mathlib.Core.Path.{sym, subst, ap, _∙_}
+use mathlib.Core.Path.{subst, ap, _∙_}
 use Rattle.trace.specs.declared.Criterion.{Criterion}
 use Rattle.engine.specs.Prepare.{Prepared, ReadyAt}
 use Rattle.engine.specs.Judge.{judgedAt}

@@ -1,5 +1,5 @@
 -- `engine::judge::verdict` meets its contract. Assumes nothing.
-use Prim.Native.Nat.{_+_, _-_}
+use Prim.Native.Nat.{_-_}
 use mathlib.Core.Path.{sym, _∙_, ap}
 use native.Mathlib.Omega.{arith}
 use Rattle.engine.specs.declared.Verdict.the-variants.{No}

@@ -1,5 +1,5 @@
 -- `engine::write::write_list` meets its contract. Assumes nothing.
-use Prim.Native.Nat.{_+_, _-_}
+use Prim.Native.Nat.{_-_}
 use mathlib.Core.Path.{refl, subst}
 use native.Mathlib.Omega.{arith}
 use Rattle.writer.specs.declared.Answer as W
