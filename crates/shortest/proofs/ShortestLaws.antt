@@ -79,8 +79,8 @@ module _ {ts : List ℕ} {vs : List ℤ} {c : Criterion} {links : List ℕ} {i :
     inside : j < length ts
     inside = omega (arith, s .trace .some)
 
-    pub ends-room : (b < length links) × (j < length links)
-    ends-room = let room = s .counted .links-room in (omega (arith, g .choosing .before), omega arith)
+    pub end-room : j < length links
+    end-room = omega (arith, s .counted .links-room)
 
     pub edge-requires : Reach ts vs (c .q) st j
     edge-requires = reach at (s .trace) (omega (arith, g .choosing .from)) inside (s .bounded .q-bound)

@@ -20,12 +20,26 @@ use trace::edges::edge_to;
 use trace::edges::no_steeper;
 use trace::edges::start_at;
 
+// An end of a link: its sample, and the fewest links from it on.
+pub struct End {
+    pub sample: usize,
+    pub links: u16,
+}
+
 // The better of two ends of valid links: j if no more links lead on from it than from b; otherwise b.
-fn better(links: &[u16], b: usize, j: usize) -> usize
-    requires { ⌜ (b < length (now links)) × (j < length (now links)) ⌝ }
-    ensures { λ r. ⌜ r ≡ betterEnd (getD (now (links .entry)) j 0) (getD (now (links .entry)) b 0) true j b ⌝ }
+fn better(links: &[u16], b: End, j: usize) -> End
+    requires { ⌜ (b .links ≡ getD (now links) (b .sample) 0) × (j < length (now links)) ⌝ }
+    ensures is { λ r. ⌜ r .sample ≡ betterEnd (getD (now (links .entry)) j 0) (getD (now (links .entry)) (b .sample) 0) true j (b .sample) ⌝ }
+    ensures links { λ r. ⌜ r .links ≡ getD (now (links .entry)) (r .sample) 0 ⌝ }
 {
-    if links[b] < links[j] { b } else { j }
+    let n = links[j];
+    if b.links < n {
+        return b;
+    }
+    End {
+        sample: j,
+        links: n,
+    }
 }
 
 // Whether the cone is empty: its low edge is steeper than its high one.
@@ -46,9 +60,13 @@ fn next_stop(ticks: &[u32], values: &[i16], c: Criterion, links: &[u16], i: usiz
 {
     let last = ticks.len() - 1;
     let from = start_at(ticks, values, i, c.q);
-    let mut cone = cone_of(edge_to(ticks, values, from, i + 1, c.q), c.p);
-    let mut b = i + 1;
-    let mut j = b + 1;
+    let first = i + 1;
+    let mut cone = cone_of(edge_to(ticks, values, from, first, c.q), c.p);
+    let mut b = End {
+        sample: first,
+        links: links[first],
+    };
+    let mut j = first + 1;
     while j <= last {
         let to = edge_to(ticks, values, from, j, c.q);
         if admits(cone, to) {
@@ -57,12 +75,12 @@ fn next_stop(ticks: &[u32], values: &[i16], c: Criterion, links: &[u16], i: usiz
         } else {
             cone = extended(cone, to, c.p);
             if is_empty(cone) {
-                return b;
+                return b.sample;
             }
         }
         j += 1;
     }
-    b
+    b.sample
 }
 
 // Fills both tables from the last sample back: the fewest links from each sample on, and the latest next sample of such a list.

@@ -1,5 +1,5 @@
--- Edges: the unsigned form in which links are computed.
---   middle           2^37: a rise is held that much higher, so that it is never negative
+-- Edges: the form in which links are computed.
+--   middle           2^37: a rise is held that much higher, so that it is a natural number
 --   climbOf, edgeOf  a rise with its sign; the edge of a rise and a run
 --   StartAt, EdgeTo  what a start and an edge are of a trace
 --   noSteeper        a is no steeper than b

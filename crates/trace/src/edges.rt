@@ -1,4 +1,4 @@
-// Edges: directions from a start, compared without a division and without a sign.
+// Edges: directions from a start, compared without a division.
 ghost use mathlib.Core.Path.{_≡_};
 ghost use Prim.Native.Nat.{_+_, _-_, _*_, _≤_, _<_};
 ghost use lib.IntN.{pos, _*ℤ_};
@@ -68,6 +68,7 @@ fn climb_of(rise: u64) -> i64
     rise as i64 - 0x20_0000_0000
 }
 
+// The edge of a rise and a run.
 pub fn edge_of(rise: u64, run: u64) -> Edge
     requires { ⌜ rise ≤ 274877906944 ⌝ }
     ensures { λ r. ⌜ r ≡ edgeOf rise run ⌝ }
@@ -117,7 +118,11 @@ pub fn lower_by(e: Edge, p: u64) -> Edge
     requires { ⌜ Tilt e p ⌝ }
     ensures { λ r. ⌜ (r ≡ lowered e p) × Slope r ⌝ }
 {
-    edge_of(e.rise - p, e.run)
+    Edge {
+        rise: e.rise - p,
+        run: e.run,
+        climb: e.climb - p as i64,
+    }
 }
 
 // The edge p higher.
@@ -125,5 +130,9 @@ pub fn raise_by(e: Edge, p: u64) -> Edge
     requires { ⌜ Tilt e p ⌝ }
     ensures { λ r. ⌜ (r ≡ raised e p) × Slope r ⌝ }
 {
-    edge_of(e.rise + p, e.run)
+    Edge {
+        rise: e.rise + p,
+        run: e.run,
+        climb: e.climb + p as i64,
+    }
 }
