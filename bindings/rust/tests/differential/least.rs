@@ -46,8 +46,14 @@ fn random_traces() {
 fn longest_traces() {
     let random = &mut Random::new(28);
     for kind in KINDS {
-        for (samples, allowance) in [(256, 2), (256, 17), (256, 255), (255, 3), (255, 100)] {
-            least_list(&trace(kind, samples, random), allowance, samples);
+        for (samples, allowances) in [
+            (256, [2, 3, 17, 255, 256, 4096]),
+            (255, [2, 3, 100, 254, 255, 4096]),
+        ] {
+            let trace = trace(kind, samples, random);
+            for allowance in allowances {
+                least_list(&trace, allowance, samples);
+            }
         }
     }
 }
