@@ -148,9 +148,7 @@ pub fn reduce(
     for guards in GUARDS {
         let ticks = Guarded::new(ticks, guards.0);
         let values = Guarded::new(values, guards.1);
-        // No list has an entry like these.
-        let before: Vec<u16> = (0..room).map(|k| (k as u16 ^ guards.2) | 0x8000).collect();
-        let mut out = Guarded::new(&before, guards.2);
+        let mut out = output(room, guards.2);
         let (t, v) = (ticks.slice(), values.slice());
         let answer = match method {
             Method::Walk => kovrelna::walk(t, v, tolerance, out.slice_mut()).map(|kept| (kept, 0)),
@@ -179,6 +177,12 @@ pub fn reduce(
     expected
 }
 
+/// An output of `room` entries that no list has, between guard elements.
+fn output(room: usize, guard: u16) -> Guarded<u16> {
+    let entries: Vec<u16> = (0..room).map(|k| (k as u16 ^ guard) | 0x8000).collect();
+    Guarded::new(&entries, guard)
+}
+
 /// Calls `least` with an output of `room` entries between two kinds of guard elements, compares with the
 /// reference, sees that the output begins with the list and that no other element changed, and returns
 /// the error and the list, or the refusal's row.
@@ -188,9 +192,7 @@ pub fn least(ticks: &[u32], values: &[i16], allowance: u64, room: usize) -> Resu
     for guards in GUARDS {
         let ticks = Guarded::new(ticks, guards.0);
         let values = Guarded::new(values, guards.1);
-        // No list has an entry like these.
-        let before: Vec<u16> = (0..room).map(|k| (k as u16 ^ guards.2) | 0x8000).collect();
-        let mut out = Guarded::new(&before, guards.2);
+        let mut out = output(room, guards.2);
         let (t, v) = (ticks.slice(), values.slice());
         let answer = kovrelna::least(t, v, allowance, out.slice_mut())
             .map(|least| (least.kept, least.error.p, least.error.q))
