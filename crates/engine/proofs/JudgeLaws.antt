@@ -24,7 +24,7 @@ use Rattle.proposed.proofs.ProposedLaws.{row-kept, all-valid}
 use Rattle.engine.specs.declared.Verdict.{Verdict}
 use Rattle.engine.specs.declared.Verdict.the-variants.{Yes, No, Refused as Declined}
 use Rattle.engine.specs.Prepare.{commonRows, criterionOf}
-use Rattle.engine.specs.Judge.{judgeRows, verdictOf, declineOr, judgeOf, judgedAt, JudgeOutcome}
+use Rattle.engine.specs.Judge.{judgeRows, listVerdict, declineOr, judgeOf, judgedAt, JudgeOutcome}
 use Rattle.engine.proofs.PrepareLaws.{common-trace}
 
 -- ---- the verdict
@@ -34,16 +34,16 @@ module _ (ts : List ℕ) (vs : List ℤ) (l : List ℕ) (c : Criterion) where
   unfolding firstInvalid
   invalid-bound = first-found (invalidAt ts vs c l) 0 (length l - 1) (omega arith) .to
 
-  pub verdict-yes : length l - 1 ≤ firstInvalid ts vs c l → verdictOf ts vs l c ≡ Yes
-  unfolding verdictOf
+  pub verdict-yes : length l - 1 ≤ firstInvalid ts vs c l → listVerdict ts vs l c ≡ Yes
+  unfolding listVerdict
   verdict-yes h = rw (le-leb (length l - 1) (firstInvalid ts vs c l) h)
 
-  pub verdict-no : firstInvalid ts vs c l < length l - 1 → verdictOf ts vs l c ≡ No (firstInvalid ts vs c l)
-  unfolding verdictOf
+  pub verdict-no : firstInvalid ts vs c l < length l - 1 → listVerdict ts vs l c ≡ No (firstInvalid ts vs c l)
+  unfolding listVerdict
   verdict-no h = rw (lt-leb (length l - 1) (firstInvalid ts vs c l) h)
 
-  yes-verdict : verdictOf ts vs l c ≡ Yes → length l - 1 ≤ firstInvalid ts vs c l
-  unfolding verdictOf
+  yes-verdict : listVerdict ts vs l c ≡ Yes → length l - 1 ≤ firstInvalid ts vs c l
+  unfolding listVerdict
   yes-verdict e = go (leb (length l - 1) (firstInvalid ts vs c l)) refl e
     where
       go : (b : Bool) → leb (length l - 1) (firstInvalid ts vs c l) ≡ b → cond b Yes (No (firstInvalid ts vs c l)) ≡ Yes → length l - 1 ≤ firstInvalid ts vs c l
@@ -57,7 +57,7 @@ decline-fine {x = Fine} e = (refl, e)
 decline-fine {x = Refused r} e = let z : _≡_ {A = ℕ} 0 1 = cc in absurd (omega arith)
 
 module _ (ts : List ℕ) (vs : List ℤ) (l : List ℕ) where
-  pub list-fine : (c : Criterion) → listRow (length ts) l ≡ Fine → verdictOf ts vs l c ≡ judgedAt ts vs l c
+  pub list-fine : (c : Criterion) → listRow (length ts) l ≡ Fine → listVerdict ts vs l c ≡ judgedAt ts vs l c
   unfolding judgedAt
   list-fine c h = rw h
 

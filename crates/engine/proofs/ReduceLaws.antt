@@ -19,7 +19,7 @@ use Rattle.reduction.proofs.ReductionLaws.{walk-list-greedy, gallop-list-greedy
 use Rattle.shortest.specs.Shortest.{minimumList}
 use Rattle.shortest.proofs.ShortestLaws.{minimum-list}
 use Rattle.engine.specs.Prepare.{criterionOf, OutputReady}
-use Rattle.engine.specs.Reduce.{okOf, GreedyList, Walked, Searched}
+use Rattle.engine.specs.Reduce.{okOf, GreedyList, WalkKept, GallopKept}
 use Rattle.engine.specs.Minimum.{Shortened}
 
 -- any greedy list: kept, of valid links, with maximal stops
@@ -32,14 +32,14 @@ at-tolerance r P h = subst P (r .ready .is) h
 
 -- what a kernel wrote at the criterion c, where the checks pass
 module _ {ts : List ℕ} {vs : List ℤ} {t : Tolerance} {o o′ : List ℕ} {n : ℕ} {c : Criterion} (r : OutputReady ts vs t (length o) c) where
-  pub walked : Wrote (walkList ts vs c) o n o′ → Walked ts vs t o n o′
+  pub walked : Wrote (walkList ts vs c) o n o′ → WalkKept ts vs t o n o′
   walked w = record {
     rows = r .rows;
     wrote = at-tolerance r (λ x. Wrote (walkList ts vs x) o n o′) w;
     list = greedy-list t (r .ready .trace) (walk-list-greedy ts vs (criterionOf t));
   }
 
-  pub searched : {p : ℕ} → Wrote (gallopList ts vs c) o n o′ → p ≡ gallopTotal ts vs c → Searched ts vs t o n p o′
+  pub searched : {p : ℕ} → Wrote (gallopList ts vs c) o n o′ → p ≡ gallopTotal ts vs c → GallopKept ts vs t o n p o′
   searched {p} w e = record {
     rows = r .rows;
     wrote = at-tolerance r (λ x. Wrote (gallopList ts vs x) o n o′) w;

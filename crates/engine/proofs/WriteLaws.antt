@@ -22,9 +22,7 @@ use Rattle.trace.specs.Trace.{traceRows}
 use Rattle.proposed.specs.Proposed.{listRow, firstInvalid}
 use Rattle.proposed.proofs.ProposedLaws.{row-kept}
 use Rattle.format.specs.Format.{encode}
-use Rattle.writer.specs.declared.Answer as W
 use Rattle.writer.specs.Writing.{Kept, selected, writeRow, WrittenAt, WriteDeclined}
-use Rattle.writer.specs.Writing as Writing
 use Rattle.engine.specs.Hold.{toleranceRow}
 use Rattle.engine.specs.Prepare.{commonRows, criterionIn, criterionOf, ReadyAt}
 use Rattle.engine.specs.Judge.{judgeRows}

@@ -1,6 +1,6 @@
 -- The outcome of `judge` (document 01, "The four reductions" and "When the engine declines").
 --   judgeRows      the first row that applies, in rising number: 1, 2, 3, 4, 6
---   verdictOf      yes, or no at the first invalid link
+--   listVerdict      yes, or no at the first invalid link
 --   judgeOf        what `judge` answers
 --   JudgeOutcome   its contract
 -- Assumes nothing.
@@ -28,8 +28,8 @@ unfoldable pub judgeRows : List ℕ → List ℤ → List ℕ → Tolerance → 
 judgeRows ts vs l t = commonRows ts vs t thenCheck listRow (length ts) l
 
 -- links are counted from 0
-unfoldable pub verdictOf : List ℕ → List ℤ → List ℕ → Criterion → Verdict
-verdictOf ts vs l c = let k = firstInvalid ts vs c l in cond (leb (length l - 1) k) Yes (No k)
+unfoldable pub listVerdict : List ℕ → List ℤ → List ℕ → Criterion → Verdict
+listVerdict ts vs l c = let k = firstInvalid ts vs c l in cond (leb (length l - 1) k) Yes (No k)
 
 -- a refusal, or else the verdict
 abbrev pub declineOr : Checked → Verdict → Verdict
@@ -37,7 +37,7 @@ declineOr Fine v = v
 declineOr (Refused x) v = Declined x
 
 unfoldable pub judgeOf : List ℕ → List ℤ → List ℕ → Tolerance → Verdict
-judgeOf ts vs l t = declineOr (judgeRows ts vs l t) (verdictOf ts vs l (criterionOf t))
+judgeOf ts vs l t = declineOr (judgeRows ts vs l t) (listVerdict ts vs l (criterionOf t))
 
 -- A list that row 6 does not refuse is a kept list, and it is passed exactly if each of its links is within the tolerance (demand 2).
 pub record JudgeOutcome (ts : List ℕ) (vs : List ℤ) (l : List ℕ) (t : Tolerance) (r : Verdict) : Type 0 where
@@ -46,4 +46,4 @@ pub record JudgeOutcome (ts : List ℕ) (vs : List ℤ) (l : List ℕ) (t : Tole
 
 -- the answer where the checks 1 to 4 pass
 unfoldable pub judgedAt : List ℕ → List ℤ → List ℕ → Criterion → Verdict
-judgedAt ts vs l c = declineOr (listRow (length ts) l) (verdictOf ts vs l c)
+judgedAt ts vs l c = declineOr (listRow (length ts) l) (listVerdict ts vs l c)

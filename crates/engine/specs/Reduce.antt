@@ -1,7 +1,7 @@
 -- The outcomes of the greedy reductions, walk and gallop (document 01, "The four reductions", and demands 1, 2 and 3).
 --   okOf            the link test of a trace at a tolerance
 --   GreedyList      a kept list of valid links with maximal stops, and demand 3 of it
---   Walked, Searched   what holds where walk, gallop kept a list
+--   WalkKept, GallopKept   what holds where walk, gallop kept a list
 --   WalkOutcome, GallopOutcome   the contracts: by cases on the answer
 -- A refused call leaves the lent list as it was. Otherwise its first entries are the list, and the others stay.
 -- Assumes nothing.
@@ -35,17 +35,17 @@ pub record GreedyList (ts : List ℕ) (vs : List ℤ) (t : Tolerance) (l : List 
   pub size : (h : List ℕ) → KeptList (length ts - 1) h → AllValid (valid ts vs (half (criterionOf t))) h → length l ≤ length h
 
 -- walk kept n samples, and the lent list o became o′
-pub record Walked (ts : List ℕ) (vs : List ℤ) (t : Tolerance) (o : List ℕ) (n : ℕ) (o′ : List ℕ) : Type 0 where
+pub record WalkKept (ts : List ℕ) (vs : List ℤ) (t : Tolerance) (o : List ℕ) (n : ℕ) (o′ : List ℕ) : Type 0 where
   pub rows : outputRows ts vs t (length o) ≡ Fine
   pub wrote : Wrote (walkOf (okOf ts vs t) (length ts - 1)) o n o′
   pub list : GreedyList ts vs t (walkOf (okOf ts vs t) (length ts - 1))
 
 abbrev pub WalkOutcome : List ℕ → List ℤ → Tolerance → List ℕ → Reduced → List ℕ → Type 0
-WalkOutcome ts vs t o (Kept n) o′ = Walked ts vs t o n o′
+WalkOutcome ts vs t o (Kept n) o′ = WalkKept ts vs t o n o′
 WalkOutcome ts vs t o (Declined x) o′ = (outputRows ts vs t (length o) ≡ Refused x) × (o′ ≡ o)
 
 -- gallop kept n samples by p probes: the method's own, at most 2 floor (log2 r) + 1 for a stop of r samples
-pub record Searched (ts : List ℕ) (vs : List ℤ) (t : Tolerance) (o : List ℕ) (n p : ℕ) (o′ : List ℕ) : Type 0 where
+pub record GallopKept (ts : List ℕ) (vs : List ℤ) (t : Tolerance) (o : List ℕ) (n p : ℕ) (o′ : List ℕ) : Type 0 where
   pub rows : outputRows ts vs t (length o) ≡ Fine
   pub wrote : Wrote (gallopOf (okOf ts vs t) (length ts - 1)) o n o′
   pub list : GreedyList ts vs t (gallopOf (okOf ts vs t) (length ts - 1))
@@ -53,5 +53,5 @@ pub record Searched (ts : List ℕ) (vs : List ℤ) (t : Tolerance) (o : List �
   pub bound : EachLink (λ i j. gallopSearch (okOf ts vs t) (length ts - 1) i .probes ≤ 2 * floorLog2 64 (j - i) + 1) (gallopOf (okOf ts vs t) (length ts - 1))
 
 abbrev pub GallopOutcome : List ℕ → List ℤ → Tolerance → List ℕ → Probed → List ℕ → Type 0
-GallopOutcome ts vs t o (Galloped g) o′ = Searched ts vs t o (g .count) (g .probes) o′
+GallopOutcome ts vs t o (Galloped g) o′ = GallopKept ts vs t o (g .count) (g .probes) o′
 GallopOutcome ts vs t o (NotGalloped x) o′ = (outputRows ts vs t (length o) ≡ Refused x) × (o′ ≡ o)

@@ -5,7 +5,7 @@ ghost use lib.ListN.{length};
 ghost use Rattle.kept.specs.Kept.{KeptList};
 ghost use Rattle.trace.specs.Trace.{Trace};
 ghost use Rattle.trace.specs.Link.{Bounded};
-ghost use Rattle.engine.specs.Judge.{verdictOf, judgedAt, JudgeOutcome};
+ghost use Rattle.engine.specs.Judge.{listVerdict, judgedAt, JudgeOutcome};
 use crate::Ready;
 use crate::Verdict;
 use crate::prepare::prepare;
@@ -16,7 +16,7 @@ use trace::Criterion;
 // The verdict on a kept list.
 fn verdict(ticks: &[u32], values: &[i16], list: &[u16], c: Criterion) -> Verdict
     requires { ⌜ Trace (now ticks) (now values) × Bounded c × KeptList (length (now ticks) - 1) (now list) ⌝ }
-    ensures { λ r. ⌜ r ≡ verdictOf (now (ticks .entry)) (now (values .entry)) (now (list .entry)) c ⌝ }
+    ensures { λ r. ⌜ r ≡ listVerdict (now (ticks .entry)) (now (values .entry)) (now (list .entry)) c ⌝ }
 {
     let k = proposed::first_invalid(ticks, values, c, list);
     if list.len() <= k + 1 {

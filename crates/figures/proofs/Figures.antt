@@ -10,7 +10,7 @@ use Rattle.ratio.specs.Gcd.{gcd, euclid}
 use Rattle.ratio.specs.declared.Ratio as R
 use Rattle.ratio.specs.Order.{over, greater, lesser}
 use Rattle.kept.specs.Stops.{stops}
-use Rattle.kept.specs.Walk.{walkStop, walkOf}
+use Rattle.kept.specs.Walk.{walkFrom, walkOf}
 use Rattle.kept.specs.Minimum.{bestStop, linksIn, linksOf, nextOf, minimumOf}
 use Rattle.kept.specs.Least.{leastOver, leastFrom, leastOf}
 use Rattle.kept.specs.Gallop.{probeOf, doubling, bisection, searchBy, gallopSearch, gallopOf, gallopProbes, sumFrom}
@@ -27,7 +27,7 @@ use Rattle.writer.specs.Writing.{selected}
 use Rattle.proposed.specs.Proposed.{badAt, listRow, firstInvalid}
 use Rattle.engine.specs.declared.Verdict.the-variants.{Yes, No}
 use Rattle.engine.specs.Prepare.{commonRows, criterionOf}
-use Rattle.engine.specs.Judge.{judgeRows, verdictOf, judgeOf}
+use Rattle.engine.specs.Judge.{judgeRows, listVerdict, judgeOf}
 
 -- ticks 0 to 4
 abbrev five : List ℕ
@@ -43,7 +43,7 @@ abbrev teeth : List ℤ
 teeth = pos 0 ∷ pos 3 ∷ pos 0 ∷ pos 3 ∷ pos 0 ∷ []
 
 walk-teeth-2 : walkOf (ok teeth 2) 4 ≡ 0 ∷ 1 ∷ 2 ∷ 3 ∷ 4 ∷ []
-unfolding walkOf walkStop stops valid allFrom within deviation
+unfolding walkOf walkFrom stops valid allFrom within deviation
 walk-teeth-2 = refl
 
 gallop-teeth-2 : gallopOf (ok teeth 2) 4 ≡ 0 ∷ 1 ∷ 2 ∷ 3 ∷ 4 ∷ []
@@ -65,7 +65,7 @@ unfolding minimumOf nextOf linksOf linksIn bestStop stops valid allFrom within d
 minimum-teeth-3 = refl
 
 walk-teeth-3 : walkOf (ok teeth 3) 4 ≡ 0 ∷ 4 ∷ []
-unfolding walkOf walkStop stops valid allFrom within deviation
+unfolding walkOf walkFrom stops valid allFrom within deviation
 walk-teeth-3 = refl
 
 gallop-teeth-3 : gallopOf (ok teeth 3) 4 ≡ 0 ∷ 4 ∷ []
@@ -109,7 +109,7 @@ abbrev wave : List ℤ
 wave = pos 0 ∷ pos 2 ∷ pos 0 ∷ negsuc 1 ∷ pos 0 ∷ []
 
 walk-wave : walkOf (ok wave 2) 4 ≡ 0 ∷ 2 ∷ 4 ∷ []
-unfolding walkOf walkStop stops valid allFrom within deviation
+unfolding walkOf walkFrom stops valid allFrom within deviation
 walk-wave = refl
 
 gallop-wave : gallopOf (ok wave 2) 4 ≡ 0 ∷ 4 ∷ []
@@ -142,11 +142,11 @@ slope-invalid = refl
 
 -- so judge passes the list 0 2 at the one, and names link 0 at the other
 slope-passed : judgeOf slopeTicks slopeValues (0 ∷ 2 ∷ []) (Ratio 4 6) ≡ Yes
-unfolding judgeOf judgeRows commonRows criterionOf verdictOf traceRows listRow badAt firstInvalid first firstOf valid allFrom within deviation gcd euclid
+unfolding judgeOf judgeRows commonRows criterionOf listVerdict traceRows listRow badAt firstInvalid first firstOf valid allFrom within deviation gcd euclid
 slope-passed = refl
 
 slope-named : judgeOf slopeTicks slopeValues (0 ∷ 2 ∷ []) (Ratio 665 1000) ≡ No 0
-unfolding judgeOf judgeRows commonRows criterionOf verdictOf traceRows listRow badAt firstInvalid first firstOf valid allFrom within deviation gcd euclid
+unfolding judgeOf judgeRows commonRows criterionOf listVerdict traceRows listRow badAt firstInvalid first firstOf valid allFrom within deviation gcd euclid
 slope-named = refl
 
 -- ---- ticks 0 1048575 pass; 0 1048576 is 3 at 1; 5 5 is 2 at 1

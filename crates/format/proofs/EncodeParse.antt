@@ -18,7 +18,7 @@ use Rattle.ratio.specs.declared.Ratio.{Ratio}
 use Rattle.trace.specs.Level.{level}
 use Rattle.format.specs.Number.{Bytes, valueOf}
 use Rattle.format.specs.Command.{choose, commandOf, commandOnto}
-use Rattle.format.specs.Format.{Content, Legal, Accepted, allowed, within, short, follows, moved, shortStep, longStep, endStep, obey, stepOf, Samples, fault, samples, onto, follow, steps, firstOf, toleranceOf, Parsed, faulty, says, attach, began, parse, stepTo, stepsOnto, samplesOnto, encode}
+use Rattle.format.specs.Format.{Content, Legal, Accepted, allowed, within, short, follows, moved, shortStep, longStep, endStep, obey, stepOf, Samples, fault, samples, onto, follow, steps, sampleHeader, toleranceOf, Parsed, faulty, says, attach, began, parse, stepTo, stepsOnto, samplesOnto, encode}
 use Rattle.format.specs.declared.Cursor.{Cursor}
 use Rattle.format.specs.declared.Command.{Command}
 use Rattle.format.specs.declared.Command.the-variants.{Tolerance, First, Short, Long, End, Invalid}
@@ -216,7 +216,7 @@ module _ {b : List ℕ} (by : Bytes b) where
     whole-first (fault k) e = tt
     whole-first (samples ts vs) e = whole-content ts vs (tail b by 4096 start e)
 
-  whole-tolerance : (r : Ratio) → allowed r ≡ true → Starts b (Tolerance r) → (m : Command) → Read (drop 9 b) m → Whole (began b (firstOf r m))
+  whole-tolerance : (r : Ratio) → allowed r ≡ true → Starts b (Tolerance r) → (m : Command) → Read (drop 9 b) m → Whole (began b (sampleHeader r m))
   unfolding Whole
   whole-tolerance r a v (First t l) w = whole-first r t l a v w (steps b 4096 (start r t l a v w)) refl
   whole-tolerance r a v (Tolerance r′) w = tt
@@ -229,7 +229,7 @@ module _ {b : List ℕ} (by : Bytes b) where
   unfolding Whole
   whole (Tolerance r) v = go (allowed r) refl
     where
-      go : (a : Bool) → allowed r ≡ a → Whole (began b (choose a (firstOf r (commandOf (drop 9 b))) (NoHeader 0)))
+      go : (a : Bool) → allowed r ≡ a → Whole (began b (choose a (sampleHeader r (commandOf (drop 9 b))) (NoHeader 0)))
       go true e = whole-tolerance r e v (commandOf (drop 9 b)) (read (bytes-drop 9 by))
       go false e = tt
   whole (First t l) v = tt

@@ -123,16 +123,16 @@ abbrev pub samplesFrom : List ℕ → Cursor → Samples
 samplesFrom b c = onto c (steps b 4096 c)
 
 -- the tolerance, and then the first sample
-abbrev pub firstOf : Ratio → Command → Header
-firstOf r (First t l) = Start r (record { at = 16; first = t; tick = t; level = l; count = 1 })
-firstOf r (Tolerance _) = NoHeader 9
-firstOf r (Short _ _) = NoHeader 9
-firstOf r (Long _ _) = NoHeader 9
-firstOf r (End _) = NoHeader 9
-firstOf r Invalid = NoHeader 9
+abbrev pub sampleHeader : Ratio → Command → Header
+sampleHeader r (First t l) = Start r (record { at = 16; first = t; tick = t; level = l; count = 1 })
+sampleHeader r (Tolerance _) = NoHeader 9
+sampleHeader r (Short _ _) = NoHeader 9
+sampleHeader r (Long _ _) = NoHeader 9
+sampleHeader r (End _) = NoHeader 9
+sampleHeader r Invalid = NoHeader 9
 
 abbrev pub toleranceOf : Command → Command → Header
-toleranceOf (Tolerance r) m = choose (allowed r) (firstOf r m) (NoHeader 0)
+toleranceOf (Tolerance r) m = choose (allowed r) (sampleHeader r m) (NoHeader 0)
 toleranceOf (First _ _) m = NoHeader 0
 toleranceOf (Short _ _) m = NoHeader 0
 toleranceOf (Long _ _) m = NoHeader 0

@@ -1,68 +1,36 @@
--- Walk's and gallop's lists as loops write them into a lent list.
+-- A list that goes from stop to stop as a loop writes it into a lent list; walk's and gallop's.
 -- Assumes nothing.
 use mathlib.Core.Path.{_≡_, refl, sym, _∙_}
 use mathlib.Core.Bool.{Bool}
 use mathlib.Core.List.{List, [], _∷_, _++_, append-assoc, append-nil}
-use Prim.Native.Nat.{ℕ, zero, suc, _+_, _*_, _≤_, _<_}
+use Prim.Native.Nat.{ℕ, _+_, _*_, _≤_, _<_}
 use native.Mathlib.Omega.{arith}
 use lib.ListN.{length, set, length-append, length-set}
 use Rattle.lists.specs.Overwrite.{overwrite, Wrote}
 use Rattle.lists.proofs.OverwriteLaws.{overwrite-snoc, overwrite-set, wrote-set}
 use Rattle.kept.specs.declared.Search.{Search}
 use Rattle.kept.specs.Kept.{StepsValid}
-use Rattle.kept.specs.Stops.{stops}
-use Rattle.kept.specs.Walk.{walkOf, walkOpen}
+use Rattle.kept.specs.Stops.{stops, listBy}
+use Rattle.kept.specs.Walk.{walkStop, walkOf}
 use Rattle.kept.specs.Gallop.{gallopSearch, gallopStop, gallopOf, gallopProbes, sumFrom}
 use Rattle.kept.proofs.StopsLaws.{stops-end, stops-step}
-use Rattle.kept.proofs.WalkLaws.{walk-closes, walk-open-room}
+use Rattle.kept.proofs.WalkLaws.{walk-stop-greedy}
 use Rattle.kept.proofs.GallopLaws.{search-bounds}
 
--- ---- walk
-
-module _ (ok : ℕ → ℕ → Bool) (step : StepsValid ok) where
-  -- the last sample closes the list
-  pub walk-closed : (last : ℕ) (o out : List ℕ) (count : ℕ) → 0 < last → last < length o → count ≡ length (walkOpen ok last) → out ≡ overwrite (walkOpen ok last) o
-      → (count < length o) × Wrote (walkOf ok last) o (count + 1) (set out count last)
-  walk-closed zero o out count pos room n e = absurd (omega arith)
-  walk-closed (suc m) o out count pos room n e =
-      let r : length (walkOpen ok (suc m)) ≤ suc m = walk-open-room ok step m in (
-        omega arith,
-        record {
-          count = rw (walk-closes ok step m, length-append) (omega arith);
-          content = rw (walk-closes ok step m, ← overwrite-snoc (walkOpen ok (suc m)) o (suc m) (omega arith)) (cc);
-        },
-      )
-
-  -- unless it is the only one
-  pub walk-alone : (last : ℕ) (o out : List ℕ) → last < 1 → out ≡ overwrite (walkOpen ok last) o → Wrote (walkOf ok last) o 1 out
-  unfolding walkOf stops walkOpen
-  walk-alone zero o out h e = record { count = refl; content = e }
-  walk-alone (suc m) o out h e = absurd (omega arith)
-
--- the entry of sample 0, stored first, is the list's own
-pub walk-first : (ok : ℕ → ℕ → Bool) (last : ℕ) {o o′ : List ℕ} {n : ℕ} → Wrote (walkOf ok last) (set o 0 0) n o′ → Wrote (walkOf ok last) o n o′
-unfolding walkOf
-walk-first ok last w = wrote-set 0 0 (omega arith) w
-
--- ---- gallop
-
--- gallop has gone to sample i: the list so far and the stops from i on are its list, the probes so far and theirs are its total,
--- and `out` has the list so far over o
-pub record Galloping (ok : ℕ → ℕ → Bool) (last : ℕ) (o out : List ℕ) (count i probes : ℕ) : Type 0 where
+-- the reduction has gone to sample i: the list so far and the stops from i on are its list, and `out` has the list so far over o
+pub record Filling (next : ℕ → ℕ) (last : ℕ) (o out : List ℕ) (count i : ℕ) : Type 0 where
   pub so-far : List ℕ
   pub within : i ≤ last
   pub room : last < length o
-  pub list : so-far ++ stops (gallopStop ok last) last i last ≡ gallopOf ok last
+  pub list : so-far ++ stops next last i last ≡ listBy next last
   pub count-is : count ≡ length so-far
   pub few : count ≤ i + 1
   pub content : out ≡ overwrite so-far o
-  pub total : probes + sumFrom (λ k j. gallopSearch ok last k .probes) i (stops (gallopStop ok last) last i last) ≡ gallopProbes ok last
-  pub probes-few : probes ≤ 2 * i
   pub same : length out ≡ length o
 
-pub galloping-none : {o : List ℕ} (ok : ℕ → ℕ → Bool) (last : ℕ) (o₀ : List ℕ) → o ≡ set o₀ 0 0 → last < length o₀ → Galloping ok last o o 1 0 0
-unfolding gallopOf gallopProbes
-galloping-none ok last o₀ e room = rw e (record {
+-- sample 0, stored first
+pub filling-none : {o : List ℕ} (next : ℕ → ℕ) (last : ℕ) (o₀ : List ℕ) → o ≡ set o₀ 0 0 → last < length o₀ → Filling next last o o 1 0
+filling-none next last o₀ e room = rw e (record {
   so-far = 0 ∷ [];
   within = omega arith;
   room = rw length-set room;
@@ -70,37 +38,71 @@ galloping-none ok last o₀ e room = rw e (record {
   count-is = refl;
   few = omega arith;
   content = overwrite-snoc [] o₀ 0 (omega arith) ∙ sym (overwrite-set (0 ∷ []) o₀ 0 0 (omega arith));
-  total = omega arith;
-  probes-few = omega arith;
   same = refl;
 })
+
+module _ {next : ℕ → ℕ} {last : ℕ} {o out : List ℕ} {count i : ℕ} (g : Filling next last o out count i) where
+  -- the next stop
+  pub filling-more : ((k : ℕ) → k < last → (k < next k) × (next k ≤ last)) → i < last → {j : ℕ} → j ≡ next i → Filling next last o (set out count j) (count + 1) j
+  filling-more stop lt {j} e =
+      let rest : stops next last i last ≡ next i ∷ stops next last (next i) last = stops-step last next (λ k h. stop k h .0) i lt in
+      let b = stop i lt in
+      rw e (record {
+        so-far = g .so-far ++ (next i ∷ []);
+        within = b .1;
+        room = g .room;
+        list = rw (append-assoc, ← rest) (g .list);
+        count-is = rw length-append (omega arith);
+        few = omega arith;
+        content = rw (← overwrite-snoc (g .so-far) o (next i) (omega arith)) (cc);
+        same = length-set out count (next i) ∙ g .same;
+      })
+
+  -- the last sample
+  pub filling-ends : (o₀ : List ℕ) → o ≡ set o₀ 0 0 → last ≤ i → Wrote (listBy next last) o₀ count out
+  filling-ends o₀ e le =
+      let l : g .so-far ≡ listBy next last = rw (stops-end last next last i le, append-nil) at (g .list) in
+      let w : Wrote (listBy next last) o count out = record { count = cc; content = cc } in
+      wrote-set 0 0 (omega arith) (rw e at w)
+
+-- ---- walk
+
+module _ (ok : ℕ → ℕ → Bool) (step : StepsValid ok) (last : ℕ) where
+  pub walk-bounds : (k : ℕ) → k < last → (k < walkStop ok last k) × (walkStop ok last k ≤ last)
+  walk-bounds k lt = let s = walk-stop-greedy ok step last k lt in (s .after, s .within)
+
+  pub walk-filled : {o out : List ℕ} {count i : ℕ} → Filling (walkStop ok last) last o out count i → (o₀ : List ℕ) → o ≡ set o₀ 0 0 → last ≤ i → Wrote (walkOf ok last) o₀ count out
+  unfolding walkOf
+  walk-filled g o₀ e le = filling-ends g o₀ e le
+
+-- ---- gallop
+
+-- gallop has gone to sample i: the probes so far and those of the stops from i on are its total
+pub record Galloping (ok : ℕ → ℕ → Bool) (last : ℕ) (o out : List ℕ) (count i probes : ℕ) : Type 0 where
+  pub filling : Filling (gallopStop ok last) last o out count i
+  pub total : probes + sumFrom (λ k j. gallopSearch ok last k .probes) i (stops (gallopStop ok last) last i last) ≡ gallopProbes ok last
+  pub probes-few : probes ≤ 2 * i
+
+pub galloping-none : {o : List ℕ} (ok : ℕ → ℕ → Bool) (last : ℕ) (o₀ : List ℕ) → o ≡ set o₀ 0 0 → last < length o₀ → Galloping ok last o o 1 0 0
+unfolding gallopOf gallopProbes
+galloping-none ok last o₀ e room = record { filling = filling-none (gallopStop ok last) last o₀ e room; total = omega arith; probes-few = omega arith }
 
 module _ {ok : ℕ → ℕ → Bool} {last : ℕ} {o out : List ℕ} {count i probes : ℕ} (g : Galloping ok last o out count i probes) where
   pub galloping-more : StepsValid ok → i < last → (s : Search) → s ≡ gallopSearch ok last i
       → Galloping ok last o (set out count (i + s .low)) (count + 1) (i + s .low) (probes + s .probes)
   unfolding sumFrom
   galloping-more step lt s e =
-      let j : ℕ = gallopStop ok last i in
-      let rest : stops (gallopStop ok last) last i last ≡ j ∷ stops (gallopStop ok last) last j last =
-      stops-step last (gallopStop ok last) (λ k h. let b = search-bounds ok step last k h _ refl in omega arith) i lt in
+      let stop : (k : ℕ) → k < last → (k < gallopStop ok last k) × (gallopStop ok last k ≤ last) = λ k h. let b = search-bounds ok step last k h _ refl in (omega arith, b .1) in
+      let rest = stops-step last (gallopStop ok last) (λ k h. stop k h .0) i lt in
       let b = search-bounds ok step last i lt _ refl in
       rw e (record {
-        so-far = g .so-far ++ (j ∷ []);
-        within = b .1;
-        room = g .room;
-        list = rw (append-assoc, ← rest) (g .list);
-        count-is = rw length-append (omega arith);
-        few = omega arith;
-        content = rw (← overwrite-snoc (g .so-far) o j (omega arith)) (cc);
+        filling = filling-more (g .filling) stop lt refl;
         total = omega (arith, rw rest at (g .total));
-        probes-few = omega arith;
-        same = length-set out count j ∙ g .same;
+        probes-few = omega (arith, g .probes-few);
       })
 
   pub galloping-ends : (o₀ : List ℕ) → o ≡ set o₀ 0 0 → last ≤ i → Wrote (gallopOf ok last) o₀ count out × (probes ≡ gallopProbes ok last)
   unfolding sumFrom gallopOf
   galloping-ends o₀ e le =
       let none : stops (gallopStop ok last) last i last ≡ [] = stops-end last (gallopStop ok last) last i le in
-      let l : g .so-far ≡ gallopOf ok last = rw (none, append-nil) at (g .list) in
-      let w : Wrote (gallopOf ok last) o count out = record { count = cc; content = cc } in
-      (wrote-set 0 0 (omega arith) (rw e at w), omega (arith, rw none at (g .total)))
+      (filling-ends (g .filling) o₀ e le, omega (arith, rw none at (g .total)))

@@ -16,7 +16,7 @@ use Rattle.lists.proofs.Tests.{by-test, true-false}
 use Rattle.kept.specs.Kept.{LinksFrom, final, KeptList, AllValid}
 use Rattle.kept.specs.Stops.{stops, listBy}
 use Rattle.kept.specs.Minimum.{StepsTo, Later, Minimum, bestStop, linksIn, linksOf, nextOf, minimumOf}
-use Rattle.kept.proofs.KeptLaws.{rise-le, kept-length}
+use Rattle.kept.proofs.KeptLaws.{rise-le}
 use Rattle.kept.proofs.StopsLaws.{stops-end, stops-step}
 
 -- ---- there is only one
@@ -272,10 +272,6 @@ module _ (ok : ℕ → ℕ → Bool) (last : ℕ) where
         latest (i ∷ h) k v e =
             let z = k .spans .0 in
             (omega arith, λ _. from-latest h 0 (rw z at (k .rises)) (rw z at v) (rw z at (k .spans .1)) (omega arith))
-
-    -- it has at most as many samples as the trace
-    pub minimum-length : length (minimumOf ok last) ≤ suc last
-    minimum-length = kept-length last (minimumOf ok last) (minimum-of .kept)
 
     -- a table of the next stops leads onward, and along that list
     module _ (f : ℕ → ℕ) (is : (k : ℕ) → k < last → f k ≡ nextOf ok last k) where

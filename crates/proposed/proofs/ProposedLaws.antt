@@ -48,10 +48,6 @@ module _ (n : ℕ) (l : List ℕ) where
   bad-later k h z e = rw (lt-leb n (entry l k) h, ne-eqb k 0 z) e
 
   -- an entry that is not bad
-  good-inside : (k : ℕ) → badAt n l k ≡ false → entry l k < n
-  unfolding badAt
-  good-inside k h = leb-false n (entry l k) (or-false (leb n (entry l k)) _ h .0)
-
   good-first : badAt n l 0 ≡ false → entry l 0 ≡ 0
   unfolding badAt
   good-first h = eqb-true _ _ (not-false _ (or-false (leb n (entry l 0)) _ h .1))

@@ -22,7 +22,7 @@ use Rattle.format.specs.declared.Step.the-variants.{Sample, End as Ended, Fault
 use Rattle.format.specs.declared.Header.the-variants.{Fault as NoHeader}
 use Rattle.format.specs.Number.{field, flip16, flip8}
 use Rattle.format.specs.Command.{choose, opens, commandOf}
-use Rattle.format.specs.Format.{allowed, moved, shortStep, longStep, endStep, obey, stepOf, firstOf, toleranceOf, headerOf}
+use Rattle.format.specs.Format.{allowed, moved, shortStep, longStep, endStep, obey, stepOf, sampleHeader, toleranceOf, headerOf}
 use Rattle.reader.specs.Reading.{shortObeys, longObeys, isSample}
 
 -- ---- the command
@@ -79,14 +79,14 @@ module _ (s : List ℕ) where
       go false false false false = refl
 
   -- the tolerance is there
-  pub tolerance-header : getD s 0 0 ≡ 0x54 → 9 ≤ length s → headerOf s ≡ (let r : Ratio = record { p = field s 1 5; q = field s 6 3 } in choose (allowed r) (firstOf r (commandOf (drop 9 s))) (NoHeader 0))
+  pub tolerance-header : getD s 0 0 ≡ 0x54 → 9 ≤ length s → headerOf s ≡ (let r : Ratio = record { p = field s 1 5; q = field s 6 3 } in choose (allowed r) (sampleHeader r (commandOf (drop 9 s))) (NoHeader 0))
   tolerance-header e h = ap (λ (m : Command). toleranceOf m (commandOf (drop 9 s))) (tolerance-is e h)
 
-  pub no-first : opens 0x41 7 s ≡ false → (r : Ratio) → firstOf r (commandOf s) ≡ NoHeader 9
+  pub no-first : opens 0x41 7 s ≡ false → (r : Ratio) → sampleHeader r (commandOf s) ≡ NoHeader 9
   unfolding commandOf
   no-first e r = rw e (go (opens 0x54 9 s) (opens 0x53 3 s) (opens 0x4C 6 s) (opens 0x45 3 s))
     where
-      go : (t h l n : Bool) → firstOf r (choose t (Tolerance (record { p = field s 1 5; q = field s 6 3 })) (choose h (Short (field s 1 1) (flip8 (field s 2 1)))
+      go : (t h l n : Bool) → sampleHeader r (choose t (Tolerance (record { p = field s 1 5; q = field s 6 3 })) (choose h (Short (field s 1 1) (flip8 (field s 2 1)))
           (choose l (Long (field s 1 3) (flip16 (field s 4 2))) (choose n (End (field s 1 2)) Invalid)))) ≡ NoHeader 9
       go true h l n = refl
       go false true l n = refl

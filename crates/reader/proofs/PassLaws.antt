@@ -22,7 +22,7 @@ use Rattle.format.specs.Format.{stepOf, Samples, fault, samples, onto, steps, s
 use Rattle.format.proofs.RuleLaws.{within-le}
 use Rattle.format.proofs.EncodeParse.{stepped}
 use Rattle.reader.specs.declared.Verdict.the-variants.{Samples as Gives}
-use Rattle.reader.specs.Reading.{verdictOf, isSample, closedBy, Ready, Begun, Entry, Fitting, Filled}
+use Rattle.reader.specs.Reading.{recordVerdict, isSample, closedBy, Ready, Begun, Entry, Fitting, Filled}
 
 -- samples before the others
 abbrev prepend : List ℕ → List ℤ → Samples → Samples
@@ -86,10 +86,10 @@ module _ {b : List ℕ} {start : Cursor} where
     counts = rw length-append (p .ticks)
 
     -- no sample follows: the verdict is that of the whole
-    pub closes : (r : Ratio) → isSample (stepOf b c) ≡ false → closedBy r c (stepOf b c) ≡ verdictOf (attach r (samplesFrom b start))
+    pub closes : (r : Ratio) → isSample (stepOf b c) ≡ false → closedBy r c (stepOf b c) ≡ recordVerdict (attach r (samplesFrom b start))
     closes r q = go (stepOf b c) refl
       where
-        go : (s : Step) → stepOf b c ≡ s → closedBy r c s ≡ verdictOf (attach r (samplesFrom b start))
+        go : (s : Step) → stepOf b c ≡ s → closedBy r c s ≡ recordVerdict (attach r (samplesFrom b start))
         go (Sample d) e = true-false (ap isSample e) q
         go Ended e = rw (ends e) (ap (λ (n : ℕ). Gives n r) (sym counts))
         go (Fault k) e = rw (faults e)

@@ -24,13 +24,13 @@ use Rattle.format.specs.declared.Header.{Header}
 use Rattle.format.specs.declared.Header.the-variants.{Start, Fault as NoHeader}
 use Rattle.format.specs.Number.{Bytes}
 use Rattle.format.specs.Command.{choose, commandOf}
-use Rattle.format.specs.Format.{SameRecord, allowed, Samples, fault, samples, samplesFrom, firstOf, toleranceOf, headerOf, Parsed, faulty, says, attach, began, parse}
+use Rattle.format.specs.Format.{SameRecord, allowed, Samples, fault, samples, samplesFrom, sampleHeader, toleranceOf, headerOf, Parsed, faulty, says, attach, began, parse}
 use Rattle.format.proofs.NumberLaws.{bytes-drop}
 use Rattle.format.proofs.CommandLaws.{Starts, Read, read}
 use Rattle.format.proofs.ParseEncode.{record-long}
 use Rattle.format.proofs.EncodeParse.{encode-parse}
 use Rattle.format.proofs.SameLaws.{same-tails}
-use Rattle.reader.specs.Reading.{readRows, sameRows, Said, CheckOutcome, ReadBack, Compared, verdictOf, Begun, Fitting, Filled}
+use Rattle.reader.specs.Reading.{readRows, sameRows, Said, CheckOutcome, ReadBack, Compared, recordVerdict, Begun, Fitting, Filled}
 use Rattle.reader.specs.declared.Verdict.{Verdict}
 
 -- ---- the header
@@ -47,7 +47,7 @@ BegunBy : ℕ → Header → Type 0
 BegunBy n (Start r c) = Begun n c
 BegunBy n (NoHeader k) = Unit {0}
 
-begun-first : (b : List ℕ) (r : Ratio) → Starts b (Tolerance r) → (m : Command) → Read (drop 9 b) m → BegunBy (length b) (firstOf r m)
+begun-first : (b : List ℕ) (r : Ratio) → Starts b (Tolerance r) → (m : Command) → Read (drop 9 b) m → BegunBy (length b) (sampleHeader r m)
 unfolding BegunBy
 begun-first b r v (First t l) w =
     let o = w .operands in
@@ -65,7 +65,7 @@ begun : {b : List ℕ} → Bytes b → (m : Command) → Read b m → BegunBy (l
 unfolding BegunBy
 begun {b} by (Tolerance r) v = go (allowed r)
   where
-    go : (a : Bool) → BegunBy (length b) (choose a (firstOf r (commandOf (drop 9 b))) (NoHeader 0))
+    go : (a : Bool) → BegunBy (length b) (choose a (sampleHeader r (commandOf (drop 9 b))) (NoHeader 0))
     go true = begun-first b r v (commandOf (drop 9 b)) (read (bytes-drop 9 by))
     go false = tt
 begun by (First t l) v = tt
@@ -81,10 +81,10 @@ header-begun {b} by e = subst (BegunBy (length b)) e (begun by (commandOf b) (re
 
 -- ---- check
 
-pub verdict : {b : List ℕ} → Bytes b → {v : Verdict} → v ≡ verdictOf (parse b) → CheckOutcome b v
+pub verdict : {b : List ℕ} → Bytes b → {v : Verdict} → v ≡ recordVerdict (parse b) → CheckOutcome b v
 verdict {b} by e = subst (CheckOutcome b) (sym e) (go (parse b) refl)
   where
-    go : (p : Parsed) → parse b ≡ p → CheckOutcome b (verdictOf p)
+    go : (p : Parsed) → parse b ≡ p → CheckOutcome b (recordVerdict p)
     go (faulty k) e = e
     go (says x) e = record { content = x; accepted = encode-parse by e; count = refl; tolerance = refl }
 

@@ -3,7 +3,7 @@
 --   readRows, sameRows                       the first row that applies
 --   Said, ReadBack, ReadDeclined, Compared   what holds of each answer
 --   CheckOutcome, ReadOutcome, SameOutcome   what is answered, and what lent lists then hold
---   verdictOf                                a record's verdict
+--   recordVerdict                                a record's verdict
 --   shortObeys, longObeys, isSample          the rules for a step; a step that leads to a sample
 --   closedBy                                 the verdict after the last sample
 --   Ready, Begun                             a cursor within a record; one after the first sample
@@ -99,9 +99,9 @@ SameOutcome a b (NotCompared e) = sameRows a b ≡ Declined e
 
 -- ---- what the passes go by
 
-abbrev pub verdictOf : Parsed → Verdict
-verdictOf (faulty k) = Fault k
-verdictOf (says x) = Gives (length (x .ticks)) (x .tolerance)
+abbrev pub recordVerdict : Parsed → Verdict
+recordVerdict (faulty k) = Fault k
+recordVerdict (says x) = Gives (length (x .ticks)) (x .tolerance)
 
 -- a short step and a long one obey the rules (format: specs/Format, shortStep and longStep)
 abbrev pub shortObeys : Cursor → ℕ → ℕ → Bool

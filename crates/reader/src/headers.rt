@@ -3,7 +3,7 @@ ghost use mathlib.Core.Path.{_≡_};
 ghost use Prim.Native.Nat.{_≤_};
 ghost use lib.ListN.{length, drop};
 ghost use Rattle.format.specs.Command.{commandOf};
-ghost use Rattle.format.specs.Format.{allowed, firstOf, headerOf};
+ghost use Rattle.format.specs.Format.{allowed, sampleHeader, headerOf};
 use crate::numbers::field;
 use crate::numbers::flip16;
 use format::Cursor;
@@ -31,7 +31,7 @@ fn is_allowed(r: Ratio) -> bool
 // The first sample's command, after a tolerance.
 fn read_first(bytes: &[u8], r: Ratio) -> Header
     requires { ⌜ 9 ≤ length (now bytes) ⌝ }
-    ensures { λ h. ⌜ h ≡ firstOf r (commandOf (drop 9 (now (bytes .entry)))) ⌝ }
+    ensures { λ h. ⌜ h ≡ sampleHeader r (commandOf (drop 9 (now (bytes .entry)))) ⌝ }
 {
     if bytes.len() < 16 {
         return Header::Fault(9);

@@ -5,7 +5,7 @@ ghost use Prim.Native.Nat.{_-_, _≤_};
 ghost use lib.ListN.{length, set};
 ghost use Rattle.format.specs.Number.{valueOf};
 ghost use Rattle.format.specs.Format.{attach, samplesFrom, stepOf};
-ghost use Rattle.reader.specs.Reading.{verdictOf, isSample, closedBy, Ready, Begun, Entry, Fitting, Filled};
+ghost use Rattle.reader.specs.Reading.{recordVerdict, isSample, closedBy, Ready, Begun, Entry, Fitting, Filled};
 use crate::Verdict;
 use crate::numbers::field;
 use crate::steps::is_step;
@@ -40,7 +40,7 @@ fn close(bytes: &[u8], r: Ratio, c: Cursor) -> Verdict
 // Counts the samples, from the cursor after the first one on.
 pub fn count_samples(bytes: &[u8], r: Ratio, start: Cursor) -> Verdict
     requires { ⌜ Begun (length (now bytes)) start ⌝ }
-    ensures { λ v. ⌜ v ≡ verdictOf (attach r (samplesFrom (now (bytes .entry)) start)) ⌝ }
+    ensures { λ v. ⌜ v ≡ recordVerdict (attach r (samplesFrom (now (bytes .entry)) start)) ⌝ }
 {
     let mut c = start;
     loop {

@@ -4,7 +4,7 @@ use mathlib.Core.Path.{_≡_, sym, subst, _∙_}
 use mathlib.Core.Logic.{⊎-elim}
 use mathlib.Core.Bool.{Bool, true, false}
 use mathlib.Core.List.{List}
-use Prim.Native.Nat.{ℕ, _+_, _-_, _<_}
+use Prim.Native.Nat.{ℕ, _+_, _<_}
 use native.Mathlib.Nat.{eq-or-lt-of-le}
 use native.Mathlib.Omega.{arith}
 use lib.IntN.{ℤ}
@@ -23,10 +23,6 @@ use Rattle.trace.proofs.Validity.{true-valid, not-above, not-below}
 use Rattle.trace.proofs.ConeLaws.{low-none, high-none, takes-none, takes-more, takes-admits}
 use Rattle.reduction.specs.declared.Links.{Links}
 use Rattle.reduction.specs.Outgoing.{TakenIn, Next, Later}
-
--- what has taken in nothing
-pub taken-none : {ts : List ℕ} {vs : List ℤ} {c : Criterion} {i : ℕ} {s : Start} {cone : Cone} → StartAt ts vs (c .q) i s → cone ≡ coneFrom (c .p) → ConeFits cone → TakenIn ts vs c i (i + 1) (record { from = s; cone = cone })
-taken-none h e f = record { start = h; takes = rw e (takes-none h); fits = f }
 
 -- what has taken in the sample after its start, by its edge
 module _ {ts : List ℕ} {vs : List ℤ} {c : Criterion} {i : ℕ} {s : Start} {to : Edge} (t : Trace ts vs) (b : Bounded c) (inside : i + 1 < length ts)

@@ -8,13 +8,6 @@ pub struct Links {
     pub cone: Cone,
 }
 
-// Walk with the sample `at` reached: the links from the last sample kept, and how many samples are kept.
-pub struct Walk {
-    pub links: Links,
-    pub at: usize,
-    pub count: usize,
-}
-
 // A search from a sample: the offset of its last yes, the probes made, and the links with the samples up to that offset taken in.
 pub struct Probing {
     pub low: usize,

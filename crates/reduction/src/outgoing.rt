@@ -9,23 +9,10 @@ ghost use Rattle.reduction.specs.Outgoing.{TakenIn, Next, Later};
 use crate::Links;
 use trace::Criterion;
 use trace::cones::admits;
-use trace::cones::cone_from;
 use trace::cones::cone_of;
 use trace::cones::extended;
 use trace::edges::edge_to;
 use trace::edges::start_at;
-
-// The links from sample i, with nothing taken in.
-pub fn links_at(ticks: &[u32], values: &[i16], c: Criterion, i: usize) -> Links
-    requires { ⌜ Trace (now ticks) (now values) × Bounded c × (i < length (now ticks)) ⌝ }
-    ensures { λ r. ⌜ TakenIn (now (ticks .entry)) (now (values .entry)) c i (i + 1) r ⌝ }
-{
-    let from = start_at(ticks, values, i, c.q);
-    Links {
-        from,
-        cone: cone_from(c.p),
-    }
-}
 
 // The links from sample i, with the next sample taken in.
 pub fn links_past(ticks: &[u32], values: &[i16], c: Criterion, i: usize) -> Links

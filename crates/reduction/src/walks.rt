@@ -1,66 +1,36 @@
 // Walk: one pass over a checked trace, with one test a sample.
 ghost use mathlib.Core.Path.{_≡_};
-ghost use Prim.Native.Nat.{_≤_};
+ghost use Prim.Native.Nat.{_+_, _-_, _≤_, _<_};
 ghost use lib.ListN.{length};
 ghost use Rattle.lists.specs.Overwrite.{Wrote};
+ghost use Rattle.kept.specs.Walk.{walkStop};
 ghost use Rattle.trace.specs.Trace.{Trace};
-ghost use Rattle.trace.specs.Link.{Bounded};
-ghost use Rattle.reduction.specs.Walking.{walkList, Walked, Steps, Stepped, Ran};
-use crate::Walk;
+ghost use Rattle.trace.specs.Link.{Bounded, valid};
+ghost use Rattle.reduction.specs.Walking.{walkList};
 use crate::entries::store;
-use crate::outgoing::links_at;
 use crate::outgoing::links_past;
 use crate::outgoing::reaches;
 use crate::outgoing::taken;
 use trace::Criterion;
 
-// Walk with sample 0 reached, which is kept.
-pub fn begin(ticks: &[u32], values: &[i16], c: Criterion) -> Walk
-    requires { ⌜ Trace (now ticks) (now values) × Bounded c ⌝ }
-    ensures { λ r. ⌜ Walked (now (ticks .entry)) (now (values .entry)) c r × (r .at ≡ 0) ⌝ }
-{
-    Walk {
-        links: links_at(ticks, values, c, 0),
-        at: 0,
-        count: 1,
-    }
-}
-
-// Walk with one sample more: where the link to it is invalid, the sample before it is kept and starts the next link.
-pub fn step(ticks: &[u32], values: &[i16], c: Criterion, w: Walk) -> Walk
-    requires { ⌜ Steps (now ticks) (now values) c w ⌝ }
-    ensures { λ r. ⌜ Stepped (now (ticks .entry)) (now (values .entry)) c w r ⌝ }
-{
-    let links = w.links;
-    let at = w.at + 1;
-    if reaches(ticks, values, c, links, at) {
-        return Walk {
-            links: taken(ticks, values, c, links, at),
-            at,
-            count: w.count,
-        };
-    }
-    Walk {
-        links: links_past(ticks, values, c, w.at),
-        at,
-        count: w.count + 1,
-    }
-}
-
-// Walk until one sample more is kept, or to the last sample.
-fn run(ticks: &[u32], values: &[i16], c: Criterion, w: Walk) -> Walk
-    requires { ⌜ Steps (now ticks) (now values) c w ⌝ }
-    ensures { λ r. ⌜ Ran (now (ticks .entry)) (now (values .entry)) c w r ⌝ }
+// The stop from sample i: the sample before the first invalid link, or the last sample.
+fn stop_after(ticks: &[u32], values: &[i16], c: Criterion, i: usize) -> usize
+    requires { ⌜ Trace (now ticks) (now values) × Bounded c × (i + 1 < length (now ticks)) ⌝ }
+    ensures stop { λ r. ⌜ r ≡ walkStop (valid (now (ticks .entry)) (now (values .entry)) c) (length (now (ticks .entry)) - 1) i ⌝ }
+    ensures bounds { λ r. ⌜ (i < r) × (r < length (now (ticks .entry))) ⌝ }
 {
     let last = ticks.len() - 1;
-    let mut v = w;
-    while v.at < last {
-        v = step(ticks, values, c, v);
-        if v.count != w.count {
-            return v;
+    let mut links = links_past(ticks, values, c, i);
+    let mut at = i + 1;
+    while at < last {
+        let next = at + 1;
+        if !reaches(ticks, values, c, links, next) {
+            return at;
         }
+        links = taken(ticks, values, c, links, next);
+        at = next;
     }
-    v
+    at
 }
 
 // Writes walk's list into out, and returns how many samples it keeps.
@@ -70,19 +40,12 @@ pub fn walk(ticks: &[u32], values: &[i16], c: Criterion, out: &mut [u16]) -> usi
 {
     let last = ticks.len() - 1;
     store(out, 0, 0);
-    let mut w = begin(ticks, values, c);
-    while w.at < last {
-        let next = run(ticks, values, c, w);
-        let count = w.count;
-        if next.count != count {
-            store(out, count, next.at - 1);
-        }
-        w = next;
+    let mut count: usize = 1;
+    let mut i: usize = 0;
+    while i < last {
+        i = stop_after(ticks, values, c, i);
+        store(out, count, i);
+        count += 1;
     }
-    if last < 1 {
-        return 1;
-    }
-    let count = w.count;
-    store(out, count, last);
-    count + 1
+    count
 }

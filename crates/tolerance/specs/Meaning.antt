@@ -12,7 +12,6 @@ use lib.Ieee.{Float, nan, inf, fin}
 use lib.Ieee.Positive.{num, den}
 use Rattle.ratio.specs.Gcd.{gcd, lowest}
 use Rattle.ratio.specs.declared.Ratio as R
-use Rattle.tolerance.specs.declared.Noise as N
 use Rattle.tolerance.specs.declared.Tolerance.{Tolerance}
 use Rattle.tolerance.specs.declared.Tolerance.the-variants.{Ratio, Counts, Noise}
 use Rattle.tolerance.specs.declared.Meaning.{Meaning}

@@ -1,17 +1,16 @@
 -- Laws of the cone: what it admits is valid, and it takes in one sample more.
 -- Assumes nothing.
-use mathlib.Core.Path.{_≡_, refl, sym, ap, subst, _∙_}
+use mathlib.Core.Path.{_≡_, refl, sym, ap, subst}
 use mathlib.Core.Logic.{_↔_, ⊎-elim}
-use mathlib.Core.Bool.{Bool, true, false, cond, _&&_}
+use mathlib.Core.Bool.{true, false}
 use mathlib.Core.List.{List}
-use Prim.Native.Nat.{ℕ, suc, _+_, _-_, _*_, _≤_, _<_}
+use Prim.Native.Nat.{ℕ, _+_, _-_, _*_, _≤_, _<_}
 use native.Mathlib.Nat.{eq-or-lt-of-le, mul-le-mul-right}
 use native.Mathlib.Omega.{arith}
 use lib.IntN.{ℤ}
 use lib.ListN.{length}
-use lib.Dec.{leb}
 use borrow.Author.Tests.{leb-true, leb-false, le-leb}
-use Rattle.lists.proofs.Tests.{by-test, true-is, is-true, true-false, tests-equal}
+use Rattle.lists.proofs.Tests.{by-test, true-is, is-true, true-false}
 use Rattle.trace.specs.declared.Criterion.{Criterion}
 use Rattle.trace.specs.declared.Start.{Start}
 use Rattle.trace.specs.declared.Edge.{Edge}
@@ -78,13 +77,6 @@ module _ {ts : List ℕ} (rising : Rising ts) (vs : List ℤ) (p q start l r m :
         below-iff rising vs start e l p q sl (omega arith) inside .1
         (tight-below (omega arith) (omega arith) b (below-iff rising vs start e r p q (omega arith) (omega arith) inside .0 h));
   }
-
--- where the first sample is the start, the second bounds more tightly
-none-lower : (a c d u w p q : ℕ) → u ≡ 0 → c ≡ a → d * q * u + p * w + a * q * w < c * q * w + p * u + a * q * u → ⊥
-none-lower a c d u w p q eu ec h = omega (arith, ap (λ (n : ℕ). n * q * w) ec, ap (λ (n : ℕ). p * n) eu, ap (λ (n : ℕ). a * q * n) eu)
-
-none-upper : (a c d u w p q : ℕ) → u ≡ 0 → c ≡ a → c * q * w + p * w + a * q * u < d * q * u + p * u + a * q * w → ⊥
-none-upper a c d u w p q eu ec h = omega (arith, ap (λ (n : ℕ). n * q * w) ec, ap (λ (n : ℕ). p * n) eu, ap (λ (n : ℕ). d * q * n) eu)
 
 -- comparing two lowered edges compares the bounds from below, and two raised ones those from above
 lower-numbers : (a c d q p u w r s x y : ℕ) → x + p ≡ r → y + p ≡ s → r + q * a ≡ middle + q * c → s + q * a ≡ middle + q * d

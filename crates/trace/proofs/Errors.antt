@@ -1,6 +1,6 @@
 -- Laws of a link's error: it is the greatest deviation, so a link is valid at p/q exactly if its error is at most p/q.
 -- Assumes nothing.
-use mathlib.Core.Path.{_≡_, refl, sym, ap, _∙_}
+use mathlib.Core.Path.{_≡_, ap}
 use mathlib.Core.Logic.{_↔_, ⊎-elim}
 use mathlib.Core.Bool.{true}
 use mathlib.Core.List.{List}

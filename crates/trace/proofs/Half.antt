@@ -1,17 +1,17 @@
 -- Document 003, lemma 2.1: a link within half a tolerance leaves every link of samples inside it within the tolerance.
 -- Assumes nothing.
-use mathlib.Core.Path.{_≡_, refl, sym, subst, subst₂}
+use mathlib.Core.Path.{_≡_, sym, subst, subst₂}
 use mathlib.Core.Logic.{⊎-elim}
 use mathlib.Core.List.{List}
-use Prim.Native.Nat.{ℕ, zero, suc, _+_, _-_, _*_, _≤_, _<_}
+use Prim.Native.Nat.{ℕ, _+_, _-_, _*_, _≤_, _<_}
 use native.Mathlib.Nat.{eq-or-lt-of-le, mul-le-mul-right}
 use native.Mathlib.Omega.{arith}
 use lib.IntN.{ℤ, negℤ}
 use lib.ListN.{length}
 use Rattle.kept.specs.Kept.{Halves}
 use Rattle.trace.specs.declared.Criterion.{Criterion}
-use Rattle.trace.specs.Trace.{tick, value, Rising}
-use Rattle.trace.specs.Link.{Band, Valid, valid, Within, deviation, half}
+use Rattle.trace.specs.Trace.{tick, Rising}
+use Rattle.trace.specs.Link.{Band, Valid, valid, deviation, half}
 use Rattle.trace.proofs.Line.{Above, Below}
 use Rattle.trace.proofs.Ticks.{later, not-earlier}
 use Rattle.trace.proofs.Difference.{wider}

@@ -69,7 +69,7 @@ fn climb_of(rise: u64) -> i64
 }
 
 // The edge of a rise and a run.
-pub fn edge_of(rise: u64, run: u64) -> Edge
+fn edge_of(rise: u64, run: u64) -> Edge
     requires { ⌜ rise ≤ 274877906944 ⌝ }
     ensures { λ r. ⌜ r ≡ edgeOf rise run ⌝ }
 {

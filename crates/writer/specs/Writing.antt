@@ -2,7 +2,7 @@
 --   Kept           a trace and a kept list of it
 --   selected       what is written: a tolerance and the samples that a list keeps
 --   writeRow       row 10: too few bytes from the place on
---   WriteOutcome   what is answered, and what the buffer then holds
+--   ContentWritten   what is answered, and what the buffer then holds
 -- For the kernels:
 --   keptTicks, keptValues, SampleAt, SampleOk   the kept samples; one of them; its ranges
 --   StepBetween, StepOk, stepAt, MoveFrom       the steps between them
@@ -65,9 +65,9 @@ pub record WriteDeclined (x : Content) (o : List ℕ) (place : ℕ) (e : Refusal
   pub rows : writeRow (encode x) (length o) place ≡ Declined e
   pub content : o′ ≡ o
 
-abbrev pub WriteOutcome : Content → List ℕ → ℕ → Answer → List ℕ → Type 0
-WriteOutcome x o place (Written n) o′ = WrittenAt x o place n o′
-WriteOutcome x o place (Refused e) o′ = WriteDeclined x o place e o′
+abbrev pub ContentWritten : Content → List ℕ → ℕ → Answer → List ℕ → Type 0
+ContentWritten x o place (Written n) o′ = WrittenAt x o place n o′
+ContentWritten x o place (Refused e) o′ = WriteDeclined x o place e o′
 
 -- ---- kept samples
 

@@ -8,7 +8,7 @@ ghost use lib.ListN.{length};
 ghost use Rattle.lists.specs.Overwrite.{overwrite};
 ghost use Rattle.tolerance.specs.Meaning.{Held};
 ghost use Rattle.format.specs.Format.{encode};
-ghost use Rattle.writer.specs.Writing.{Kept, keptTicks, keptValues, selected, SampleAt, SampleOk, LengthOf, startOf, restOf, WriteOutcome};
+ghost use Rattle.writer.specs.Writing.{Kept, keptTicks, keptValues, selected, SampleAt, SampleOk, LengthOf, startOf, restOf, ContentWritten};
 use commands::put_command;
 use commands::size;
 use format::Command;
@@ -108,7 +108,7 @@ fn write_counted(
     place: usize,
 ) -> Answer
     requires { ⌜ Kept (now ticks) (now values) (now list) × Held held ⌝ }
-    ensures { λ r. ⌜ WriteOutcome (selected held (now (ticks .entry)) (now (values .entry)) (now (list .entry))) (now (buffer .entry)) place r (now (buffer .exit)) ⌝ }
+    ensures { λ r. ⌜ ContentWritten (selected held (now (ticks .entry)) (now (values .entry)) (now (list .entry))) (now (buffer .entry)) place r (now (buffer .exit)) ⌝ }
 {
     let n = record_length(ticks, values, list);
     if buffer.len() < place {
@@ -143,7 +143,7 @@ pub fn write(
     place: usize,
 ) -> Answer
     requires { ⌜ Kept (now ticks) (now values) (now list) × Held held ⌝ }
-    ensures { λ r. ⌜ WriteOutcome (selected held (now (ticks .entry)) (now (values .entry)) (now (list .entry))) (now (buffer .entry)) place r (now (buffer .exit)) ⌝ }
+    ensures { λ r. ⌜ ContentWritten (selected held (now (ticks .entry)) (now (values .entry)) (now (list .entry))) (now (buffer .entry)) place r (now (buffer .exit)) ⌝ }
 {
     if has_room(buffer.len(), place, list.len()) {
         let n = put_record(&mut buffer[place..], ticks, values, list, held);

@@ -2,6 +2,8 @@ use kovrelna_evidence::cases::judge_list;
 use kovrelna_evidence::compare::{judge, ratio};
 use kovrelna_reference::generate::{kept_list, trace, Random, Trace, KINDS};
 
+use crate::SMALL_TOLERANCES;
+
 #[test]
 fn random_traces() {
     let random = &mut Random::new(5);
@@ -131,16 +133,7 @@ fn every_small_trace() {
         for digits in 0..5i16.pow(4) {
             let values = [1, 5, 25, 125].map(|place| digits / place % 5 - 2);
             for list in [&[0, 3][..], &[0, 1, 3], &[0, 2, 3], &[0, 1, 2, 3]] {
-                for (p, q) in [
-                    (0, 1),
-                    (1, 3),
-                    (1, 2),
-                    (2, 3),
-                    (1, 1),
-                    (4, 3),
-                    (2, 1),
-                    (7, 2),
-                ] {
+                for (p, q) in SMALL_TOLERANCES {
                     judge(&ticks, &values, list, ratio(p, q)).unwrap();
                 }
             }

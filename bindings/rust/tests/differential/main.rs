@@ -17,3 +17,15 @@ mod least;
 mod records;
 mod reduce;
 mod refusals;
+
+/// Tolerances from 0 to 7/2, as p and q, for the tests of every small trace.
+const SMALL_TOLERANCES: [(u64, u64); 8] = [
+    (0, 1),
+    (1, 3),
+    (1, 2),
+    (2, 3),
+    (1, 1),
+    (4, 3),
+    (2, 1),
+    (7, 2),
+];

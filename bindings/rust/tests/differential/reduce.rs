@@ -6,6 +6,8 @@ use kovrelna_reference::generate::{just_below, trace, Kind, Random, Trace, KINDS
 use kovrelna_reference::Method::Gallop;
 use kovrelna_reference::{link_error, METHODS};
 
+use crate::SMALL_TOLERANCES;
+
 #[test]
 fn random_traces() {
     let random = &mut Random::new(8);
@@ -228,16 +230,7 @@ fn every_small_trace() {
                         .map(|k| digits / values.pow(k) % values - values / 2)
                         .collect(),
                 };
-                for (p, q) in [
-                    (0, 1),
-                    (1, 3),
-                    (1, 2),
-                    (2, 3),
-                    (1, 1),
-                    (4, 3),
-                    (2, 1),
-                    (7, 2),
-                ] {
+                for (p, q) in SMALL_TOLERANCES {
                     let tolerance = ratio(p, q);
                     size_bounds(&trace, tolerance, &lists(&trace, tolerance, 5));
                 }

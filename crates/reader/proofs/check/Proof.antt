@@ -2,7 +2,7 @@
 use mathlib.Core.Path.{sym, _∙_, ap}
 use borrow.Author.Needs.{needs}
 use Rattle.format.specs.Number.{Bytes}
-use Rattle.reader.specs.Reading.{verdictOf}
+use Rattle.reader.specs.Reading.{recordVerdict}
 use Rattle.reader.proofs.ReadingLaws.{parse-start, parse-fault, header-begun, verdict}
 use Rattle.reader.proofs.check.Statement.{statement}
 use Rattle.reader.proofs.check.Tie as tie
@@ -27,7 +27,7 @@ enum-known-h-2 c = search needs
 returns : tie.Need-returns
 returns c =
     let h = c .before .before .before .before in
-    verdict (by (h .before)) (c .count-samples .ensures ∙ sym (ap verdictOf (parse-start _ (sym (h .read-header .ensures) ∙ c .before .before .h .given .1))))
+    verdict (by (h .before)) (c .count-samples .ensures ∙ sym (ap recordVerdict (parse-start _ (sym (h .read-header .ensures) ∙ c .before .before .h .given .1))))
 
 returns-2 : tie.Need-returns-2
 returns-2 c =

@@ -2,7 +2,7 @@
 use mathlib.Core.Path.{refl, sym, _∙_, ap, subst}
 use borrow.Author.Tests.{le-leb, lt-leb}
 use Rattle.format.specs.Number.{Bytes}
-use Rattle.reader.specs.Reading.{Said, CheckOutcome, verdictOf}
+use Rattle.reader.specs.Reading.{Said, CheckOutcome, recordVerdict}
 use Rattle.reader.proofs.ReadingLaws.{parse-start, header-begun, verdict, no-room, room, read-back, read-fault}
 use borrow.Author.Needs.{needs}
 use Rattle.reader.proofs.read_from.Statement.{statement}
@@ -12,7 +12,7 @@ by : (c : tie.After-shared-slice-known) → Bytes (c .before .args .bytes .now)
 by c = record { byte = λ i. c .shared-slice-known .given i .fits }
 
 counted : (c : tie.After-count-samples) → CheckOutcome (c .before .before .before .args .bytes .now) (c .count-samples .result)
-counted c = verdict (by (c .before .before)) (c .count-samples .ensures ∙ sym (ap verdictOf (parse-start _ (c .before .before .before .pre))))
+counted c = verdict (by (c .before .before)) (c .count-samples .ensures ∙ sym (ap recordVerdict (parse-start _ (c .before .before .before .pre))))
 
 -- an accepted record
 said : (c : tie.After-v) → Said (c .before .before .before .before .before .args .bytes .now) (c .v .given .0 .0) (c .v .given .0 .1 .0)

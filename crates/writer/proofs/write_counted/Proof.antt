@@ -1,7 +1,6 @@
 -- `writer::write_counted` meets its contract: there is room for the record from the place on, and it is written over that part; or nothing is.
 -- Assumes nothing.
 use mathlib.Core.Path.{_≡_, refl}
-use Prim.Native.Nat.{_-_}
 use native.Mathlib.Omega.{arith}
 use lib.ListN.{length}
 use Rattle.lists.proofs.PartLaws.{part-length}

@@ -1,5 +1,4 @@
 -- `engine::judge::verdict` meets its contract. Assumes nothing.
-use Prim.Native.Nat.{_-_}
 use mathlib.Core.Path.{sym, _∙_, ap}
 use native.Mathlib.Omega.{arith}
 use Rattle.engine.specs.declared.Verdict.the-variants.{No}

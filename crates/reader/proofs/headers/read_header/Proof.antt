@@ -7,7 +7,7 @@ use lib.ListN.{drop}
 use Rattle.format.specs.declared.Header.the-variants.{Fault as NoHeader}
 use Rattle.format.specs.Number.{field}
 use Rattle.format.specs.Command.{choose, commandOf}
-use Rattle.format.specs.Format.{allowed, firstOf, headerOf}
+use Rattle.format.specs.Format.{allowed, sampleHeader, headerOf}
 use Rattle.reader.proofs.CommandsAt.{cut, other, no-tolerance, tolerance-header}
 use borrow.Author.Needs.{needs}
 use Rattle.reader.proofs.headers.read_header.Statement.{statement}
@@ -18,7 +18,7 @@ module _ (c : tie.Else2) where
   abbrev b : List ℕ
   b = c .before .before .before .before .args .bytes .now
 
-  header : headerOf b ≡ choose (allowed (record { p = field b 1 5; q = field b 6 3 })) (firstOf (record { p = field b 1 5; q = field b 6 3 }) (commandOf (drop 9 b))) (NoHeader 0)
+  header : headerOf b ≡ choose (allowed (record { p = field b 1 5; q = field b 6 3 })) (sampleHeader (record { p = field b 1 5; q = field b 6 3 }) (commandOf (drop 9 b))) (NoHeader 0)
   header = tolerance-header b (c .if2 .left) (omega (arith, c .before .before .if1 .left))
 
 returns : tie.Need-returns

@@ -49,7 +49,7 @@ loop-again c =
     rw (c .before .before .store2 .ensures) (galloping-more (at .before .loop .inv) (steps-valid _ _ _) (at .loop-test .taken) _ (c .before .before .before .before .before .before .search .ensures .0))
 
 same-length : tie.Need-same-length Inv-loop μ-loop
-same-length c = omega (arith, c .before .loop .inv .same, c .before .before .before .before .store .kept)
+same-length c = omega (arith, c .before .loop .inv .filling .same, c .before .before .before .before .store .kept)
 
 returns : tie.Need-returns Inv-loop μ-loop
 returns c =
