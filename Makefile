@@ -23,6 +23,9 @@ PLACES = PREFIX BINDIR LIBDIR INCLUDEDIR PYTHONDIR
 CHECK_PLACES = $(foreach place,$(PLACES),$(if $(and $(filter 1,$(words $($(place)))),$(filter /%,$($(place)))),,\
 $(error $(place) must be an absolute path without spaces, not '$($(place))')))
 
+# Provers that run at once in the gate: one more than processors, since they run in groups, each of which waits for its slowest.
+JOBS = $(shell expr $$(nproc) + 1)
+
 # The gate's run of evidence: about 6 seconds.
 GATE_EVIDENCE = --cases 30000 --seed 1
 EVIDENCE = $(CARGO) run $(CARGO_FLAGS) --release --package kovrelna-evidence --
@@ -96,7 +99,7 @@ example:
 test:
 	@rt fmt --check
 	@log=$$(mktemp); trap 'rm -f "$$log"' EXIT; \
-	if ! rt ci >"$$log" 2>&1; then cat "$$log"; exit 1; fi; \
+	if ! RT_JOBS=$(JOBS) rt ci >"$$log" 2>&1; then cat "$$log"; exit 1; fi; \
 	grep '^rt:' "$$log"; \
 	rt staticlib kovrelna >/dev/null && rt check reduce >/dev/null && make --no-print-directory test-rust test-c test-install test-python && tail -n 1 "$$log"
 

@@ -57,7 +57,7 @@ fn longer_traces() {
 #[test]
 fn long_traces() {
     let random = &mut Random::new(10);
-    for samples in [1_000, 4_095, 4_096] {
+    for samples in [1_000, 4_096] {
         for kind in KINDS {
             let trace = trace(kind, samples, random);
             for tolerance in tolerances(&trace, random) {
@@ -96,7 +96,12 @@ fn stops_of_every_length() {
     let powers = [256usize, 512, 1_024, 2_048];
     let near = powers.iter().flat_map(|&power| power - 2..=power + 2);
     for r in (1..=70).chain(near).chain([4_093, 4_094, 4_095]) {
-        for rest in [0, 1, 2, 3, 4, 9] {
+        let rests = if r < 1_000 {
+            &[0, 1, 2, 3, 4, 9][..]
+        } else {
+            &[0, 1]
+        };
+        for &rest in rests {
             let samples = if rest == 0 { r + 1 } else { r + 2 + rest };
             if samples > 4_096 {
                 continue;
