@@ -105,8 +105,8 @@ test:
 
 # The Rust tests, which run the program reduce too, and the example, which prints what the C example prints.
 test-rust:
-	@$(CARGO) test $(CARGO_FLAGS) --workspace --lib --tests
-	@$(CARGO) test $(CARGO_FLAGS) --workspace --doc
+	@$(CARGO) test $(CARGO_FLAGS) --release --workspace --lib --tests
+	@$(CARGO) test $(CARGO_FLAGS) --release --workspace --doc
 	@$(EVIDENCE) $(GATE_EVIDENCE)
 	@$(CARGO) run $(CARGO_FLAGS) --release --package kovrelna --example reduce | diff bindings/c/example.txt -
 
