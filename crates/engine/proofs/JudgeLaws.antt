@@ -69,9 +69,9 @@ module _ (ts : List ℕ) (vs : List ℤ) (l : List ℕ) where
   unfolding judgeOf judgeRows judgedAt
   common-fine t h = rw h
 
-  pub common-refused : (t : Tolerance) {x : Refusal} → commonRows ts vs t ≡ Refused x → Declined x ≡ judgeOf ts vs l t
+  pub judge-refused : (t : Tolerance) {x : Refusal} → commonRows ts vs t ≡ Refused x → Declined x ≡ judgeOf ts vs l t
   unfolding judgeOf judgeRows
-  common-refused t h = rw h
+  judge-refused t h = rw h
 
   -- what the rows say of a list that none of them refuses
   pub rows-kept : (t : Tolerance) → judgeRows ts vs l t ≡ Fine → KeptList (length ts - 1) l

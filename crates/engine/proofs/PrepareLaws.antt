@@ -9,11 +9,11 @@ use lib.ListN.{length}
 use borrow.Author.Tests.{le-leb, lt-leb}
 use Rattle.ratio.specs.declared.Ratio.{Ratio}
 use Rattle.refusal.specs.declared.Refusal.{Refusal}
-use Rattle.refusal.specs.declared.Refusal.the-variants.{Tolerance as NotAllowedTolerance, Room}
+use Rattle.refusal.specs.declared.Refusal.the-variants.{Room}
 use Rattle.refusal.specs.declared.Checked.the-variants.{Fine, Refused}
 use Rattle.refusal.proofs.TableLaws.{then-fine}
 use Rattle.tolerance.specs.declared.Tolerance.{Tolerance}
-use Rattle.tolerance.specs.declared.Meaning.the-variants.{Exact, NotAllowed}
+use Rattle.tolerance.specs.declared.Meaning.the-variants.{Exact}
 use Rattle.tolerance.specs.Meaning.{meaning}
 use Rattle.tolerance.proofs.Meanings.{exact-held}
 use Rattle.trace.specs.declared.Criterion.{Criterion}
@@ -22,7 +22,6 @@ use Rattle.trace.specs.Link.{criterion}
 use Rattle.trace.proofs.TraceLaws.{rows-trace}
 use Rattle.engine.specs.declared.Ready.{Ready}
 use Rattle.engine.specs.declared.Ready.the-variants.{At, Refused as Declined}
-use Rattle.engine.specs.Hold.{toleranceRow}
 use Rattle.engine.specs.Prepare.{commonRows, criterionIn, criterionOf, Sets, Allowed, ReadyAt, Prepared, outputRows, OutputReady}
 
 -- an allowed tolerance sets the criterion of its ratio, within the bounds of an allowed one
@@ -31,9 +30,6 @@ unfolding criterionOf criterionIn
 exact-sets t {r} e =
     let h = exact-held t r e in
     record { row = rw e; is = rw e; bounded = record { positive = h .positive; q-bound = h .q-bound; p-bound = h .p-bound } }
-
-pub not-allowed : (t : Tolerance) → meaning t ≡ NotAllowed → toleranceRow (meaning t) ≡ Refused NotAllowedTolerance
-not-allowed t e = rw e
 
 pub common-trace : (ts : List ℕ) (vs : List ℤ) (t : Tolerance) → commonRows ts vs t ≡ Fine → Trace ts vs
 unfolding commonRows
@@ -59,6 +55,6 @@ module _ (ts : List ℕ) (vs : List ℤ) (t : Tolerance) (room : ℕ) where
   unfolding outputRows
   room-fine r le = record { rows = rw (r .rows, le-leb (length ts) room le); ready = r; room-is = le }
 
-  pub common-refused : {x : Refusal} → commonRows ts vs t ≡ Refused x → outputRows ts vs t room ≡ Refused x
+  pub output-refused : {x : Refusal} → commonRows ts vs t ≡ Refused x → outputRows ts vs t room ≡ Refused x
   unfolding outputRows
-  common-refused e = rw e
+  output-refused e = rw e

@@ -20,7 +20,7 @@ use Rattle.shortest.specs.Shortest.{minimumList}
 use Rattle.shortest.proofs.ShortestLaws.{minimum-list}
 use Rattle.engine.specs.Prepare.{criterionOf, OutputReady}
 use Rattle.engine.specs.Reduce.{okOf, GreedyList, WalkKept, GallopKept}
-use Rattle.engine.specs.Minimum.{Shortened}
+use Rattle.engine.specs.Minimum.{MinimumKept}
 
 -- any greedy list: kept, of valid links, with maximal stops
 pub greedy-list : {ts : List ℕ} {vs : List ℤ} (t : Tolerance) {l : List ℕ} → Trace ts vs → Greedy (okOf ts vs t) (length ts - 1) l → GreedyList ts vs t l
@@ -32,15 +32,15 @@ at-tolerance r P h = subst P (r .ready .is) h
 
 -- what a kernel wrote at the criterion c, where the checks pass
 module _ {ts : List ℕ} {vs : List ℤ} {t : Tolerance} {o o′ : List ℕ} {n : ℕ} {c : Criterion} (r : OutputReady ts vs t (length o) c) where
-  pub walked : Wrote (walkList ts vs c) o n o′ → WalkKept ts vs t o n o′
-  walked w = record {
+  pub walk-kept : Wrote (walkList ts vs c) o n o′ → WalkKept ts vs t o n o′
+  walk-kept w = record {
     rows = r .rows;
     wrote = at-tolerance r (λ x. Wrote (walkList ts vs x) o n o′) w;
     list = greedy-list t (r .ready .trace) (walk-list-greedy ts vs (criterionOf t));
   }
 
-  pub searched : {p : ℕ} → Wrote (gallopList ts vs c) o n o′ → p ≡ gallopTotal ts vs c → GallopKept ts vs t o n p o′
-  searched {p} w e = record {
+  pub gallop-kept : {p : ℕ} → Wrote (gallopList ts vs c) o n o′ → p ≡ gallopTotal ts vs c → GallopKept ts vs t o n p o′
+  gallop-kept {p} w e = record {
     rows = r .rows;
     wrote = at-tolerance r (λ x. Wrote (gallopList ts vs x) o n o′) w;
     list = greedy-list t (r .ready .trace) (gallop-list-greedy ts vs (criterionOf t));
@@ -49,8 +49,8 @@ module _ {ts : List ℕ} {vs : List ℤ} {t : Tolerance} {o o′ : List ℕ} {n 
         (gallop-stop-probes ts vs (criterionOf t) (r .ready .trace));
   }
 
-  pub shortened : Wrote (minimumList ts vs c) o n o′ → Shortened ts vs t o n o′
-  shortened w = record {
+  pub minimum-kept : Wrote (minimumList ts vs c) o n o′ → MinimumKept ts vs t o n o′
+  minimum-kept w = record {
     rows = r .rows;
     wrote = at-tolerance r (λ x. Wrote (minimumList ts vs x) o n o′) w;
     list = minimum-list ts vs (criterionOf t);

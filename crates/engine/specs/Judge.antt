@@ -1,8 +1,10 @@
 -- The outcome of `judge` (document 01, "The four reductions" and "When the engine declines").
 --   judgeRows      the first row that applies, in rising number: 1, 2, 3, 4, 6
---   listVerdict      yes, or no at the first invalid link
+--   listVerdict    yes, or no at the first invalid link
+--   declineOr      a refusal, or else the verdict
 --   judgeOf        what `judge` answers
 --   JudgeOutcome   its contract
+--   judgedAt       the answer where the checks 1 to 4 pass
 -- Assumes nothing.
 use mathlib.Core.Path.{_≡_}
 use mathlib.Core.Logic.{_↔_}
@@ -31,7 +33,6 @@ judgeRows ts vs l t = commonRows ts vs t thenCheck listRow (length ts) l
 unfoldable pub listVerdict : List ℕ → List ℤ → List ℕ → Criterion → Verdict
 listVerdict ts vs l c = let k = firstInvalid ts vs c l in cond (leb (length l - 1) k) Yes (No k)
 
--- a refusal, or else the verdict
 abbrev pub declineOr : Checked → Verdict → Verdict
 declineOr Fine v = v
 declineOr (Refused x) v = Declined x
@@ -44,6 +45,5 @@ pub record JudgeOutcome (ts : List ℕ) (vs : List ℤ) (l : List ℕ) (t : Tole
   pub is : r ≡ judgeOf ts vs l t
   pub passed : r ≡ Yes ↔ (judgeRows ts vs l t ≡ Fine) × KeptList (length ts - 1) l × AllValid (valid ts vs (criterionOf t)) l
 
--- the answer where the checks 1 to 4 pass
 unfoldable pub judgedAt : List ℕ → List ℤ → List ℕ → Criterion → Verdict
 judgedAt ts vs l c = declineOr (listRow (length ts) l) (listVerdict ts vs l c)

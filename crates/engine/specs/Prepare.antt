@@ -1,9 +1,9 @@
 -- The checks of a trace and a tolerance, which several calls have in common (document 01, "When the engine declines").
---   commonRows    the first of the rows 1, 2, 3, 4 that applies
---   criterionOf   the criterion that a tolerance sets
---   Sets, Allowed    what check 4 gives: the criterion that an allowed tolerance sets, or the row
---   ReadyAt, Prepared   what the checks 1 to 4 give: a trace and that criterion, or the row
---   outputRows    the first of the rows 1, 2, 3, 4, 10 that applies, for a list that needs as many entries as the trace has samples
+--   commonRows                    the first of the rows 1, 2, 3, 4 that applies
+--   criterionIn, criterionOf      the criterion that a meaning, a tolerance sets
+--   Sets, Allowed                 what check 4 gives: the criterion that an allowed tolerance sets, or the row
+--   ReadyAt, Prepared             what the checks 1 to 4 give: a trace and that criterion, or the row
+--   outputRows                    the first of the rows 1, 2, 3, 4, 10 that applies, for a list that needs as many entries as the trace has samples
 --   OutputReady, OutputPrepared   what these checks give
 -- Assumes nothing.
 use mathlib.Core.Path.{_≡_}

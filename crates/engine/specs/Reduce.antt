@@ -1,7 +1,7 @@
 -- The outcomes of the greedy reductions, walk and gallop (document 01, "The four reductions", and demands 1, 2 and 3).
---   okOf            the link test of a trace at a tolerance
---   GreedyList      a kept list of valid links with maximal stops, and demand 3 of it
---   WalkKept, GallopKept   what holds where walk, gallop kept a list
+--   okOf                         the link test of a trace at a tolerance
+--   GreedyList                   a kept list of valid links with maximal stops, and demand 3 of it
+--   WalkKept, GallopKept         what holds where walk, gallop kept a list
 --   WalkOutcome, GallopOutcome   the contracts: by cases on the answer
 -- A refused call leaves the lent list as it was. Otherwise its first entries are the list, and the others stay.
 -- Assumes nothing.
@@ -14,10 +14,11 @@ use lib.ListN.{length}
 use Rattle.lists.specs.Overwrite.{Wrote}
 use Rattle.refusal.specs.declared.Checked.the-variants.{Fine, Refused}
 use Rattle.kept.specs.Kept.{KeptList, AllValid, MaximalStops, EachLink}
-use Rattle.kept.specs.Walk.{walkOf}
-use Rattle.kept.specs.Gallop.{gallopOf, gallopProbes, gallopSearch, floorLog2}
+use Rattle.kept.specs.Gallop.{gallopSearch, floorLog2}
 use Rattle.tolerance.specs.declared.Tolerance.{Tolerance}
-use Rattle.trace.specs.Link.{valid, half}
+use Rattle.trace.specs.Link.{valid, NoLonger}
+use Rattle.reduction.specs.Walking.{walkList}
+use Rattle.reduction.specs.Galloping.{gallopList, gallopTotal}
 use Rattle.engine.specs.declared.Reduced.{Reduced}
 use Rattle.engine.specs.declared.Reduced.the-variants.{Kept, Refused as Declined}
 use Rattle.engine.specs.declared.Probed.{Probed}
@@ -32,13 +33,13 @@ pub record GreedyList (ts : List ℕ) (vs : List ℤ) (t : Tolerance) (l : List 
   pub within : AllValid (okOf ts vs t) l
   pub maximal : MaximalStops (okOf ts vs t) (length ts - 1) l
   -- demand 3: every kept list of this trace within half the tolerance, p over 2q, has at least as many samples
-  pub size : (h : List ℕ) → KeptList (length ts - 1) h → AllValid (valid ts vs (half (criterionOf t))) h → length l ≤ length h
+  pub size : NoLonger ts vs (criterionOf t) (length l)
 
 -- walk kept n samples, and the lent list o became o′
 pub record WalkKept (ts : List ℕ) (vs : List ℤ) (t : Tolerance) (o : List ℕ) (n : ℕ) (o′ : List ℕ) : Type 0 where
   pub rows : outputRows ts vs t (length o) ≡ Fine
-  pub wrote : Wrote (walkOf (okOf ts vs t) (length ts - 1)) o n o′
-  pub list : GreedyList ts vs t (walkOf (okOf ts vs t) (length ts - 1))
+  pub wrote : Wrote (walkList ts vs (criterionOf t)) o n o′
+  pub list : GreedyList ts vs t (walkList ts vs (criterionOf t))
 
 abbrev pub WalkOutcome : List ℕ → List ℤ → Tolerance → List ℕ → Reduced → List ℕ → Type 0
 WalkOutcome ts vs t o (Kept n) o′ = WalkKept ts vs t o n o′
@@ -47,11 +48,11 @@ WalkOutcome ts vs t o (Declined x) o′ = (outputRows ts vs t (length o) ≡ Ref
 -- gallop kept n samples by p probes: the method's own, at most 2 floor (log2 r) + 1 for a stop of r samples
 pub record GallopKept (ts : List ℕ) (vs : List ℤ) (t : Tolerance) (o : List ℕ) (n p : ℕ) (o′ : List ℕ) : Type 0 where
   pub rows : outputRows ts vs t (length o) ≡ Fine
-  pub wrote : Wrote (gallopOf (okOf ts vs t) (length ts - 1)) o n o′
-  pub list : GreedyList ts vs t (gallopOf (okOf ts vs t) (length ts - 1))
-  pub probes : p ≡ gallopProbes (okOf ts vs t) (length ts - 1)
-  pub bound : EachLink (λ i j. gallopSearch (okOf ts vs t) (length ts - 1) i .probes ≤ 2 * floorLog2 64 (j - i) + 1) (gallopOf (okOf ts vs t) (length ts - 1))
+  pub wrote : Wrote (gallopList ts vs (criterionOf t)) o n o′
+  pub list : GreedyList ts vs t (gallopList ts vs (criterionOf t))
+  pub probes : p ≡ gallopTotal ts vs (criterionOf t)
+  pub bound : EachLink (λ i j. gallopSearch (okOf ts vs t) (length ts - 1) i .probes ≤ 2 * floorLog2 64 (j - i) + 1) (gallopList ts vs (criterionOf t))
 
 abbrev pub GallopOutcome : List ℕ → List ℤ → Tolerance → List ℕ → Probed → List ℕ → Type 0
-GallopOutcome ts vs t o (Galloped g) o′ = GallopKept ts vs t o (g .count) (g .probes) o′
+GallopOutcome ts vs t o (Galloped g) o′ = GallopKept ts vs t o (g .kept) (g .probes) o′
 GallopOutcome ts vs t o (NotGalloped x) o′ = (outputRows ts vs t (length o) ≡ Refused x) × (o′ ≡ o)

@@ -1,6 +1,7 @@
 -- The outcome of write (document 01, "The record" and "When the engine declines").
 --   writeRows      the first row that applies, in rising number: 1, 2, 3, 4, 6, 7, 10
 --   linkRow        row 7: an invalid link
+--   ratioOf        the tolerance of a criterion
 --   contentOf      what is written: the held tolerance and the samples that the list keeps
 --   Recorded       what holds where a record was written
 --   WriteOutcome   the contract: by cases on the answer

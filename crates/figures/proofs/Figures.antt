@@ -173,7 +173,7 @@ tick-not-above : traceRows 4096 (5 ∷ 5 ∷ []) flat ≡ Refused (Tick 1)
 unfolding traceRows first firstOf
 tick-not-above = refl
 
--- ---- that trace, list 0 2, tolerance 2/3: its record
+-- ---- ticks 0 1 3, values 0 1 1, list 0 2, tolerance 2/3: its record
 
 slope-record : encode (selected (over 2 3) slopeTicks slopeValues (0 ∷ 2 ∷ []))
     ≡ 0x54 ∷ 0 ∷ 0 ∷ 0 ∷ 0 ∷ 2 ∷ 0 ∷ 0 ∷ 3 ∷ 0x41 ∷ 0 ∷ 0 ∷ 0 ∷ 0 ∷ 0 ∷ 0 ∷ 0x53 ∷ 3 ∷ 1 ∷ 0x45 ∷ 0 ∷ 2 ∷ []

@@ -1,7 +1,8 @@
 -- What the structs of the C interface stand for: the enums of the public calls.
---   toleranceOf        the tolerance that a form gives
---   heldOf, verdictOf, keptOf, gallopedOf, closestOf, writtenOf, contentOf, comparedOf   an answer as numbers: 0 for success, or the refusal's number and value
---   WalkExport, GallopExport, ..   an export that writes, or whose answer has a content, has the outcome of the public call
+--   toleranceOf   the tolerance that a form gives
+--   heldOf, verdictOf, keptOf, gallopedOf, closestOf, writtenOf, readOf, comparedOf   an answer as numbers: 0 for success, or the refusal's number and value
+--   WalkExport, GallopExport, MinimumExport, LeastExport, ExpandExport, WriteExport, ReadExport, SameExport   an export that writes, or whose
+--                 answer has a content, has the outcome of the public call
 -- Assumes nothing.
 use mathlib.Core.Path.{_≡_}
 use mathlib.Core.Bool.{cond}
@@ -63,7 +64,7 @@ keptOf (IsKept n) = record { number = 0; value = n }
 keptOf (NotKept x) = record { number = numberOf x; value = returnedOf x }
 
 abbrev pub gallopedOf : Probed → Galloped
-gallopedOf (IsGalloped g) = record { number = 0; value = g .count; probes = g .probes }
+gallopedOf (IsGalloped g) = record { number = 0; value = g .kept; probes = g .probes }
 gallopedOf (NotGalloped x) = record { number = numberOf x; value = returnedOf x; probes = 0 }
 
 pub record WalkExport (ts : List ℕ) (vs : List ℤ) (t : Tolerance) (o : List ℕ) (r : Answer) (o′ : List ℕ) : Type 0 where
@@ -94,9 +95,9 @@ abbrev pub writtenOf : Written → Answer
 writtenOf (Count n) = record { number = 0; value = n }
 writtenOf (NotWritten x) = record { number = numberOf x; value = returnedOf x }
 
-abbrev pub contentOf : R.Answer → Content
-contentOf (Samples n t) = record { number = 0; value = n; p = t .p; q = t .q }
-contentOf (NotRead x) = record { number = numberOf x; value = returnedOf x; p = 0; q = 0 }
+abbrev pub readOf : R.Answer → Content
+readOf (Samples n t) = record { number = 0; value = n; p = t .p; q = t .q }
+readOf (NotRead x) = record { number = numberOf x; value = returnedOf x; p = 0; q = 0 }
 
 abbrev pub comparedOf : Comparison → Verdict
 comparedOf Same = record { number = 0; passed = 1; value = 0 }
@@ -115,7 +116,7 @@ pub record WriteExport (ts : List ℕ) (vs : List ℤ) (l : List ℕ) (t : Toler
 
 pub record ReadExport (b ts : List ℕ) (vs : List ℤ) (r : Content) (ts′ : List ℕ) (vs′ : List ℤ) : Type 0 where
   pub answer : R.Answer
-  pub is : r ≡ contentOf answer
+  pub is : r ≡ readOf answer
   pub outcome : ReadOutcome b ts vs answer ts′ vs′
 
 pub record SameExport (a b : List ℕ) (r : Verdict) : Type 0 where

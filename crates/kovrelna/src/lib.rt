@@ -3,7 +3,7 @@ ghost use mathlib.Core.Path.{_≡_};
 ghost use Rattle.tolerance.specs.Meaning.{meaning};
 ghost use Rattle.engine.specs.Hold.{holdingOf};
 ghost use Rattle.engine.specs.Judge.{judgeOf};
-ghost use Rattle.kovrelna.specs.Border.{toleranceOf, heldOf, verdictOf, keptOf, gallopedOf, closestOf, writtenOf, contentOf, comparedOf, WalkExport, GallopExport, MinimumExport, LeastExport, ExpandExport, WriteExport, ReadExport, SameExport};
+ghost use Rattle.kovrelna.specs.Border.{toleranceOf, heldOf, verdictOf, keptOf, gallopedOf, closestOf, writtenOf, readOf, comparedOf, WalkExport, GallopExport, MinimumExport, LeastExport, ExpandExport, WriteExport, ReadExport, SameExport};
 
 // A tolerance: form 0 is the ratio p/q, form 1 is x counts, form 2 is the noise x times the multiple y. No other form is allowed.
 #[repr(C)]
@@ -148,7 +148,7 @@ fn galloped_of(a: engine::Probed) -> Galloped
     match a {
         engine::Probed::Kept(g) => Galloped {
             number: 0,
-            value: g.count as u64,
+            value: g.kept as u64,
             probes: g.probes as u64,
         },
         engine::Probed::Refused(x) => Galloped {
@@ -197,7 +197,7 @@ fn written_of(a: engine::Written) -> Answer
 }
 
 fn content_of(a: reader::Answer) -> Content
-    ensures { λ r. ⌜ r ≡ contentOf a ⌝ }
+    ensures { λ r. ⌜ r ≡ readOf a ⌝ }
 {
     match a {
         reader::Answer::Samples(n, t) => Content {

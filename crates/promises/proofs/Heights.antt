@@ -1,10 +1,9 @@
 -- The error budget (heights: specs/Heights) of every list that a call writes or passes, from the call's contract alone.
 -- What a call wrote is read from its output: the first n entries, n being the number that it returned.
 -- Assumes nothing.
-use mathlib.Core.Path.{_≡_, refl, subst}
+use mathlib.Core.Path.{_≡_, refl}
 use mathlib.Core.List.{List}
 use Prim.Native.Nat.{ℕ, _-_, _≤_}
-use native.Mathlib.Omega.{arith}
 use lib.IntN.{ℤ}
 use lib.ListN.{length, take}
 use Rattle.lists.specs.Overwrite.{Wrote}
@@ -13,11 +12,8 @@ use Rattle.refusal.specs.declared.Checked.the-variants.{Fine}
 use Rattle.refusal.proofs.TableLaws.{then-fine}
 use Rattle.kept.specs.Kept.{KeptList, AllValid}
 use Rattle.tolerance.specs.declared.Tolerance.{Tolerance}
-use Rattle.tolerance.specs.declared.Meaning.{Meaning}
-use Rattle.tolerance.specs.declared.Meaning.the-variants.{Exact, NotAllowed}
-use Rattle.tolerance.specs.Meaning.{meaning}
 use Rattle.trace.specs.declared.Criterion.{Criterion}
-use Rattle.trace.specs.Trace.{Trace, traceRows}
+use Rattle.trace.specs.Trace.{Trace}
 use Rattle.trace.specs.Link.{valid, criterion}
 use Rattle.heights.specs.Heights.{ErrorBudget}
 use Rattle.heights.proofs.BudgetLaws.{error-budget}
@@ -27,14 +23,14 @@ use Rattle.closest.specs.declared.Found.{Found}
 use Rattle.engine.specs.declared.Probed.the-variants.{Kept as KeptBy}
 use Rattle.engine.specs.declared.Closest.the-variants.{Kept as KeptAt}
 use Rattle.engine.specs.declared.Verdict.the-variants.{Yes}
-use Rattle.engine.specs.Hold.{toleranceRow}
 use Rattle.engine.specs.Prepare.{commonRows, criterionOf, outputRows}
 use Rattle.engine.specs.Reduce.{okOf, WalkOutcome, GallopOutcome}
 use Rattle.engine.specs.Minimum.{MinimumOutcome}
 use Rattle.engine.specs.Least.{LeastOutcome}
 use Rattle.engine.proofs.LeastLaws.{least-task}
 use Rattle.engine.specs.Judge.{judgeRows, JudgeOutcome}
-use Rattle.engine.proofs.PrepareLaws.{exact-sets, common-trace}
+use Rattle.engine.proofs.PrepareLaws.{common-trace}
+use Rattle.engine.proofs.WriteLaws.{common-held}
 
 -- ---- any list
 
@@ -46,25 +42,17 @@ written-budget c some t k v w = rw (wrote-read w) (error-budget c t k v some)
 -- ---- at a tolerance that row 4 passes
 
 module _ (ts : List ℕ) (vs : List ℤ) (t : Tolerance) where
-  common-positive : commonRows ts vs t ≡ Fine → 1 ≤ criterionOf t .q
-  unfolding commonRows
-  common-positive e = go (meaning t) refl (then-fine (traceRows 4096 ts vs) _ e .1)
-    where
-      go : (m : Meaning) → meaning t ≡ m → toleranceRow m ≡ Fine → 1 ≤ criterionOf t .q
-      go (Exact r) h q = let s = exact-sets t h in subst (λ (c : Criterion). 1 ≤ c .q) (s .is) (s .bounded .positive)
-      go NotAllowed h q = let z : _≡_ {A = ℕ} 0 1 = cc in absurd (omega arith)
-
   output-budget : {l o o′ : List ℕ} {n : ℕ} → outputRows ts vs t (length o) ≡ Fine → Wrote l o n o′ → KeptList (length ts - 1) l → AllValid (okOf ts vs t) l
       → ErrorBudget ts vs (criterionOf t) (take n o′)
   unfolding outputRows
-  output-budget e w k v = let rows = then-fine (commonRows ts vs t) _ e .0 in written-budget (criterionOf t) (common-positive rows) (common-trace ts vs t rows) k v w
+  output-budget e w k v = let rows = then-fine (commonRows ts vs t) _ e .0 in written-budget (criterionOf t) (common-held ts vs t rows .positive) (common-trace ts vs t rows) k v w
 
   -- ---- the calls
 
   pub walk-budget : {o o′ : List ℕ} {n : ℕ} → WalkOutcome ts vs t o (Kept n) o′ → ErrorBudget ts vs (criterionOf t) (take n o′)
   walk-budget h = output-budget (h .rows) (h .wrote) (h .list .kept) (h .list .within)
 
-  pub gallop-budget : {o o′ : List ℕ} {g : Galloped} → GallopOutcome ts vs t o (KeptBy g) o′ → ErrorBudget ts vs (criterionOf t) (take (g .count) o′)
+  pub gallop-budget : {o o′ : List ℕ} {g : Galloped} → GallopOutcome ts vs t o (KeptBy g) o′ → ErrorBudget ts vs (criterionOf t) (take (g .kept) o′)
   gallop-budget h = output-budget (h .rows) (h .wrote) (h .list .kept) (h .list .within)
 
   pub minimum-budget : {o o′ : List ℕ} {n : ℕ} → MinimumOutcome ts vs t o (Kept n) o′ → ErrorBudget ts vs (criterionOf t) (take n o′)
@@ -76,7 +64,7 @@ module _ (ts : List ℕ) (vs : List ℤ) (t : Tolerance) where
   judge-budget h =
       let passed = h .passed .0 refl in
       let rows = then-fine (commonRows ts vs t) _ (passed .0) .0 in
-      error-budget (criterionOf t) (common-trace ts vs t rows) (passed .1) (passed .2) (common-positive rows)
+      error-budget (criterionOf t) (common-trace ts vs t rows) (passed .1) (passed .2) (common-held ts vs t rows .positive)
 
 -- least's list, at the error that it returns
 pub least-budget : (ts : List ℕ) (vs : List ℤ) (m : ℕ) {o o′ : List ℕ} {f : Found} → LeastOutcome ts vs m o (KeptAt f) o′ → ErrorBudget ts vs (criterion (f .error)) (take (f .kept) o′)

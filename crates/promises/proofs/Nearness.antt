@@ -11,6 +11,7 @@ use lib.IntN.{ℤ}
 use lib.ListN.{take}
 use Rattle.lists.proofs.OverwriteLaws.{wrote-read}
 use Rattle.tolerance.specs.declared.Tolerance.{Tolerance}
+use Rattle.trace.specs.Link.{NoLonger}
 use Rattle.reduction.specs.declared.Galloped.{Galloped}
 use Rattle.closest.specs.declared.Found.{Found}
 use Rattle.engine.specs.declared.Reduced.the-variants.{Kept}
@@ -19,13 +20,13 @@ use Rattle.engine.specs.declared.Closest.the-variants.{Kept as KeptAt}
 use Rattle.engine.specs.Prepare.{criterionOf}
 use Rattle.engine.specs.Reduce.{WalkOutcome, GallopOutcome}
 use Rattle.engine.specs.Least.{LeastOutcome}
-use Rattle.promises.specs.Nearness.{NoLonger, Nearest}
+use Rattle.promises.specs.Nearness.{Nearest}
 
 module _ (ts : List ℕ) (vs : List ℤ) where
   pub walk-near : (t : Tolerance) {o o′ : List ℕ} {n : ℕ} → WalkOutcome ts vs t o (Kept n) o′ → NoLonger ts vs (criterionOf t) n
   walk-near t w h k v = omega (arith, w .wrote .count, w .list .size h k v)
 
-  pub gallop-near : (t : Tolerance) {o o′ : List ℕ} {g : Galloped} → GallopOutcome ts vs t o (KeptBy g) o′ → NoLonger ts vs (criterionOf t) (g .count)
+  pub gallop-near : (t : Tolerance) {o o′ : List ℕ} {g : Galloped} → GallopOutcome ts vs t o (KeptBy g) o′ → NoLonger ts vs (criterionOf t) (g .kept)
   gallop-near t w h k v = omega (arith, w .wrote .count, w .list .size h k v)
 
   pub least-near : (m : ℕ) {o o′ : List ℕ} {f : Found} → LeastOutcome ts vs m o (KeptAt f) o′ → Nearest ts vs m f (take (f .kept) o′)

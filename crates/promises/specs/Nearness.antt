@@ -1,5 +1,4 @@
--- How near a list is to the shortest and to the closest: demand 3 (document 01, "The trace and its links").
---   NoLonger   no kept list within half of p/q has fewer samples
+-- How near a list is to the closest: demand 3 (document 01, "The trace and its links"). Its other half is trace: specs/Link, `NoLonger`.
 --   Nearest    no kept list of at most m samples has a lesser error
 -- The theorems are in proofs/Nearness. Assumes nothing.
 use mathlib.Core.Path.{_≡_}
@@ -9,14 +8,9 @@ use lib.IntN.{ℤ}
 use lib.ListN.{length}
 use Rattle.ratio.specs.Gcd.{gcd}
 use Rattle.ratio.specs.Order.{AtMost}
-use Rattle.kept.specs.Kept.{KeptList, AllValid}
-use Rattle.trace.specs.declared.Criterion.{Criterion}
-use Rattle.trace.specs.Link.{valid, half, listError}
+use Rattle.kept.specs.Kept.{KeptList}
+use Rattle.trace.specs.Link.{listError}
 use Rattle.closest.specs.declared.Found.{Found}
-
--- every kept list of the trace within half of p/q, p over 2q, has at least n samples
-abbrev pub NoLonger : List ℕ → List ℤ → Criterion → ℕ → Type 0
-NoLonger ts vs c n = (h : List ℕ) → KeptList (length ts - 1) h → AllValid (valid ts vs (half c)) h → n ≤ length h
 
 -- l is a kept list of at most m samples with the error returned, in lowest terms, and every such list has at least that error
 pub record Nearest (ts : List ℕ) (vs : List ℤ) (m : ℕ) (f : Found) (l : List ℕ) : Type 0 where

@@ -64,7 +64,7 @@ fn print_kept(kept: Reduced, list: &[u16]) -> bool {
 fn print_probed(kept: Probed, list: &[u16]) -> bool {
     match kept {
         Probed::Kept(g) => {
-            let count = g.count;
+            let count = g.kept;
             print_number(count as u64)
                 && print(b" ")
                 && print_number(g.probes as u64)

@@ -17,8 +17,8 @@ use Rattle.trace.specs.Link.{Bounded, valid}
 use Rattle.trace.proofs.Validity.{steps-valid}
 use Rattle.reduction.specs.declared.Links.{Links}
 use Rattle.reduction.specs.declared.Probing.{Probing}
-use Rattle.reduction.specs.Outgoing.{TakenIn, Next, Later}
-use Rattle.reduction.specs.Galloping.{probeAt, Yes, Probes, Probed}
+use Rattle.reduction.specs.Outgoing.{TakenIn, Next, Beyond}
+use Rattle.reduction.specs.Galloping.{probeAt, Yes, Probes, AfterProbe}
 use Rattle.reduction.proofs.OutgoingLaws.{next-at, taken-at, valid-at}
 
 -- ---- a probe
@@ -28,18 +28,18 @@ module _ {ts : List ℕ} {vs : List ℤ} {c : Criterion} {s : Probing} {d : ℕ}
   from = s .links .from .sample
 
   -- a probe that answers no leaves the yes as it was
-  probed-no : probeAt ts vs c from d ≡ false → Probed ts vs c from s d (record { low = s .low; probes = s .probes + 1; links = s .links })
+  probed-no : probeAt ts vs c from d ≡ false → AfterProbe ts vs c from s d (record { low = s .low; probes = s .probes + 1; links = s .links })
   probed-no q = record {
     yes = record { pos = p .yes .pos; inside = p .yes .inside; links = p .yes .links };
     low = rw q;
     probes = refl;
   }
 
-  pub probed-past : length ts ≤ from + d → Probed ts vs c from s d (record { low = s .low; probes = s .probes + 1; links = s .links })
+  pub probed-past : length ts ≤ from + d → AfterProbe ts vs c from s d (record { low = s .low; probes = s .probes + 1; links = s .links })
   probed-past le = probed-no (probe-none (valid ts vs c) (length ts - 1) from d (omega (arith, p .yes .inside)))
 
   module _ (inside : from + d < length ts) where
-    pub probes-later : Later ts vs c (s .links) (from + d)
+    pub probes-later : Beyond ts vs c (s .links) (from + d)
     probes-later = record {
       trace = p .trace;
       bounded = p .bounded;
@@ -56,7 +56,7 @@ module _ {ts : List ℕ} {vs : List ℤ} {c : Criterion} {s : Probing} {d : ℕ}
     answer : {b : Bool} → valid ts vs c from (from + d) ≡ b → probeAt ts vs c from d ≡ b
     answer e = probe-within (valid ts vs c) (length ts - 1) from d (omega arith) ∙ e
 
-    pub probed-fails : valid ts vs c from (from + d) ≡ false → Probed ts vs c from s d (record { low = s .low; probes = s .probes + 1; links = s .links })
+    pub probed-fails : valid ts vs c from (from + d) ≡ false → AfterProbe ts vs c from s d (record { low = s .low; probes = s .probes + 1; links = s .links })
     probed-fails e = probed-no (answer e)
 
     -- l has taken in every sample before the one probed
@@ -64,11 +64,11 @@ module _ {ts : List ℕ} {vs : List ℤ} {c : Criterion} {s : Probing} {d : ℕ}
       pub far-next : Next ts vs c l (from + d)
       far-next = next-at t (p .trace) (p .bounded) (omega (arith, p .further)) inside
 
-      pub probed-invalid : {b : Bool} → b ≡ false → b ≡ valid ts vs c (l .from .sample) (from + d) → Probed ts vs c from s d (record { low = s .low; probes = s .probes + 1; links = s .links })
+      pub probed-invalid : {b : Bool} → b ≡ false → b ≡ valid ts vs c (l .from .sample) (from + d) → AfterProbe ts vs c from s d (record { low = s .low; probes = s .probes + 1; links = s .links })
       probed-invalid q e = probed-fails (sym (valid-at t (from + d) e) ∙ q)
 
       pub probed-yes : {m : Links} {b : Bool} → b ≡ true → b ≡ valid ts vs c (l .from .sample) (from + d) → TakenIn ts vs c (l .from .sample) (from + d + 1) m
-          → Probed ts vs c from s d (record { low = d; probes = s .probes + 1; links = m })
+          → AfterProbe ts vs c from s d (record { low = d; probes = s .probes + 1; links = m })
       probed-yes q e u = record {
         yes = record { pos = omega (arith, p .further); inside = inside; links = taken-at t u };
         low = rw (answer (sym (valid-at t (from + d) e) ∙ q));
@@ -90,8 +90,8 @@ module _ {ts : List ℕ} {vs : List ℤ} {c : Criterion} {i : ℕ} {s : Probing}
     few = few;
   }
 
-  pub probed-at : {d : ℕ} {r : Probing} → Probed ts vs c (s .links .from .sample) s d r → Probed ts vs c i s d r
-  probed-at {d} {r} h = subst (λ (k : ℕ). Probed ts vs c k s d r) (y .links .start .sample) h
+  pub probed-at : {d : ℕ} {r : Probing} → AfterProbe ts vs c (s .links .from .sample) s d r → AfterProbe ts vs c i s d r
+  probed-at {d} {r} h = subst (λ (k : ℕ). AfterProbe ts vs c k s d r) (y .links .start .sample) h
 
 -- ---- the loops
 
@@ -103,8 +103,8 @@ pub record Raising (ts : List ℕ) (vs : List ℤ) (c : Criterion) (i : ℕ) (s 
 pub raising-none : {ts : List ℕ} {vs : List ℤ} {c : Criterion} {i : ℕ} {l : Links} → i + 1 < length ts → TakenIn ts vs c i (i + 1 + 1) l → Raising ts vs c i (record { low = 1; probes = 0; links = l })
 raising-none h t = record { yes = record { pos = omega arith; inside = h; links = t }; doubles = doubling-none (omega arith) }
 
-module _ {ts : List ℕ} {vs : List ℤ} {c : Criterion} {i : ℕ} {s r : Probing} (g : Raising ts vs c i s) (h : Probed ts vs c (s .links .from .sample) s (s .low + s .low) r) where
-  doubled : Probed ts vs c i s (s .low + s .low) r
+module _ {ts : List ℕ} {vs : List ℤ} {c : Criterion} {i : ℕ} {s r : Probing} (g : Raising ts vs c i s) (h : AfterProbe ts vs c (s .links .from .sample) s (s .low + s .low) r) where
+  doubled : AfterProbe ts vs c i s (s .low + s .low) r
   doubled = probed-at (g .yes) h
 
   pub raising-more : r .low ≡ s .low + s .low → Raising ts vs c i r
@@ -123,8 +123,8 @@ pub record Narrowing (ts : List ℕ) (vs : List ℤ) (c : Criterion) (up s : Pro
   pub bisects : Bisecting (probeAt ts vs c (up .links .from .sample)) (up .low) (up .probes) (s .low) high (s .probes)
 
 module _ {ts : List ℕ} {vs : List ℤ} {c : Criterion} {up s r : Probing} {high : ℕ} (g : Narrowing ts vs c up s high) (lt : s .low + 1 < high)
-    (h : Probed ts vs c (s .links .from .sample) s (halfway (s .low) high) r) where
-  halved : Probed ts vs c (up .links .from .sample) s (halfway (s .low) high) r
+    (h : AfterProbe ts vs c (s .links .from .sample) s (halfway (s .low) high) r) where
+  halved : AfterProbe ts vs c (up .links .from .sample) s (halfway (s .low) high) r
   halved = probed-at (g .yes) h
 
   pub narrowing-yes : r .low ≡ halfway (s .low) high → Narrowing ts vs c up r high

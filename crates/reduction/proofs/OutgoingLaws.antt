@@ -22,7 +22,7 @@ use Rattle.trace.proofs.EdgeLaws.{edge-at, tilts, tilt-slope, low-test, high-te
 use Rattle.trace.proofs.Validity.{true-valid, not-above, not-below}
 use Rattle.trace.proofs.ConeLaws.{low-none, high-none, takes-none, takes-more, takes-admits}
 use Rattle.reduction.specs.declared.Links.{Links}
-use Rattle.reduction.specs.Outgoing.{TakenIn, Next, Later}
+use Rattle.reduction.specs.Outgoing.{TakenIn, Next, Beyond}
 
 -- what has taken in the sample after its start, by its edge
 module _ {ts : List ℕ} {vs : List ℤ} {c : Criterion} {i : ℕ} {s : Start} {to : Edge} (t : Trace ts vs) (b : Bounded c) (inside : i + 1 < length ts)
@@ -83,7 +83,7 @@ module _ {ts : List ℕ} {vs : List ℤ} {q i k : ℕ} {e : Edge} (h : EdgeTo ts
   own-rise = omega (arith, own .rise)
 
 -- a link that fails a sample taken in is invalid, whatever else lies between
-module _ {ts : List ℕ} {vs : List ℤ} {c : Criterion} {e : ℕ} {l : Links} {to : Edge} (n : Later ts vs c l e) (h : EdgeTo ts vs (c .q) (l .from .sample) e to) where
+module _ {ts : List ℕ} {vs : List ℤ} {c : Criterion} {e : ℕ} {l : Links} {to : Edge} (n : Beyond ts vs c l e) (h : EdgeTo ts vs (c .q) (l .from .sample) e to) where
   abbrev from : ℕ
   from = l .from .sample
 

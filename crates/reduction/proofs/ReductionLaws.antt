@@ -1,20 +1,20 @@
--- What holds of the lists of walk and gallop on a trace: each is a kept list of valid links with maximal stops, so it has at most an entry
--- a sample, and at most as many samples as any kept list within half the tolerance. Gallop's probe total, from the lengths of its stops.
+-- What holds of the lists of walk and gallop on a trace: each is a kept list of valid links with maximal stops, so it has at most as many
+-- samples as any kept list within half the tolerance. Gallop's probe total, from the lengths of its stops.
 -- Assumes nothing.
 use mathlib.Core.Path.{_≡_}
 use mathlib.Core.List.{List}
-use Prim.Native.Nat.{ℕ, _+_, _-_, _*_, _≤_}
+use Prim.Native.Nat.{ℕ, _+_, _-_, _*_}
 use native.Mathlib.Omega.{arith}
 use lib.IntN.{ℤ}
 use lib.ListN.{length}
-use Rattle.kept.specs.Kept.{KeptList, AllValid, Greedy, EachLink}
+use Rattle.kept.specs.Kept.{Greedy, EachLink}
 use Rattle.kept.specs.Gallop.{gallopSearch, linkSum, floorLog2}
 use Rattle.kept.proofs.KeptLaws.{greedy-size}
 use Rattle.kept.proofs.WalkLaws.{walk-greedy}
 use Rattle.kept.proofs.GallopLaws.{gallop-greedy, stop-probes, gallop-probes}
 use Rattle.trace.specs.declared.Criterion.{Criterion}
 use Rattle.trace.specs.Trace.{Trace}
-use Rattle.trace.specs.Link.{valid, half}
+use Rattle.trace.specs.Link.{valid, half, NoLonger}
 use Rattle.trace.proofs.Validity.{steps-valid}
 use Rattle.trace.proofs.Half.{halves}
 use Rattle.reduction.specs.Walking.{walkList}
@@ -30,7 +30,7 @@ module _ (ts : List ℕ) (vs : List ℤ) (c : Criterion) where
   module _ (t : Trace ts vs) where
     -- any greedy list, however it was made
     module _ {l : List ℕ} (g : Greedy (valid ts vs c) (length ts - 1) l) where
-      pub greedy-short : (h : List ℕ) → KeptList (length ts - 1) h → AllValid (valid ts vs (half c)) h → length l ≤ length h
+      pub greedy-short : NoLonger ts vs c (length l)
       greedy-short = greedy-size (valid ts vs c) (length ts - 1) l g (valid ts vs (half c)) (halves (t .rising) vs c)
 
     -- a stop of r samples takes 2 floor (log2 r) + 1 probes

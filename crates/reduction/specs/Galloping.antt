@@ -2,7 +2,7 @@
 --   gallopList, gallopTotal   gallop's list of a trace, and its probe total
 --   probeAt                   the answer of a probe from sample i at an offset
 --   Yes                       the last yes of a search is within the trace, and the samples up to it have been taken in
---   Probes, Probed            a probe at a later offset, and the search after it
+--   Probes, AfterProbe        a probe at a later offset, and the search after it
 --   Gallops                   what gallop answers and writes
 -- Laws are in GallopingLaws. Assumes nothing.
 use mathlib.Core.Path.{_≡_}
@@ -42,12 +42,12 @@ pub record Probes (ts : List ℕ) (vs : List ℤ) (c : Criterion) (s : Probing) 
   pub near : d ≤ 8192
   pub few : s .probes ≤ 8192
 
-pub record Probed (ts : List ℕ) (vs : List ℤ) (c : Criterion) (i : ℕ) (s : Probing) (d : ℕ) (r : Probing) : Type 0 where
+pub record AfterProbe (ts : List ℕ) (vs : List ℤ) (c : Criterion) (i : ℕ) (s : Probing) (d : ℕ) (r : Probing) : Type 0 where
   pub yes : Yes ts vs c i r
   pub low : r .low ≡ cond (probeAt ts vs c i d) d (s .low)
   pub probes : r .probes ≡ s .probes + 1
 
 -- g is the answer, and the lent list o became o′
 pub record Gallops (ts : List ℕ) (vs : List ℤ) (c : Criterion) (o : List ℕ) (g : Galloped) (o′ : List ℕ) : Type 0 where
-  pub wrote : Wrote (gallopList ts vs c) o (g .count) o′
+  pub wrote : Wrote (gallopList ts vs c) o (g .kept) o′
   pub probes : g .probes ≡ gallopTotal ts vs c

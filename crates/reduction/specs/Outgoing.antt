@@ -1,7 +1,7 @@
 -- The links from one sample of a trace, with the samples taken in so far.
 --   TakenIn  the start is sample i, and every sample between i and j has been taken in
 --   Next     j is a sample of the trace, and every sample between the start and j has been taken in
---   Later    e is a sample of the trace after all that have been taken in
+--   Beyond   e is a sample of the trace after all that have been taken in
 -- Laws are in OutgoingLaws. Assumes nothing.
 use mathlib.Core.List.{List}
 use Prim.Native.Nat.{ℕ, _≤_, _<_}
@@ -26,7 +26,7 @@ pub record Next (ts : List ℕ) (vs : List ℤ) (c : Criterion) (l : Links) (j :
   pub after : l .from .sample < j
   pub inside : j < length ts
 
-pub record Later (ts : List ℕ) (vs : List ℤ) (c : Criterion) (l : Links) (e : ℕ) : Type 0 where
+pub record Beyond (ts : List ℕ) (vs : List ℤ) (c : Criterion) (l : Links) (e : ℕ) : Type 0 where
   pub trace : Trace ts vs
   pub bounded : Bounded c
   pub next : ℕ

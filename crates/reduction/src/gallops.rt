@@ -6,7 +6,7 @@ ghost use Rattle.kept.specs.Gallop.{found, doubling, bisection, gallopSearch};
 ghost use Rattle.trace.specs.Trace.{Trace};
 ghost use Rattle.trace.specs.Link.{Bounded, valid};
 ghost use Rattle.reduction.specs.Outgoing.{TakenIn, Next};
-ghost use Rattle.reduction.specs.Galloping.{probeAt, Yes, Probes, Probed, Gallops};
+ghost use Rattle.reduction.specs.Galloping.{probeAt, Yes, Probes, AfterProbe, Gallops};
 use crate::Galloped;
 use crate::Links;
 use crate::Probing;
@@ -35,7 +35,7 @@ fn taken_to(ticks: &[u32], values: &[i16], c: Criterion, links: Links, a: usize,
 // The search after a probe at offset d. A probe past the last sample answers no, and counts.
 fn probe(ticks: &[u32], values: &[i16], c: Criterion, s: Probing, d: usize) -> Probing
     requires { ⌜ Probes (now ticks) (now values) c s d ⌝ }
-    ensures { λ r. ⌜ Probed (now (ticks .entry)) (now (values .entry)) c (s .links .from .sample) s d r ⌝ }
+    ensures { λ r. ⌜ AfterProbe (now (ticks .entry)) (now (values .entry)) c (s .links .from .sample) s d r ⌝ }
 {
     let links = s.links;
     let i = links.from.sample;
@@ -130,5 +130,8 @@ pub fn gallop(ticks: &[u32], values: &[i16], c: Criterion, out: &mut [u16]) -> G
         store(out, count, i);
         count += 1;
     }
-    Galloped { count, probes }
+    Galloped {
+        kept: count,
+        probes,
+    }
 }

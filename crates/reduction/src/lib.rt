@@ -17,7 +17,7 @@ pub struct Probing {
 
 // How many samples gallop kept, and the probes that it made.
 pub struct Galloped {
-    pub count: usize,
+    pub kept: usize,
     pub probes: usize,
 }
 

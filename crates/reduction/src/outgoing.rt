@@ -5,7 +5,7 @@ ghost use Prim.Native.Nat.{_+_, _<_};
 ghost use lib.ListN.{length};
 ghost use Rattle.trace.specs.Trace.{Trace};
 ghost use Rattle.trace.specs.Link.{Bounded, valid};
-ghost use Rattle.reduction.specs.Outgoing.{TakenIn, Next, Later};
+ghost use Rattle.reduction.specs.Outgoing.{TakenIn, Next, Beyond};
 use crate::Links;
 use trace::Criterion;
 use trace::cones::admits;
@@ -39,7 +39,7 @@ pub fn reaches(ticks: &[u32], values: &[i16], c: Criterion, links: Links, j: usi
 
 // Whether the link to sample e passes the samples taken in. Where it does not, it is invalid.
 pub fn passes(ticks: &[u32], values: &[i16], c: Criterion, links: Links, e: usize) -> bool
-    requires { ⌜ Later (now ticks) (now values) c links e ⌝ }
+    requires { ⌜ Beyond (now ticks) (now values) c links e ⌝ }
     ensures { λ r. ⌜ (r ≡ false → valid (now (ticks .entry)) (now (values .entry)) c (links .from .sample) e ≡ false) ⌝ }
 {
     let from = links.from;

@@ -17,8 +17,9 @@ use Rattle.ratio.proofs.Laws.{lowest-equal, lowest-pos, lowest-coprime, lowest-
 use Rattle.kept.specs.Kept.{KeptList, AllValid}
 use Rattle.kept.specs.Error.{Errors}
 use Rattle.kept.specs.Least.{Measures}
-use Rattle.kept.proofs.KeptLaws.{each-map, each-zip, kept-links}
-use Rattle.kept.proofs.ErrorLaws.{error-one, error-within}
+use Rattle.kept.proofs.KeptLaws.{each-map, kept-links}
+use Rattle.kept.proofs.ErrorLaws.{error-one}
+use Rattle.kept.proofs.LeastLaws.{valid-within, within-valid}
 use Rattle.trace.specs.Trace.{tick, Trace}
 use Rattle.trace.specs.Link.{deviation, greatest, farthest, linkError, listError, Valid, valid, criterion, Linked, Bounded}
 use Rattle.trace.proofs.Ticks.{later, span-bound}
@@ -123,12 +124,7 @@ module _ {ts : List ℕ} {vs : List ℤ} (t : Trace ts vs) where
 
   -- a kept list is within p/q exactly if its error is at most p/q
   pub within-error : (l : List ℕ) → KeptList (length ts - 1) l → (r : Ratio) → AllValid (valid ts vs (criterion r)) l ↔ AtMost (listError ts vs l) r
-  within-error l k r =
-      let e = error-within link-errors k r in
-      let links = kept-links (length ts - 1) l k in (
-        λ v. e .0 (each-zip (λ i j a b. valid-error (linked i j (a .0) (a .1)) r .0 b) l links v),
-        λ a. each-zip (λ i j a b. valid-error (linked i j (a .0) (a .1)) r .1 b) l links (e .1 a),
-      )
+  within-error l k r = (within-valid trace-measures k r, valid-within trace-measures k r)
 
 -- products of allowed tolerances fit
 pub allowed-small : {x : Ratio} → Bounded (criterion x) → Small x

@@ -2,7 +2,7 @@
 use mathlib.Core.Path.{refl, subst}
 use lib.ListN.{length}
 use Rattle.engine.specs.Prepare.{OutputPrepared, OutputReady}
-use Rattle.engine.proofs.ReduceLaws.{searched}
+use Rattle.engine.proofs.ReduceLaws.{gallop-kept}
 use borrow.Author.Needs.{needs}
 use Rattle.engine.proofs.gallop.gallop.Statement.{statement}
 use Rattle.engine.proofs.gallop.gallop.Tie as tie
@@ -34,7 +34,7 @@ same-length c = search needs
 returns : tie.Need-returns
 returns c =
     let g = c .before .before .gallop .ensures in
-    searched (ready (c .before .before .before .before .before)) (g .wrote) (g .probes)
+    gallop-kept (ready (c .before .before .before .before .before)) (g .wrote) (g .probes)
 
 returns-2 : tie.Need-returns-2
 returns-2 c =

@@ -4,7 +4,7 @@ use mathlib.Core.Path.{subst, ap, _∙_}
 use Rattle.trace.specs.declared.Criterion.{Criterion}
 use Rattle.engine.specs.Prepare.{Prepared, ReadyAt}
 use Rattle.engine.specs.Judge.{judgedAt}
-use Rattle.engine.proofs.JudgeLaws.{common-fine, common-refused, judge-outcome}
+use Rattle.engine.proofs.JudgeLaws.{common-fine, judge-refused, judge-outcome}
 use Rattle.engine.proofs.judge.judge.Statement.{statement}
 use Rattle.engine.proofs.judge.judge.Tie as tie
 
@@ -40,7 +40,7 @@ returns-2 : tie.Need-returns-2
 returns-2 c =
     let a = c .before .before .before .before .before .before .args in
     judge-outcome (a .ticks .now) (a .values .now) (a .list .now) (a .t)
-    (common-refused (a .ticks .now) (a .values .now) (a .list .now) (a .t)
+    (judge-refused (a .ticks .now) (a .values .now) (a .list .now) (a .t)
     (subst (Prepared (a .ticks .now) (a .values .now) (a .t)) (c .before .ready2 .given .1) (c .before .before .before .prepare .ensures)))
 
 pub judge-spec : {M : Type 1} → statement M

@@ -2,7 +2,7 @@
 use mathlib.Core.Path.{refl, subst}
 use lib.ListN.{length}
 use Rattle.engine.specs.Prepare.{OutputPrepared, OutputReady}
-use Rattle.engine.proofs.ReduceLaws.{shortened}
+use Rattle.engine.proofs.ReduceLaws.{minimum-kept}
 use borrow.Author.Needs.{needs}
 use Rattle.engine.proofs.minimum.minimum.Statement.{statement}
 use Rattle.engine.proofs.minimum.minimum.Tie as tie
@@ -34,7 +34,7 @@ same-length c = search needs
 returns : tie.Need-returns
 returns c =
     let w = c .before .before .minimum .ensures in
-    shortened (ready (c .before .before .before .before .before)) (record { count = w .0; content = w .1 })
+    minimum-kept (ready (c .before .before .before .before .before)) (record { count = w .0; content = w .1 })
 
 returns-2 : tie.Need-returns-2
 returns-2 c =

@@ -1,7 +1,7 @@
 -- `engine::prepare::prepare_output` meets its contract. Assumes nothing.
 use mathlib.Core.Path.{refl, subst}
 use Rattle.engine.specs.Prepare.{Prepared, ReadyAt}
-use Rattle.engine.proofs.PrepareLaws.{room-refused, room-fine, common-refused}
+use Rattle.engine.proofs.PrepareLaws.{room-refused, room-fine, output-refused}
 use borrow.Author.Needs.{needs}
 use Rattle.engine.proofs.prepare.prepare_output.Statement.{statement}
 use Rattle.engine.proofs.prepare.prepare_output.Tie as tie
@@ -35,7 +35,7 @@ returns-2 c =
 returns-3 : tie.Need-returns-3
 returns-3 c =
     let a = c .before .before .before .before .before .args in
-    common-refused (a .ticks .now) (a .values .now) (a .t) (a .room)
+    output-refused (a .ticks .now) (a .values .now) (a .t) (a .room)
     (subst (Prepared (a .ticks .now) (a .values .now) (a .t)) (c .before .ready2 .given .1) (c .before .before .before .prepare .ensures))
 
 pub prepare-output-spec : {M : Type 1} → statement M

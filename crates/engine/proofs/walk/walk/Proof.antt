@@ -2,7 +2,7 @@
 use mathlib.Core.Path.{refl, subst}
 use lib.ListN.{length}
 use Rattle.engine.specs.Prepare.{OutputPrepared, OutputReady}
-use Rattle.engine.proofs.ReduceLaws.{walked}
+use Rattle.engine.proofs.ReduceLaws.{walk-kept}
 use borrow.Author.Needs.{needs}
 use Rattle.engine.proofs.walk.walk.Statement.{statement}
 use Rattle.engine.proofs.walk.walk.Tie as tie
@@ -32,7 +32,7 @@ same-length : tie.Need-same-length
 same-length c = search needs
 
 returns : tie.Need-returns
-returns c = walked (ready (c .before .before .before .before .before)) (c .before .before .walk .ensures)
+returns c = walk-kept (ready (c .before .before .before .before .before)) (c .before .before .walk .ensures)
 
 returns-2 : tie.Need-returns-2
 returns-2 c =
