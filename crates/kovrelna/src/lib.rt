@@ -196,7 +196,7 @@ fn written_of(a: engine::Written) -> Answer
     }
 }
 
-fn content_of(a: reader::Answer) -> Content
+fn read_of(a: reader::Answer) -> Content
     ensures { λ r. ⌜ r ≡ readOf a ⌝ }
 {
     match a {
@@ -338,7 +338,7 @@ pub extern "C" fn kovrelna_write(
 pub extern "C" fn kovrelna_read(bytes: &[u8], ticks: &mut [u32], values: &mut [i16]) -> Content
     ensures { λ r. ⌜ ReadExport (now (bytes .entry)) (now (ticks .entry)) (now (values .entry)) r (now (ticks .exit)) (now (values .exit)) ⌝ }
 {
-    content_of(engine::read::read(bytes, ticks, values))
+    read_of(engine::read::read(bytes, ticks, values))
 }
 
 // Whether the kept samples of two records agree.
