@@ -114,7 +114,7 @@ module _ {ts : List ℕ} {vs : List ℤ} (t : Trace ts vs) where
     errors = link-errors;
     lowest = λ i j l u. link-error-lowest (linked i j l u);
     valid = λ x i j l u. valid-error (linked i j l u) x;
-    steps = λ x i lt. steps-valid ts vs (criterion x) i;
+    steps = λ x. steps-valid ts vs (criterion x);
   }
 
   -- a list's error has a denominator up to the longest span
