@@ -16,11 +16,11 @@ use Rattle.kept.specs.Kept.{LinksFrom, final, KeptList}
 use Rattle.kept.proofs.KeptLaws.{rise-le}
 use Rattle.trace.specs.Trace.{tick, value, Rising, Trace}
 use Rattle.trace.proofs.Ticks.{later, not-earlier}
-use Rattle.trace.proofs.Difference.{times, parts}
+use Rattle.trace.proofs.Difference.{times, alike, parts}
 use Rattle.trace.proofs.Deviation.{line}
 use Rattle.trace.proofs.Heights.{height-diff}
 use Rattle.heights.specs.Heights.{linkAt, lineFrom, lineAt, OnTrace, Equals, Between, higher, lower, joined, ofSamples, peak, trough, Attained, Extremes}
-use Rattle.heights.proofs.Order.{order, order-refl, order-trans, higher-left, higher-right, higher-one, lower-left, lower-right, lower-one, unique}
+use Rattle.heights.proofs.Order.{order, order-refl, order-trans, higher-left, higher-right, higher-one, lower-left, lower-right, lower-one}
 use Rattle.heights.proofs.Entries.{Entry, entry-inside, kept-inside}
 use Rattle.heights.proofs.LineLaws.{link-den, link-num, link-positive}
 
@@ -93,7 +93,7 @@ module _ (ts : List ℕ) (vs : List ℤ) (i j : ℕ) (rises : tick ts i < tick t
       let k : tick ts i ≤ 1 * tick ts j = omega arith in
       record {
         positive = link-positive ts vs i j (tick ts i) 1 (omega arith) rises;
-        is = unique (link-num ts vs i j (tick ts i) 1 h k (height-diff vs i) (height-diff vs j)) (times (height-diff vs i) _)
+        is = alike (link-num ts vs i j (tick ts i) 1 h k (height-diff vs i) (height-diff vs j)) (times (height-diff vs i) _)
             (at-start _ _ _ _ _ _ (omega arith) (link-den ts vs i j (tick ts i) 1 h k));
       }
 
@@ -103,7 +103,7 @@ module _ (ts : List ℕ) (vs : List ℤ) (i j : ℕ) (rises : tick ts i < tick t
       let k : tick ts j ≤ 1 * tick ts j = omega arith in
       record {
         positive = link-positive ts vs i j (tick ts j) 1 (omega arith) rises;
-        is = unique (link-num ts vs i j (tick ts j) 1 h k (height-diff vs i) (height-diff vs j)) (times (height-diff vs j) _)
+        is = alike (link-num ts vs i j (tick ts j) 1 h k (height-diff vs i) (height-diff vs j)) (times (height-diff vs j) _)
             (at-end _ _ _ _ _ _ (omega arith) (link-den ts vs i j (tick ts j) 1 h k));
       }
 
@@ -125,7 +125,7 @@ module _ (ts : List ℕ) (vs : List ℤ) (i j : ℕ) (rises : tick ts i < tick t
 -- a sample alone
 module _ (v : ℤ) where
   alone : Equals (record { num = v; den = 1 }) v
-  alone = let d = parts v .2 in record { positive = omega arith; is = unique d (times d 1) (omega arith) }
+  alone = let d = parts v .2 in record { positive = omega arith; is = alike d (times d 1) (omega arith) }
 
   alone-between : {low high : ℤ} → low ≤ℤ v → v ≤ℤ high → Between low high (record { num = v; den = 1 })
   alone-between {low} {high} h k =

@@ -1,23 +1,20 @@
 -- The order of integers, by differences of naturals (trace: proofs/Difference).
 -- Assumes nothing.
-use mathlib.Core.Path.{_≡_, ap}
+use mathlib.Core.Path.{_≡_}
 use mathlib.Core.Bool.{false}
 use mathlib.Core.Logic.{_↔_}
 use Prim.Native.Nat.{ℕ, _+_, _≤_}
 use native.Mathlib.Omega.{arith}
 use native.Mathlib.Decide.{decLe}
 use lib.Dec.{leb→le, le→leb}
-use lib.IntN.{ℤ, pos, negsuc}
+use lib.IntN.{ℤ}
 use lib.Signed.{_≤ℤ_, leZ}
 use Rattle.lists.proofs.Tests.{by-test, is-true, true-is, true-false}
-use Rattle.trace.proofs.Difference.{Diff, parts}
+use Rattle.trace.proofs.Difference.{Diff, ordered, parts}
 use Rattle.heights.specs.Heights.{higher, lower}
 
 pub order : {x y : ℤ} {a b c d : ℕ} → Diff x a b → Diff y c d → x ≤ℤ y ↔ a + d ≤ c + b
-order {x = pos m} {y = pos n} h k = (λ l. omega (arith, leb→le m n (l .le)), λ l. record { le = le→leb m n (omega arith) })
-order {x = pos m} {y = negsuc n} h k = (λ l. absurd (l .le), λ l. absurd (omega arith))
-order {x = negsuc m} {y = pos n} h k = (λ l. omega arith, λ l. record { le = tt })
-order {x = negsuc m} {y = negsuc n} h k = (λ l. omega (arith, leb→le n m (l .le)), λ l. record { le = le→leb n m (omega arith) })
+order {a = a} {b} {c} {d} h k = (λ l. leb→le (a + d) (c + b) (rw (ordered h k) at (l .le)), λ l. record { le = rw (ordered h k) (le→leb (a + d) (c + b) l) })
 
 pub order-refl : (x : ℤ) → x ≤ℤ x
 order-refl x = let d = parts x .2 in order d d .1 (omega arith)
@@ -57,10 +54,3 @@ higher-one P x y h k = by-test (leZ x y) (λ e. rw e k) (λ e. rw e h)
 
 pub lower-one : (P : ℤ → Type 0) (x y : ℤ) → P x → P y → P (lower x y)
 lower-one P x y h k = by-test (leZ x y) (λ e. rw e h) (λ e. rw e k)
-
--- one difference is one number
-pub unique : {x y : ℤ} {a b c d : ℕ} → Diff x a b → Diff y c d → a + d ≡ c + b → x ≡ y
-unique {x = pos m} {y = pos n} h k e = ap pos (omega arith)
-unique {x = pos m} {y = negsuc n} h k e = absurd (omega arith)
-unique {x = negsuc m} {y = pos n} h k e = absurd (omega arith)
-unique {x = negsuc m} {y = negsuc n} h k e = ap negsuc (omega arith)

@@ -1,10 +1,15 @@
 -- The lines of a kept list, beside those of its trace, and the heights read off them (document 01, "The trace and its links").
 --   Fraction              a signed numerator over a denominator
---   linkAt, lineAt        the straight line of a link, and the lines of a list, at the tick a/d
---   everySample, traceAt  the list of all samples, and its lines: the trace's own
+--   linkAt                the straight line of a link at the tick a/d
+--   lineFrom, lineAt      the lines of the list i ∷ s and of any list at the tick a/d
+--   samplesAfter          the n samples after sample i
+--   everySample, allOf    the list of the samples 0 .. last; of all samples of a trace
+--   traceAt               the lines of all samples: the trace's own
 --   OnTrace               a/d is a tick between the first and the last, whole or fractional
 --   Near                  two fractions differ by at most p/q
 --   Equals, Between       a fraction is a whole number; it lies between two
+--   higher, lower         the higher and the lower of two values
+--   joined, ofSamples     the values of the samples i ∷ s, or of any list, joined by a function of two
 --   peak, trough, height  the greatest and the least value of a list's samples, and their difference
 --   Attained, Extremes    a list's lines have a value at some sample; peak and trough are the greatest and the least value on them
 --   ErrorBudget           what holds of a list that stands for its trace at p/q

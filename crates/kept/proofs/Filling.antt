@@ -1,4 +1,4 @@
--- A list that goes from stop to stop as a loop writes it into a lent list; walk's and gallop's.
+-- A list that goes from stop to stop as a loop writes it into a lent list; walk's, gallop's and minimum's.
 -- Assumes nothing.
 use mathlib.Core.Path.{_≡_, refl, sym, _∙_}
 use mathlib.Core.Bool.{Bool}

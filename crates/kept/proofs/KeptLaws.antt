@@ -95,3 +95,9 @@ pub links-of : (R : ℕ → ℕ → Type 0) (l : List ℕ) → ((k : ℕ) → su
 links-of R [] f = tt
 links-of R (i ∷ []) f = tt
 links-of R (i ∷ j ∷ s) f = (f 0 (omega arith), links-of R (j ∷ s) (λ k h. f (suc k) (omega arith)))
+
+-- each entry of a kept list is a sample
+pub kept-inside : (last : ℕ) (l : List ℕ) → KeptList last l → (k : ℕ) → k < length l → getD l k 0 ≤ last
+kept-inside last [] kept k h = absurd (kept .spans)
+kept-inside last (i ∷ s) kept zero h = omega (arith, kept .spans .0)
+kept-inside last (i ∷ s) kept (suc k) h = links-at (λ i j. (i < j) × (j ≤ last)) (i ∷ s) (kept-links last (i ∷ s) kept) k h .1

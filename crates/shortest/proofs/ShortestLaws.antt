@@ -10,7 +10,7 @@ use lib.Dec.{leb}
 use lib.ListN.{length, getD}
 use borrow.Author.Tests.{le-leb, lt-leb}
 use Rattle.lists.proofs.Tests.{by-test}
-use Rattle.kept.specs.Minimum.{StepsTo, Minimum, linksOf, nextOf}
+use Rattle.kept.specs.Minimum.{Minimum, linksOf, nextOf}
 use Rattle.kept.proofs.MinimumLaws.{minimum-of, Choosing, choosing-none, choosing-more, chosen}
 use Rattle.trace.specs.declared.Criterion.{Criterion}
 use Rattle.trace.specs.declared.Start.{Start}
@@ -27,12 +27,9 @@ use Rattle.shortest.specs.Shortest.{minimumList, betterEnd, Scan}
 
 -- ---- the minimum of a trace
 
-pub trace-steps : (ts : List ℕ) (vs : List ℤ) (c : Criterion) (last : ℕ) → StepsTo (valid ts vs c) last
-trace-steps ts vs c last i lt = steps-valid ts vs c i
-
 module _ (ts : List ℕ) (vs : List ℤ) (c : Criterion) where
   pub minimum-list : Minimum (valid ts vs c) (length ts - 1) (minimumList ts vs c)
-  minimum-list = minimum-of _ _ (trace-steps ts vs c _)
+  minimum-list = minimum-of _ _ (steps-valid ts vs c)
 
 -- ---- the better of two ends
 

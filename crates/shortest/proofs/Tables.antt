@@ -1,25 +1,23 @@
--- Laws of the two tables: how they are filled from the last sample back, and how the second is followed.
--- `Filling` and `Following` are the invariants of those loops. Assumes nothing.
+-- Laws of the two tables: how they are filled from the last sample back, and where the second leads.
+-- `Tabling` is the invariant of the loop that fills them. Assumes nothing.
 use mathlib.Core.Path.{_≡_, refl, sym, _∙_, ap}
 use mathlib.Core.Bool.{Bool}
-use mathlib.Core.List.{List, [], _∷_, _++_, append-assoc, append-nil}
+use mathlib.Core.List.{List}
 use Prim.Native.Nat.{ℕ, suc, _+_, _-_, _≤_, _<_}
 use native.Mathlib.Decide.{decLt}
 use native.Mathlib.Omega.{arith}
-use lib.ListN.{length, getD, set, length-set, length-append}
+use lib.ListN.{length, getD, set, length-set}
 use lib.Seq.{getD-set-same, getD-set-other}
-use Rattle.lists.specs.Overwrite.{overwrite}
-use Rattle.lists.proofs.OverwriteLaws.{overwrite-snoc, overwrite-set}
-use Rattle.kept.specs.Stops.{stops, listBy}
-use Rattle.kept.specs.Minimum.{StepsTo, linksOf, nextOf, minimumOf}
-use Rattle.kept.proofs.StopsLaws.{stops-end, stops-step}
+use Rattle.kept.specs.Kept.{StepsValid}
+use Rattle.kept.specs.Stops.{listBy}
+use Rattle.kept.specs.Minimum.{linksOf, nextOf, minimumOf}
 use Rattle.kept.proofs.MinimumLaws.{BestStop, next-best, links-last, links-step, links-le, table-onward, table-minimum}
 use Rattle.shortest.specs.Shortest.{Counted, Planned, Onward}
 
 -- ---- filling
 
 -- both tables, of nl and nn entries, are filled from i on
-pub record Filling (ok : ℕ → ℕ → Bool) (last nl nn : ℕ) (links next : List ℕ) (i : ℕ) : Type 0 where
+pub record Tabling (ok : ℕ → ℕ → Bool) (last nl nn : ℕ) (links next : List ℕ) (i : ℕ) : Type 0 where
   pub within : i ≤ last
   pub counted : Counted ok last i links
   pub planned : Planned ok last i next
@@ -34,9 +32,9 @@ stored P l i v lt here after k ik = elim (decLt i k) [
 ]
 
 module _ (ok : ℕ → ℕ → Bool) (last : ℕ) where
-  pub filling-none : (links next : List ℕ) → last < length links → last < length next
-      → Filling ok last (length (set links last 0)) (length next) (set links last 0) next last
-  filling-none links next l n = record {
+  pub tabling-none : (links next : List ℕ) → last < length links → last < length next
+      → Tabling ok last (length (set links last 0)) (length next) (set links last 0) next last
+  tabling-none links next l n = record {
     within = omega arith;
     counted = record {
       links-room = rw length-set l;
@@ -47,7 +45,7 @@ module _ (ok : ℕ → ℕ → Bool) (last : ℕ) where
     next-length = refl;
   }
 
-  module _ (step : StepsTo ok last) {nl nn : ℕ} {links next : List ℕ} {i : ℕ} (g : Filling ok last nl nn links next i) (pos : 0 < i) where
+  module _ (step : StepsValid ok) {nl nn : ℕ} {links next : List ℕ} {i : ℕ} (g : Tabling ok last nl nn links next i) (pos : 0 < i) where
     -- what the scan from the sample before i is given
     pub counted-after : Counted ok last (suc (i - 1)) links
     counted-after = let e : suc (i - 1) ≡ i = omega arith in rw e (g .counted)
@@ -66,8 +64,8 @@ module _ (ok : ℕ → ℕ → Bool) (last : ℕ) where
       pub stop-inside : (b ≤ last) × (getD links b 0 + b ≤ last)
       stop-inside = let e = best in (omega arith, rw count-of (links-le ok last step b (omega arith)))
 
-      pub filling-more : Filling ok last nl nn (set links (i - 1) (getD links b 0 + 1)) (set next (i - 1) b) (i - 1)
-      filling-more =
+      pub tabling-more : Tabling ok last nl nn (set links (i - 1) (getD links b 0 + 1)) (set next (i - 1) b) (i - 1)
+      tabling-more =
           let count : getD links b 0 + 1 ≡ linksOf ok last (i - 1) = omega (arith, count-of, links-step ok last (i - 1) before-last, ap (linksOf ok last) is) in
           record {
             within = omega (arith, g .within);
@@ -83,9 +81,9 @@ module _ (ok : ℕ → ℕ → Bool) (last : ℕ) where
             next-length = length-set next (i - 1) _ ∙ g .next-length;
           }
 
-  -- ---- following
+  -- ---- where the second leads
 
-  module _ (step : StepsTo ok last) {next : List ℕ} (p : Planned ok last 0 next) where
+  module _ (step : StepsValid ok) {next : List ℕ} (p : Planned ok last 0 next) where
     planned-is : (k : ℕ) → k < last → getD next k 0 ≡ nextOf ok last k
     planned-is k lt = p .stops k (omega arith) lt
 
@@ -94,47 +92,3 @@ module _ (ok : ℕ → ℕ → Bool) (last : ℕ) where
 
     pub planned-minimum : listBy (λ k. getD next k 0) last ≡ minimumOf ok last
     planned-minimum = table-minimum ok last step (λ k. getD next k 0) planned-is
-
--- the stops up to i are done, and written over o
-pub record Following (f : ℕ → ℕ) (last : ℕ) (o out : List ℕ) (count i : ℕ) : Type 0 where
-  pub done : List ℕ
-  pub all : done ++ stops f last i last ≡ listBy f last
-  pub out-is : out ≡ overwrite done o
-  pub count-is : count ≡ length done
-  pub count-le : count ≤ suc i
-  pub within : i ≤ last
-  pub same : length out ≡ length o
-
-module _ {f : ℕ → ℕ} {last : ℕ} where
-  -- sample 0 is stored first
-  pub following-none : (o : List ℕ) → last < length o → Following f last (set o 0 0) (set o 0 0) 1 0
-  following-none o room = record {
-    done = 0 ∷ [];
-    all = refl;
-    out-is = overwrite-snoc [] o 0 (omega arith) ∙ sym (overwrite-set (0 ∷ []) o 0 0 (omega arith));
-    count-is = refl;
-    count-le = omega arith;
-    within = omega arith;
-    same = refl;
-  }
-
-  pub following-more : {o out : List ℕ} {count i : ℕ} → ((k : ℕ) → k < last → (k < f k) × (f k ≤ last)) → last < length o → i < last
-      → Following f last o out count i → Following f last o (set out count (f i)) (count + 1) (f i)
-  following-more {o} {out} {count} {i} onward room lt g =
-      let up : i < f i = onward i lt .0 in
-      record {
-        done = g .done ++ (f i ∷ []);
-        all = append-assoc (g .done) (f i ∷ []) (stops f last (f i) last) ∙ ap (λ (l : List ℕ). g .done ++ l) (sym (stops-step last f (λ k h. onward k h .0) i lt)) ∙ g .all;
-        out-is = rw (g .out-is, g .count-is) (overwrite-snoc (g .done) o (f i) (omega (arith, g .count-is, g .count-le)));
-        count-is = rw length-append (omega (arith, g .count-is));
-        count-le = omega (arith, g .count-le);
-        within = onward i lt .1;
-        same = length-set out count (f i) ∙ g .same;
-      }
-
-  -- at the last sample all is done; the entry that was stored first counts for nothing
-  pub followed : (o : List ℕ) {out : List ℕ} {count i : ℕ} → Following f last (set o 0 0) out count i → last ≤ i
-      → (count ≡ length (listBy f last)) × (out ≡ overwrite (listBy f last) o)
-  followed o {i = i} g le =
-      let e : g .done ≡ listBy f last = sym (append-nil (g .done)) ∙ (rw (stops-end last f last i le) at (g .all)) in
-      (g .count-is ∙ ap length e, g .out-is ∙ (rw e (overwrite-set (listBy f last) o 0 0 (omega arith))))

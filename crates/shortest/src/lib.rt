@@ -3,7 +3,7 @@ ghost use mathlib.Core.Path.{_≡_};
 ghost use mathlib.Core.Bool.{true, not};
 ghost use Prim.Native.Nat.{_+_, _-_, _≤_, _<_};
 ghost use lib.ListN.{length, getD};
-ghost use Rattle.lists.specs.Overwrite.{overwrite};
+ghost use Rattle.lists.specs.Overwrite.{Wrote};
 ghost use Rattle.kept.specs.Stops.{listBy};
 ghost use Rattle.kept.specs.Minimum.{nextOf};
 ghost use Rattle.trace.specs.Trace.{Trace};
@@ -101,8 +101,7 @@ fn plan(ticks: &[u32], values: &[i16], c: Criterion, links: &mut [u16], next: &m
 // Follows `next` from sample 0 to the last one, writes the stops over the front of `out`, and counts them.
 fn follow(last: usize, next: &[u16], out: &mut [u16]) -> usize
     requires { ⌜ Onward last (now next) × (last < length (now out)) ⌝ }
-    ensures count { λ r. ⌜ r ≡ length (listBy (λ k. getD (now (next .entry)) k 0) last) ⌝ }
-    ensures list { λ r. ⌜ now (out .exit) ≡ overwrite (listBy (λ k. getD (now (next .entry)) k 0) last) (now (out .entry)) ⌝ }
+    ensures { λ r. ⌜ Wrote (listBy (λ k. getD (now (next .entry)) k 0) last) (now (out .entry)) r (now (out .exit)) ⌝ }
 {
     out[0] = 0;
     let mut count = 1;
@@ -119,8 +118,7 @@ fn follow(last: usize, next: &[u16], out: &mut [u16]) -> usize
 // Writes the minimum's list over the front of `out`, and returns its kept number.
 pub fn minimum(ticks: &[u32], values: &[i16], c: Criterion, out: &mut [u16]) -> usize
     requires { ⌜ Trace (now ticks) (now values) × Bounded c × (length (now ticks) ≤ length (now out)) ⌝ }
-    ensures count { λ r. ⌜ r ≡ length (minimumList (now (ticks .entry)) (now (values .entry)) c) ⌝ }
-    ensures list { λ r. ⌜ now (out .exit) ≡ overwrite (minimumList (now (ticks .entry)) (now (values .entry)) c) (now (out .entry)) ⌝ }
+    ensures { λ r. ⌜ Wrote (minimumList (now (ticks .entry)) (now (values .entry)) c) (now (out .entry)) r (now (out .exit)) ⌝ }
 {
     let mut links = [0u16; 4096];
     let mut next = [0u16; 4096];

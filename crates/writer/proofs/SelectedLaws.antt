@@ -2,7 +2,7 @@
 -- Assumes nothing.
 use mathlib.Core.Path.{_≡_, sym, ap, _∙_}
 use mathlib.Core.List.{List, [], _∷_}
-use Prim.Native.Nat.{ℕ, zero, suc, _+_, _-_, _≤_, _<_}
+use Prim.Native.Nat.{ℕ, suc, _+_, _-_, _≤_, _<_}
 use native.Mathlib.Nat.{one-mul}
 use native.Mathlib.Numerals.{add-one}
 use native.Mathlib.Omega.{arith}
@@ -12,7 +12,7 @@ use lib.Signed.{mag}
 use Rattle.lists.proofs.SelectLaws.{select-length, select-at, select-all}
 use Rattle.ratio.specs.declared.Ratio.{Ratio}
 use Rattle.kept.specs.Kept.{KeptList}
-use Rattle.kept.proofs.KeptLaws.{kept-length, kept-links, links-at}
+use Rattle.kept.proofs.KeptLaws.{kept-length, kept-links, links-at, kept-inside}
 use Rattle.trace.specs.declared.Start.{Start}
 use Rattle.trace.specs.Trace.{tick, value, Trace}
 use Rattle.trace.specs.Level.{level}
@@ -33,11 +33,6 @@ kept-some last (i ∷ s) k = omega arith
 kept-first : (last : ℕ) (l : List ℕ) → KeptList last l → getD l 0 0 ≡ 0
 kept-first last [] k = absurd (k .spans)
 kept-first last (i ∷ s) k = k .spans .0
-
--- each entry is a sample
-kept-inside : (last : ℕ) (l : List ℕ) → KeptList last l → (k : ℕ) → k < length l → getD l k 0 ≤ last
-kept-inside last l kept zero h = omega (arith, kept-first last l kept)
-kept-inside last l kept (suc k) h = links-at (λ i j. (i < j) × (j ≤ last)) l (kept-links last l kept) k h .1
 
 module _ {ts : List ℕ} {vs : List ℤ} {l : List ℕ} (kept : Kept ts vs l) where
   pub list-some : 1 ≤ length l

@@ -1,5 +1,5 @@
 -- `shortest::minimum` meets its contract: what `plan` fills in, `follow` writes. Assumes nothing.
-use Rattle.shortest.proofs.ShortestLaws.{trace-steps}
+use Rattle.trace.proofs.Validity.{steps-valid}
 use Rattle.shortest.proofs.Tables.{planned-onward, planned-minimum}
 use borrow.Author.Needs.{needs}
 use Rattle.shortest.proofs.minimum.Statement.{statement}
@@ -21,7 +21,7 @@ slice-aggregate-follow : tie.Need-slice-aggregate-follow
 slice-aggregate-follow c = search needs
 
 follow-requires : tie.Need-follow-requires
-follow-requires c κs = (planned-onward _ _ (trace-steps _ _ _ _) (c .before .before .before .before .plan .ensures), search needs)
+follow-requires c κs = (planned-onward _ _ (steps-valid _ _ _) (c .before .before .before .before .plan .ensures), search needs)
 
 same-length : tie.Need-same-length
 same-length c = search needs
@@ -30,7 +30,7 @@ returns : tie.Need-returns
 returns c =
     let p = c .before .before .before .before .before .before .before .plan in
     let f = c .before .before .follow .ensures in
-    rw (← planned-minimum _ _ (trace-steps _ _ _ _) (p .ensures)) f
+    rw (← planned-minimum _ _ (steps-valid _ _ _) (p .ensures)) f
 
 pub minimum-spec : {M : Type 1} → statement M
 minimum-spec =

@@ -5,13 +5,13 @@ use native.Mathlib.Omega.{arith}
 use lib.ListN.{length, getD, length-set}
 use borrow.Author.Needs.{needs}
 use Rattle.trace.specs.Link.{valid}
-use Rattle.shortest.proofs.ShortestLaws.{trace-steps}
-use Rattle.shortest.proofs.Tables.{Filling, filling-none, counted-after, stop-inside, filling-more}
+use Rattle.trace.proofs.Validity.{steps-valid}
+use Rattle.shortest.proofs.Tables.{Tabling, tabling-none, counted-after, stop-inside, tabling-more}
 use Rattle.shortest.proofs.plan.Statement.{statement}
 use Rattle.shortest.proofs.plan.Tie as tie
 
 abbrev Inv-loop : tie.InvT-loop
-Inv-loop ticks values c links₀ next₀ i₀ links next i = Filling (valid ticks values c) (length ticks - 1) (length links₀) (length next₀) links next i
+Inv-loop ticks values c links₀ next₀ i₀ links next i = Tabling (valid ticks values c) (length ticks - 1) (length links₀) (length next₀) links next i
 
 abbrev μ-loop : tie.MeasureT-loop
 μ-loop ticks values c links₀ next₀ i₀ links next i = i
@@ -26,7 +26,7 @@ slice-write-links : tie.Need-slice-write-links Inv-loop μ-loop
 slice-write-links c = search needs
 
 loop-holds : tie.Need-loop-holds Inv-loop μ-loop
-loop-holds c = filling-none _ _ (c .before .before .before .args .links .now) (c .before .before .before .args .next .now) (search needs) (search needs)
+loop-holds c = tabling-none _ _ (c .before .before .before .args .links .now) (c .before .before .before .args .next .now) (search needs) (search needs)
 
 sub-i-2 : tie.Need-sub-i-2 Inv-loop μ-loop
 sub-i-2 c = search needs
@@ -35,7 +35,7 @@ next-stop-requires : tie.Need-next-stop-requires Inv-loop μ-loop
 next-stop-requires c κs =
     let l = c .before .before in
     let pre = l .before .before .before .before .pre in
-    record { trace = pre .0; bounded = pre .1; inside = search needs; counted = counted-after _ _ (trace-steps _ _ _ _) (l .loop .inv) (c .before .loop-test .taken) }
+    record { trace = pre .0; bounded = pre .1; inside = search needs; counted = counted-after _ _ (steps-valid _ _ _) (l .loop .inv) (c .before .loop-test .taken) }
 
 -- the chosen stop is in the tables
 inside : (c : tie.After-next-stop Inv-loop μ-loop) →
@@ -44,7 +44,7 @@ inside : (c : tie.After-next-stop Inv-loop μ-loop) →
     (c .next-stop .result ≤ last) × (getD (l .loop .links) (c .next-stop .result) 0 + c .next-stop .result ≤ last)
 inside c =
     let l = c .before .before .before in
-    stop-inside _ _ (trace-steps _ _ _ _) (l .loop .inv) (c .before .before .loop-test .taken) (c .next-stop .ensures)
+    stop-inside _ _ (steps-valid _ _ _) (l .loop .inv) (c .before .before .loop-test .taken) (c .next-stop .ensures)
 
 mul-links-2 : tie.Need-mul-links-2 Inv-loop μ-loop
 mul-links-2 c = omega (arith, inside c)
@@ -76,7 +76,7 @@ loop-less c = search needs
 loop-again : tie.Need-loop-again Inv-loop μ-loop
 loop-again c =
     let l = c .before .before .before .before in
-    filling-more _ _ (trace-steps _ _ _ _) (l .loop .inv) (c .before .before .before .loop-test .taken) (c .before .next-stop .ensures)
+    tabling-more _ _ (steps-valid _ _ _) (l .loop .inv) (c .before .before .before .loop-test .taken) (c .before .next-stop .ensures)
 
 same-length : tie.Need-same-length Inv-loop μ-loop
 same-length c = c .before .loop .inv .links-length ∙ simp length-set

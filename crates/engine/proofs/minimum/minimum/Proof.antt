@@ -32,9 +32,7 @@ same-length : tie.Need-same-length
 same-length c = search needs
 
 returns : tie.Need-returns
-returns c =
-    let w = c .before .before .minimum .ensures in
-    minimum-kept (ready (c .before .before .before .before .before)) (record { count = w .0; content = w .1 })
+returns c = minimum-kept (ready (c .before .before .before .before .before)) (c .before .before .minimum .ensures)
 
 returns-2 : tie.Need-returns-2
 returns-2 c =
