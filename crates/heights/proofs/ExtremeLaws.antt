@@ -18,7 +18,7 @@ use Rattle.trace.specs.Trace.{tick, value, Rising, Trace}
 use Rattle.trace.proofs.Ticks.{later, not-earlier}
 use Rattle.trace.proofs.Difference.{times, alike, parts}
 use Rattle.trace.proofs.Deviation.{line}
-use Rattle.trace.proofs.Heights.{height-diff}
+use Rattle.trace.proofs.Offsets.{offset-of-diff}
 use Rattle.heights.specs.Heights.{linkAt, lineFrom, lineAt, OnTrace, Equals, Between, higher, lower, joined, ofSamples, peak, trough, Attained, Extremes}
 use Rattle.heights.proofs.Order.{order, order-refl, order-trans, higher-left, higher-right, higher-one, lower-left, lower-right, lower-one}
 use Rattle.heights.proofs.Entries.{Entry, entry-inside, kept-inside}
@@ -93,7 +93,7 @@ module _ (ts : List ℕ) (vs : List ℤ) (i j : ℕ) (rises : tick ts i < tick t
       let k : tick ts i ≤ 1 * tick ts j = omega arith in
       record {
         positive = link-positive ts vs i j (tick ts i) 1 (omega arith) rises;
-        is = alike (link-num ts vs i j (tick ts i) 1 h k (height-diff vs i) (height-diff vs j)) (times (height-diff vs i) _)
+        is = alike (link-num ts vs i j (tick ts i) 1 h k (offset-of-diff vs i) (offset-of-diff vs j)) (times (offset-of-diff vs i) _)
             (at-start _ _ _ _ _ _ (omega arith) (link-den ts vs i j (tick ts i) 1 h k));
       }
 
@@ -103,7 +103,7 @@ module _ (ts : List ℕ) (vs : List ℤ) (i j : ℕ) (rises : tick ts i < tick t
       let k : tick ts j ≤ 1 * tick ts j = omega arith in
       record {
         positive = link-positive ts vs i j (tick ts j) 1 (omega arith) rises;
-        is = alike (link-num ts vs i j (tick ts j) 1 h k (height-diff vs i) (height-diff vs j)) (times (height-diff vs j) _)
+        is = alike (link-num ts vs i j (tick ts j) 1 h k (offset-of-diff vs i) (offset-of-diff vs j)) (times (offset-of-diff vs j) _)
             (at-end _ _ _ _ _ _ (omega arith) (link-den ts vs i j (tick ts j) 1 h k));
       }
 
@@ -113,11 +113,11 @@ module _ (ts : List ℕ) (vs : List ℤ) (i j : ℕ) (rises : tick ts i < tick t
       let x = parts low .2 in
       let y = parts high .2 in
       let den = link-den ts vs i j a d from to in
-      let num = link-num ts vs i j a d from to (height-diff vs i) (height-diff vs j) in
+      let num = link-num ts vs i j a d from to (offset-of-diff vs i) (offset-of-diff vs j) in
       record {
         positive = link-positive ts vs i j a d some rises;
-        from = order (times x _) num .1 (mean-least _ _ _ _ _ _ _ _ den (order x (height-diff vs i) .0 li) (order x (height-diff vs j) .0 lj));
-        to = order num (times y _) .1 (mean-most _ _ _ _ _ _ _ _ den (order (height-diff vs i) y .0 hi) (order (height-diff vs j) y .0 hj));
+        from = order (times x _) num .1 (mean-least _ _ _ _ _ _ _ _ den (order x (offset-of-diff vs i) .0 li) (order x (offset-of-diff vs j) .0 lj));
+        to = order num (times y _) .1 (mean-most _ _ _ _ _ _ _ _ den (order (offset-of-diff vs i) y .0 hi) (order (offset-of-diff vs j) y .0 hj));
       }
 
 -- ---- the lines of a list

@@ -20,7 +20,7 @@ use Rattle.trace.proofs.Line.{Above, Below}
 use Rattle.trace.proofs.Ticks.{not-earlier}
 use Rattle.trace.proofs.Difference.{Diff, same, less, times, parts, size-at-most}
 use Rattle.trace.proofs.Deviation.{line}
-use Rattle.trace.proofs.Heights.{reach, height, height-diff, High, Low}
+use Rattle.trace.proofs.Offsets.{offsetBase, offsetOf, offset-of-diff, High, Low}
 use Rattle.trace.proofs.Validity.{valid-band, true-valid}
 use Rattle.trace.proofs.Half.{band-high, band-low}
 use Rattle.heights.specs.Heights.{Fraction, linkAt, lineFrom, lineAt, samplesAfter, everySample, traceAt, OnTrace, Near}
@@ -99,16 +99,16 @@ module _ {ts : List ℕ} (rising : Rising ts) (vs : List ℤ) (c : Criterion) {i
       let length-is : (n : ℕ) → d * tick ts i ≤ n → n ≤ d * tick ts j → linkAt ts vs i j a d .den ≡ (n - d * tick ts i) + (d * tick ts j - n)
       = λ n l u. link-den ts vs i j a d (omega arith) (omega arith) ∙ across (d * tick ts i) a (d * tick ts j) n (omega arith) (omega arith) l u in
       let step-is = link-den ts vs k (suc k) a d from to in
-      let on-line = straight-line (height vs i) (height vs j) (d * tick ts k - d * tick ts i) (a - d * tick ts k) (d * tick ts (suc k) - a) (d * tick ts j - d * tick ts (suc k))
+      let on-line = straight-line (offsetOf vs i) (offsetOf vs j) (d * tick ts k - d * tick ts i) (a - d * tick ts k) (d * tick ts (suc k) - a) (d * tick ts j - d * tick ts (suc k))
       {u = a - d * tick ts i} {s = d * tick ts j - a} {v = d * tick ts j - d * tick ts k} {r = d * tick ts (suc k) - d * tick ts i}
       (omega arith) (omega arith) (omega arith) (omega arith) in
-      near-levels (reach vs) (link-positive ts vs i j a d some (omega arith)) (link-positive ts vs k (suc k) a d some tk)
-      (link-num ts vs i j a d (omega arith) (omega arith) (height-diff vs i) (height-diff vs j))
-      (link-num ts vs k (suc k) a d from to (height-diff vs k) (height-diff vs (suc k)))
-      (mean-below (height vs k) (height vs (suc k)) _ _ _ _ _ _ (c .p) (c .q) step-is on-line
+      near-levels (offsetBase vs) (link-positive ts vs i j a d some (omega arith)) (link-positive ts vs k (suc k) a d some tk)
+      (link-num ts vs i j a d (omega arith) (omega arith) (offset-of-diff vs i) (offset-of-diff vs j))
+      (link-num ts vs k (suc k) a d from to (offset-of-diff vs k) (offset-of-diff vs (suc k)))
+      (mean-below (offsetOf vs k) (offsetOf vs (suc k)) _ _ _ _ _ _ (c .p) (c .q) step-is on-line
       (parts-below _ _ _ _ _ (c .p) (c .q) d (mul-sub d _ _) (mul-sub d _ _) (length-is _ di (omega arith)) (sample-low k ik (omega arith)))
       (parts-below _ _ _ _ _ (c .p) (c .q) d (mul-sub d _ _) (mul-sub d _ _) (length-is _ (omega arith) dj) (sample-low (suc k) (omega arith) kj)))
-      (mean-above (height vs k) (height vs (suc k)) _ _ _ _ _ _ (c .p) (c .q) step-is on-line
+      (mean-above (offsetOf vs k) (offsetOf vs (suc k)) _ _ _ _ _ _ (c .p) (c .q) step-is on-line
       (parts-above _ _ _ _ _ (c .p) (c .q) d (mul-sub d _ _) (mul-sub d _ _) (length-is _ di (omega arith)) (sample-high k ik (omega arith)))
       (parts-above _ _ _ _ _ (c .p) (c .q) d (mul-sub d _ _) (mul-sub d _ _) (length-is _ (omega arith) dj) (sample-high (suc k) (omega arith) kj)))
 
