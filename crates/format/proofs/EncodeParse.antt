@@ -18,7 +18,7 @@ use Rattle.ratio.specs.declared.Ratio.{Ratio}
 use Rattle.trace.specs.Level.{level}
 use Rattle.format.specs.Number.{Bytes, valueOf}
 use Rattle.format.specs.Command.{choose, commandOf, commandOnto}
-use Rattle.format.specs.Format.{Content, Legal, Accepted, allowed, within, short, follows, moved, shortStep, longStep, endStep, obey, stepOf, Samples, fault, samples, onto, follow, steps, sampleHeader, toleranceOf, Parsed, faulty, says, attach, began, parse, stepTo, stepsOnto, samplesOnto, encode}
+use Rattle.format.specs.Format.{Content, Legal, Accepted, allowed, within, short, follows, moved, shortObeys, longObeys, shortStep, longStep, endStep, obey, stepOf, Samples, fault, samples, onto, follow, steps, sampleHeader, toleranceOf, Parsed, faulty, says, attach, began, parse, stepTo, stepsOnto, samplesOnto, encode}
 use Rattle.format.specs.declared.Cursor.{Cursor}
 use Rattle.format.specs.declared.Command.{Command}
 use Rattle.format.specs.declared.Command.the-variants.{Tolerance, First, Short, Long, End, Invalid}
@@ -59,7 +59,7 @@ module _ (b : List ℕ) (c d : Cursor) where
   unfolding shortStep
   stepped-short a x w e =
       let l : ℕ = c .level + x - 128 in
-      let m = moved-inv (leb 1 a && leb 128 (c .level + x) && follows c (c .tick + a) l) 3 c (c .tick + a) l d e in
+      let m = moved-inv (shortObeys c a x) 3 c (c .tick + a) l d e in
       let f = and-first (leb 1 a && leb 128 (c .level + x)) (follows c (c .tick + a) l) (m .0) in
       let g = and-second (leb 1 a && leb 128 (c .level + x)) (follows c (c .tick + a) l) (m .0) in
       let h₁ : 1 ≤ a = leb-true 1 a (and-first (leb 1 a) (leb 128 (c .level + x)) f) in
@@ -83,7 +83,7 @@ module _ (b : List ℕ) (c d : Cursor) where
   stepped-long : (a l : ℕ) → Starts (drop (c .at) b) (Long a l) → longStep c a l ≡ Sample d → Stepped b c d
   unfolding longStep
   stepped-long a l w e =
-      let m = moved-inv (leb 1 a && not (short (c .level) a l) && follows c (c .tick + a) l) 6 c (c .tick + a) l d e in
+      let m = moved-inv (longObeys c a l) 6 c (c .tick + a) l d e in
       let f = and-first (leb 1 a && not (short (c .level) a l)) (follows c (c .tick + a) l) (m .0) in
       let g = and-second (leb 1 a && not (short (c .level) a l)) (follows c (c .tick + a) l) (m .0) in
       let h₁ : 1 ≤ a = leb-true 1 a (and-first (leb 1 a) (not (short (c .level) a l)) f) in

@@ -72,14 +72,19 @@ abbrev pub moved : Bool → ℕ → Cursor → ℕ → ℕ → Step
 moved ok k c tick level =
     choose ok (Sample (record { at = c .at + k; first = c .first; tick = tick; level = level; count = c .count + 1 })) (Fault (c .at))
 
--- a short step: an advance from 1, and a change of d - 128
-unfoldable pub shortStep : Cursor → ℕ → ℕ → Step
-shortStep c a d =
-    moved (leb 1 a && leb 128 (c .level + d) && follows c (c .tick + a) (c .level + d - 128)) 3 c (c .tick + a) (c .level + d - 128)
+-- a short step obeys the rules: an advance from 1, and a change of d - 128
+abbrev pub shortObeys : Cursor → ℕ → ℕ → Bool
+shortObeys c a d = leb 1 a && leb 128 (c .level + d) && follows c (c .tick + a) (c .level + d - 128)
 
--- a long step, which no short one could take the place of
+-- a long step obeys them: an advance from 1, and no short step could take its place
+abbrev pub longObeys : Cursor → ℕ → ℕ → Bool
+longObeys c a level = leb 1 a && not (short (c .level) a level) && follows c (c .tick + a) level
+
+unfoldable pub shortStep : Cursor → ℕ → ℕ → Step
+shortStep c a d = moved (shortObeys c a d) 3 c (c .tick + a) (c .level + d - 128)
+
 unfoldable pub longStep : Cursor → ℕ → ℕ → Step
-longStep c a level = moved (leb 1 a && not (short (c .level) a level) && follows c (c .tick + a) level) 6 c (c .tick + a) level
+longStep c a level = moved (longObeys c a level) 6 c (c .tick + a) level
 
 -- the end of a record of n bytes: it gives the number of samples, and nothing follows
 unfoldable pub endStep : ℕ → Cursor → ℕ → Step

@@ -22,8 +22,8 @@ use Rattle.format.specs.declared.Step.the-variants.{Sample, End as Ended, Fault
 use Rattle.format.specs.declared.Header.the-variants.{Fault as NoHeader}
 use Rattle.format.specs.Number.{field, flip16, flip8}
 use Rattle.format.specs.Command.{choose, opens, commandOf}
-use Rattle.format.specs.Format.{allowed, moved, shortStep, longStep, endStep, obey, stepOf, sampleHeader, toleranceOf, headerOf}
-use Rattle.reader.specs.Reading.{shortObeys, longObeys, isSample}
+use Rattle.format.specs.Format.{allowed, moved, shortObeys, longObeys, shortStep, longStep, endStep, obey, stepOf, sampleHeader, toleranceOf, headerOf}
+use Rattle.reader.specs.Reading.{isSample}
 
 -- ---- the command
 
