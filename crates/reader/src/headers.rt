@@ -5,9 +5,9 @@ ghost use lib.ListN.{length, drop};
 ghost use Rattle.format.specs.Command.{commandOf};
 ghost use Rattle.format.specs.Format.{allowed, sampleHeader, headerOf};
 use crate::numbers::field;
-use crate::numbers::flip16;
 use format::Cursor;
 use format::Header;
+use format::flip16;
 use ratio::Ratio;
 
 // Whether a tolerance is allowed, and reduced.

@@ -7,8 +7,9 @@ ghost use Rattle.format.specs.declared.Step.the-variants.{Sample};
 ghost use Rattle.format.specs.Format.{follows as followsOf, shortObeys, longObeys, stepOf};
 ghost use Rattle.reader.specs.Reading.{Ready, isSample};
 use crate::numbers::field;
-use crate::numbers::flip16;
 use format::Cursor;
+use format::flip8;
+use format::flip16;
 
 // Whether a sample may follow.
 fn follows(c: Cursor, tick: u64, level: u64) -> bool
@@ -70,7 +71,7 @@ pub fn is_step(bytes: &[u8], c: Cursor) -> bool
     }
     let kind = bytes[at];
     if kind == 0x53 {
-        let change = (field(bytes, at + 2, 1) + 128) % 256;
+        let change = flip8(field(bytes, at + 2, 1));
         return short_obeys(c, field(bytes, at + 1, 1), change);
     }
     if kind != 0x4C {
@@ -90,7 +91,7 @@ pub fn next_sample(bytes: &[u8], c: Cursor) -> Cursor
     let at = c.at;
     let kind = bytes[at];
     if kind == 0x53 {
-        let change = (field(bytes, at + 2, 1) + 128) % 256;
+        let change = flip8(field(bytes, at + 2, 1));
         return Cursor {
             at: at + 3,
             first: c.first,
