@@ -3,12 +3,12 @@
 --   readRows, sameRows                       the first row that applies
 --   Said, ReadBack, ReadDeclined, Compared   what holds of each answer
 --   CheckOutcome, ReadOutcome, SameOutcome   what is answered, and what lent lists then hold
---   recordVerdict                                a record's verdict
---   isSample                                 a step that leads to a sample
+--   recordVerdict                            a record's verdict
+--   isSample                                 a step leads to a sample
 --   closedBy                                 the verdict after the last sample
---   Ready, Begun                             a cursor within a record; one after the first sample
+--   CursorOk, AfterFirst                     a cursor within a record; one after the first sample
 --   Entry, Fitting, Filled                   lists with an entry for a sample; for all samples; samples written over them
--- Assumes nothing.
+-- Laws are in ReadingLaws, PassLaws and CommandsAt. Assumes nothing.
 use mathlib.Core.Path.{_≡_}
 use mathlib.Core.Bool.{Bool, true, false, _&&_}
 use mathlib.Core.List.{List}
@@ -116,15 +116,16 @@ closedBy r c Ended = Gives (c .count) r
 closedBy r c (Faulty k) = Fault k
 
 -- a cursor within a record of n bytes
-pub record Ready (n : ℕ) (c : Cursor) : Type 0 where
+pub record CursorOk (n : ℕ) (c : Cursor) : Type 0 where
   pub at : c .at ≤ n
   pub begun : c .first ≤ c .tick
   pub tick : c .tick ≤ 4294967295
   pub level : c .level ≤ 65535
   pub count : c .count ≤ 4096
 
-pub record Begun (n : ℕ) (c : Cursor) : Type 0 where
-  pub ready : Ready n c
+-- and after its first sample
+pub record AfterFirst (n : ℕ) (c : Cursor) : Type 0 where
+  pub ready : CursorOk n c
   pub one : c .count ≡ 1
 
 -- lists of m and n entries have one for the sample at the cursor
