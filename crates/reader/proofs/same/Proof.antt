@@ -1,6 +1,7 @@
 -- `reader::same` meets its contract: two accepted records have the same samples exactly if their bytes after the tolerance agree.
 -- Assumes nothing.
 use mathlib.Core.Path.{subst}
+use native.Mathlib.Omega.{arith}
 use borrow.Author.Needs.{needs}
 use Rattle.reader.specs.Reading.{Said, CheckOutcome}
 use Rattle.reader.proofs.ReadingLaws.{enough, same-yes, same-no, first-fault, second-fault}
@@ -28,19 +29,19 @@ enum-told-2 : tie.Need-enum-told-2
 enum-told-2 c = search needs
 
 sub-equal : tie.Need-sub-equal
-sub-equal c = enough (first (c .before .before .before))
+sub-equal c = omega (arith, enough (first (c .before .before .before)))
 
 part-equal-start : tie.Need-part-equal-start
-part-equal-start c = enough (first (c .before .before .before))
+part-equal-start c = omega (arith, enough (first (c .before .before .before)))
 
 part-equal-end : tie.Need-part-equal-end
 part-equal-end c = search needs
 
 sub-equal-2 : tie.Need-sub-equal-2
-sub-equal-2 c = enough (second (c .before))
+sub-equal-2 c = omega (arith, enough (second (c .before)))
 
 part-equal-start-2 : tie.Need-part-equal-start-2
-part-equal-start-2 c = enough (second (c .before))
+part-equal-start-2 c = omega (arith, enough (second (c .before)))
 
 part-equal-end-2 : tie.Need-part-equal-end-2
 part-equal-end-2 c = search needs
