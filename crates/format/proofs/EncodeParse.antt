@@ -18,7 +18,7 @@ use Rattle.ratio.specs.declared.Ratio.{Ratio}
 use Rattle.trace.specs.Level.{level}
 use Rattle.format.specs.Number.{Bytes, valueOf}
 use Rattle.format.specs.Command.{choose, commandOf, commandOnto}
-use Rattle.format.specs.Format.{Content, Legal, Accepted, allowed, within, short, follows, moved, shortStep, longStep, endStep, obey, stepOf, Samples, fault, samples, onto, follow, steps, sampleHeader, toleranceOf, Parsed, faulty, says, attach, began, parse, stepTo, stepsOnto, samplesOnto, encode}
+use Rattle.format.specs.Format.{Content, Legal, Accepted, isHeld, inLimits, short, follows, moved, shortObeys, longObeys, shortStep, longStep, endStep, obey, stepOf, Samples, fault, samples, onto, follow, steps, sampleHeader, toleranceHeader, Parsed, faulty, says, attach, began, parse, stepTo, stepsOnto, samplesOnto, encode}
 use Rattle.format.specs.declared.Cursor.{Cursor}
 use Rattle.format.specs.declared.Command.{Command}
 use Rattle.format.specs.declared.Command.the-variants.{Tolerance, First, Short, Long, End, Invalid}
@@ -27,7 +27,7 @@ use Rattle.format.specs.declared.Step.the-variants.{Sample, End as Ended
 use Rattle.format.specs.declared.Header.the-variants.{Fault as NoHeader}
 use Rattle.format.proofs.NumberLaws.{bytes-drop, level-value, value-short}
 use Rattle.format.proofs.CommandLaws.{Starts, Read, read}
-use Rattle.format.proofs.RuleLaws.{within-le, allowed-held, Follows, follows-legal}
+use Rattle.format.proofs.RuleLaws.{in-limits-le, is-held-true, Follows, follows-legal}
 
 -- ---- a step
 
@@ -37,7 +37,7 @@ pub record Stepped (b : List ℕ) (c d : Cursor) : Type 0 where
   pub inside : d .at ≤ length b
   pub first : d .first ≡ c .first
   pub rise : c .tick < d .tick
-  pub ok : within (c .first) (d .tick) (d .level) ≡ true
+  pub ok : inLimits (c .first) (d .tick) (d .level) ≡ true
   pub room : c .count < 4096
   pub count : d .count ≡ c .count + 1
 
@@ -59,7 +59,7 @@ module _ (b : List ℕ) (c d : Cursor) where
   unfolding shortStep
   stepped-short a x w e =
       let l : ℕ = c .level + x - 128 in
-      let m = moved-inv (leb 1 a && leb 128 (c .level + x) && follows c (c .tick + a) l) 3 c (c .tick + a) l d e in
+      let m = moved-inv (shortObeys c a x) 3 c (c .tick + a) l d e in
       let f = and-first (leb 1 a && leb 128 (c .level + x)) (follows c (c .tick + a) l) (m .0) in
       let g = and-second (leb 1 a && leb 128 (c .level + x)) (follows c (c .tick + a) l) (m .0) in
       let h₁ : 1 ≤ a = leb-true 1 a (and-first (leb 1 a) (leb 128 (c .level + x)) f) in
@@ -75,15 +75,15 @@ module _ (b : List ℕ) (c d : Cursor) where
         inside = omega (arith, w .whole, length-drop (c .at) b);
         first = refl;
         rise = omega arith;
-        ok = and-first (within (c .first) (c .tick + a) l) (ltb (c .count) 4096) g;
-        room = ltb-true (c .count) 4096 (and-second (within (c .first) (c .tick + a) l) (ltb (c .count) 4096) g);
+        ok = and-first (inLimits (c .first) (c .tick + a) l) (ltb (c .count) 4096) g;
+        room = ltb-true (c .count) 4096 (and-second (inLimits (c .first) (c .tick + a) l) (ltb (c .count) 4096) g);
         count = refl;
       })
 
   stepped-long : (a l : ℕ) → Starts (drop (c .at) b) (Long a l) → longStep c a l ≡ Sample d → Stepped b c d
   unfolding longStep
   stepped-long a l w e =
-      let m = moved-inv (leb 1 a && not (short (c .level) a l) && follows c (c .tick + a) l) 6 c (c .tick + a) l d e in
+      let m = moved-inv (longObeys c a l) 6 c (c .tick + a) l d e in
       let f = and-first (leb 1 a && not (short (c .level) a l)) (follows c (c .tick + a) l) (m .0) in
       let g = and-second (leb 1 a && not (short (c .level) a l)) (follows c (c .tick + a) l) (m .0) in
       let h₁ : 1 ≤ a = leb-true 1 a (and-first (leb 1 a) (not (short (c .level) a l)) f) in
@@ -94,8 +94,8 @@ module _ (b : List ℕ) (c d : Cursor) where
         inside = omega (arith, w .whole, length-drop (c .at) b);
         first = refl;
         rise = omega arith;
-        ok = and-first (within (c .first) (c .tick + a) l) (ltb (c .count) 4096) g;
-        room = ltb-true (c .count) 4096 (and-second (within (c .first) (c .tick + a) l) (ltb (c .count) 4096) g);
+        ok = and-first (inLimits (c .first) (c .tick + a) l) (ltb (c .count) 4096) g;
+        room = ltb-true (c .count) 4096 (and-second (inLimits (c .first) (c .tick + a) l) (ltb (c .count) 4096) g);
         count = refl;
       })
 
@@ -155,7 +155,7 @@ module _ (b : List ℕ) (by : Bytes b) where
   unfolding stepsOnto
   tail-more c d {ts} {vs} s t =
       let x : d .count + length ts ≡ c .count + suc (length ts) = omega (arith, s .count) in
-      let w = within-le (c .first) (d .tick) (d .level) (s .ok) in
+      let w = in-limits-le (c .first) (d .tick) (d .level) (s .ok) in
       record {
         bytes = rw (level-value (d .level) (w .2)) (s .bytes ∙ ap (commandOnto (stepTo (c .tick) (c .level) (d .tick) (d .level))) (t .bytes ∙ ap (λ (m : ℕ). stepsOnto (d .tick) (d .level) ts vs (commandOnto (End m) [])) x));
         follows-on = (s .rise, w .0, w .1, value-short (d .level) (w .2), rw (s .first) at (t .follows-on));
@@ -196,7 +196,7 @@ module _ {b : List ℕ} (by : Bytes b) where
   Whole (faulty k) = Unit {0}
   Whole (says x) = (b ≡ encode x) × Legal x
 
-  module _ (r : Ratio) (t l : ℕ) (a : allowed r ≡ true) (v : Starts b (Tolerance r)) (w : Starts (drop 9 b) (First t l)) where
+  module _ (r : Ratio) (t l : ℕ) (a : isHeld r ≡ true) (v : Starts b (Tolerance r)) (w : Starts (drop 9 b) (First t l)) where
     abbrev start : Cursor
     start = record { at = 16; first = t; tick = t; level = l; count = 1 }
 
@@ -208,7 +208,7 @@ module _ {b : List ℕ} (by : Bytes b) where
           rw (level-value l (o .1)) (v .bytes ∙ ap (commandOnto (Tolerance r))
               (w .bytes ∙ ap (commandOnto (First t l))
               (drop-drop 7 9 b ∙ s .bytes ∙ ap (λ (m : ℕ). stepsOnto t l ts vs (commandOnto (End m) [])) n))),
-          follows-legal r t ts (valueOf l) vs (allowed-held r a) (o .0) (value-short l (o .1)) (omega (arith, s .few (omega arith))) (s .follows-on),
+          follows-legal r t ts (valueOf l) vs (is-held-true r a) (o .0) (value-short l (o .1)) (omega (arith, s .few (omega arith))) (s .follows-on),
         )
 
     whole-first : (s : Samples) → steps b 4096 start ≡ s → Whole (attach r (onto start s))
@@ -216,7 +216,7 @@ module _ {b : List ℕ} (by : Bytes b) where
     whole-first (fault k) e = tt
     whole-first (samples ts vs) e = whole-content ts vs (tail b by 4096 start e)
 
-  whole-tolerance : (r : Ratio) → allowed r ≡ true → Starts b (Tolerance r) → (m : Command) → Read (drop 9 b) m → Whole (began b (sampleHeader r m))
+  whole-tolerance : (r : Ratio) → isHeld r ≡ true → Starts b (Tolerance r) → (m : Command) → Read (drop 9 b) m → Whole (began b (sampleHeader r m))
   unfolding Whole
   whole-tolerance r a v (First t l) w = whole-first r t l a v w (steps b 4096 (start r t l a v w)) refl
   whole-tolerance r a v (Tolerance r′) w = tt
@@ -225,11 +225,11 @@ module _ {b : List ℕ} (by : Bytes b) where
   whole-tolerance r a v (End m) w = tt
   whole-tolerance r a v Invalid w = tt
 
-  whole : (m : Command) → Read b m → Whole (began b (toleranceOf m (commandOf (drop 9 b))))
+  whole : (m : Command) → Read b m → Whole (began b (toleranceHeader m (commandOf (drop 9 b))))
   unfolding Whole
-  whole (Tolerance r) v = go (allowed r) refl
+  whole (Tolerance r) v = go (isHeld r) refl
     where
-      go : (a : Bool) → allowed r ≡ a → Whole (began b (choose a (sampleHeader r (commandOf (drop 9 b))) (NoHeader 0)))
+      go : (a : Bool) → isHeld r ≡ a → Whole (began b (choose a (sampleHeader r (commandOf (drop 9 b))) (NoHeader 0)))
       go true e = whole-tolerance r e v (commandOf (drop 9 b)) (read (bytes-drop 9 by))
       go false e = tt
   whole (First t l) v = tt

@@ -8,15 +8,17 @@ use Prim.Native.Nat.{ℕ, zero, suc, _+_, _-_, _*_, _/_, _%_, _^_, _<_, _≤_}
 use native.Mathlib.Nat.{add-zero, add-suc, suc-add, pow-succ'}
 use native.Mathlib.Omega.{arith}
 use lib.Dec.{ltb}
-use lib.IntN.{ℤ, pos, negsuc}
+use lib.IntN.{ℤ, pos, negsuc, _-ℤ_}
 use lib.ListN.{length, getD, take, drop}
 use lib.Seq.{getD-drop}
 use lib.Signed.{mag}
 use borrow.Author.Tests.{lt-ltb, le-ltb, ltb-true, ltb-false}
-use mir.Syntax.{w16}
+use mir.Syntax.{w8, w16}
 use mir.Val.{ofZ}
 use Rattle.trace.specs.Level.{level}
-use Rattle.format.specs.Number.{numberFrom, bytesOnto, Bytes, flip16, valueOf}
+use Rattle.trace.proofs.Difference.{Diff, less}
+use Rattle.trace.proofs.Level.{level-diff}
+use Rattle.format.specs.Number.{numberFrom, bytesOnto, Bytes, flip16, flip8, valueOf}
 
 -- ---- bytes
 
@@ -99,3 +101,11 @@ value-short l h = go (ltb l 32768) refl
 pub value-bits : (v : ℤ) → mag v < 32768 → flip16 (level v) ≡ ofZ w16 v
 value-bits (pos n) h = omega arith
 value-bits (negsuc n) h = omega arith
+
+-- and a change from -128 to 127 its 8 bits
+pub change-bits : (v v′ : ℤ) → mag v < 32768 → mag v′ < 32768 → mag (v′ -ℤ v) < 128 → flip8 (level v′ + 128 - level v) ≡ ofZ w8 (v′ -ℤ v)
+change-bits v v′ h h′ = go (v′ -ℤ v) (less {x = v′} {y = v} (level-diff (record { is = refl; range = h′ })) (level-diff (record { is = refl; range = h })))
+  where
+    go : (z : ℤ) → Diff z (level v′ + 32768) (32768 + level v) → mag z < 128 → flip8 (level v′ + 128 - level v) ≡ ofZ w8 z
+    go (pos n) d s = omega arith
+    go (negsuc n) d s = omega arith

@@ -16,14 +16,14 @@ use Rattle.ratio.specs.declared.Ratio.{Ratio}
 use Rattle.trace.specs.Level.{level}
 use Rattle.trace.proofs.Level.{level-short}
 use Rattle.format.specs.Command.{sizeOf, commandOnto}
-use Rattle.format.specs.Format.{Content, Legal, within, short, shortStep, longStep, endStep, stepOf, samples, steps, says, parse, stepTo, stepsOnto, samplesOnto, encode}
+use Rattle.format.specs.Format.{Content, Legal, inLimits, short, shortStep, longStep, endStep, stepOf, samples, steps, says, parse, stepTo, stepsOnto, samplesOnto, encode}
 use Rattle.format.specs.declared.Cursor.{Cursor}
 use Rattle.format.specs.declared.Command.{Command}
 use Rattle.format.specs.declared.Command.the-variants.{Tolerance, First, Short, Long, End}
 use Rattle.format.specs.declared.Step.the-variants.{Sample}
 use Rattle.format.proofs.NumberLaws.{value-level}
 use Rattle.format.proofs.CommandLaws.{command-read, command-rest, command-length}
-use Rattle.format.proofs.RuleLaws.{short-le, le-within, held-allowed, Follows, legal-follows}
+use Rattle.format.proofs.RuleLaws.{short-le, le-in-limits, held-is-held, Follows, legal-follows}
 
 -- the cursor after a step of k bytes
 abbrev next : Cursor → ℕ → ℕ → ℕ → Cursor
@@ -39,7 +39,7 @@ record Reaches (b : List ℕ) (c : Cursor) (t l : ℕ) (xs : List ℕ) : Type 0 
 after : (b : List ℕ) (i : ℕ) (m : Command) (xs : List ℕ) → drop i b ≡ commandOnto m xs → drop (i + sizeOf m) b ≡ xs
 after b i m xs e = sym (drop-drop (sizeOf m) i b) ∙ ap (drop (sizeOf m)) e ∙ command-rest m xs
 
-module _ (b : List ℕ) (c : Cursor) (t l : ℕ) (xs : List ℕ) (rise : c .tick < t) (long : t - c .tick ≤ 1048575) (small : l ≤ 65535) (ok : within (c .first) t l ≡ true) (room : c .count < 4096) where
+module _ (b : List ℕ) (c : Cursor) (t l : ℕ) (xs : List ℕ) (rise : c .tick < t) (long : t - c .tick ≤ 1048575) (small : l ≤ 65535) (ok : inLimits (c .first) t l ≡ true) (room : c .count < 4096) where
   reaches-short : short (c .level) (t - c .tick) l ≡ true → drop (c .at) b ≡ commandOnto (Short (t - c .tick) (l + 128 - c .level)) xs → Reaches b c t l xs
   unfolding shortStep
   reaches-short s e =
@@ -86,7 +86,7 @@ module _ (b : List ℕ) where
   steps-read (suc n) c (t ∷ ts) [] begun f h m e = absurd f
   steps-read (suc n) c (t ∷ ts) (v ∷ vs) begun f h m e =
       let s : level v ≤ 65535 = level-short v (f .3) in
-      let r = reaches b c t (level v) _ (f .0) (omega arith) s (le-within (c .first) t (level v) (f .1) (f .2) s) (omega arith) e in
+      let r = reaches b c t (level v) _ (f .0) (omega arith) s (le-in-limits (c .first) t (level v) (f .1) (f .2) s) (omega arith) e in
       let x : c .count + suc (length ts) ≡ c .count + 1 + length ts = omega arith in
       let d : Cursor = next c (r .size) t (level v) in
       let ih : steps b n d ≡ samples ts vs = steps-read n d ts vs (omega arith) (f .4) (omega arith) (omega arith) (r .rest ∙ ap (λ (m : ℕ). stepsOnto t (level v) ts vs (commandOnto (End m) [])) x) in
@@ -108,7 +108,7 @@ module _ (r : Ratio) (t : ℕ) (ts : List ℕ) (v : ℤ) (vs : List ℤ) (h : Le
       let e₂ : drop 16 b ≡ xs = sym (drop-drop 7 9 b) ∙ ap (drop 7) e₁ ∙ command-rest (First t (level v)) xs in
       let s : steps b 4096 c ≡ samples ts vs =
       steps-read b 4096 c ts vs (omega arith) (legal-follows h) (omega (arith, h .trace .few)) (omega (arith, h .trace .few)) (e₂ ∙ ap (λ (m : ℕ). stepsOnto t (level v) ts vs (commandOnto (End m) [])) (sym y)) in
-      rw (command-read ys (Tolerance r) (omega (arith, h .held)), held-allowed r (h .held), e₁, command-read xs (First t (level v)) (omega arith), s, value-level v (h .value-range 0))
+      rw (command-read ys (Tolerance r) (omega (arith, h .held)), held-is-held r (h .held), e₁, command-read xs (First t (level v)) (omega arith), s, value-level v (h .value-range 0))
 
 -- a record has at least its tolerance's bytes
 pub record-long : (x : Content) → 9 ≤ length (encode x)

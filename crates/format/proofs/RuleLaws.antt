@@ -17,17 +17,17 @@ use Rattle.ratio.specs.Gcd.{gcd}
 use Rattle.tolerance.specs.Meaning.{Held}
 use Rattle.trace.specs.Trace.{tick, value, Rising}
 use Rattle.trace.proofs.Ticks.{not-earlier}
-use Rattle.format.specs.Format.{Legal, allowed, within, short}
+use Rattle.format.specs.Format.{Legal, isHeld, inLimits, short}
 
 -- ---- tests
 
-pub within-le : (first t l : ℕ) → within first t l ≡ true → (t ≤ 4294967295) × (t ≤ first + 1048575) × (l ≤ 65535)
-within-le first t l e =
+pub in-limits-le : (first t l : ℕ) → inLimits first t l ≡ true → (t ≤ 4294967295) × (t ≤ first + 1048575) × (l ≤ 65535)
+in-limits-le first t l e =
     let f = and-first (leb t 4294967295 && leb t (first + 1048575)) (leb l 65535) e in
     (leb-true _ _ (and-first (leb t 4294967295) _ f), leb-true _ _ (and-second (leb t 4294967295) _ f), leb-true _ _ (and-second (leb t 4294967295 && leb t (first + 1048575)) (leb l 65535) e))
 
-pub le-within : (first t l : ℕ) → t ≤ 4294967295 → t ≤ first + 1048575 → l ≤ 65535 → within first t l ≡ true
-le-within first t l a b c = rw (le-leb _ _ a, le-leb _ _ b, le-leb _ _ c)
+pub le-in-limits : (first t l : ℕ) → t ≤ 4294967295 → t ≤ first + 1048575 → l ≤ 65535 → inLimits first t l ≡ true
+le-in-limits first t l a b c = rw (le-leb _ _ a, le-leb _ _ b, le-leb _ _ c)
 
 pub short-le : (level a next : ℕ) → short level a next ≡ true → (a ≤ 255) × (level ≤ next + 128) × (next ≤ level + 127)
 short-le level a next e =
@@ -35,9 +35,9 @@ short-le level a next e =
     (leb-true _ _ (and-first (leb a 255) _ f), leb-true _ _ (and-second (leb a 255) _ f), leb-true _ _ (and-second (leb a 255 && leb level (next + 128)) (leb next (level + 127)) e))
 
 module _ (r : Ratio) where
-  pub allowed-held : allowed r ≡ true → Held r
-  unfolding allowed
-  allowed-held e =
+  pub is-held-true : isHeld r ≡ true → Held r
+  unfolding isHeld
+  is-held-true e =
       let f = and-first (leb 1 (r .q) && leb (r .q) 1048575 && leb (r .p) (65535 * r .q)) (eqb (gcd (r .p) (r .q)) 1) e in
       let g = and-first (leb 1 (r .q) && leb (r .q) 1048575) (leb (r .p) (65535 * r .q)) f in
       record {
@@ -47,9 +47,9 @@ module _ (r : Ratio) where
         coprime = eqb-true _ _ (and-second (leb 1 (r .q) && leb (r .q) 1048575 && leb (r .p) (65535 * r .q)) _ e);
       }
 
-  pub held-allowed : Held r → allowed r ≡ true
-  unfolding allowed
-  held-allowed h = rw (le-leb _ _ (h .positive), le-leb _ _ (h .q-bound), le-leb _ _ (h .p-bound), eq-eqb _ _ (h .coprime))
+  pub held-is-held : Held r → isHeld r ≡ true
+  unfolding isHeld
+  held-is-held h = rw (le-leb _ _ (h .positive), le-leb _ _ (h .q-bound), le-leb _ _ (h .p-bound), eq-eqb _ _ (h .coprime))
 
 -- ---- samples
 

@@ -1,6 +1,8 @@
 -- The commands of a record (document 01, "The record", the table of commands).
 --   sizeOf        the bytes of a command
 --   commandOnto   a command as it is written, before other bytes
+--   choose        one of two, by a test
+--   opens         bytes start with a whole command of a kind
 --   commandOf     the command that bytes start with: Invalid if it is cut off or none of the table's
 --   Operands      the ranges of a command's operands
 -- Laws are in CommandLaws. Assumes nothing.

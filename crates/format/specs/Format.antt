@@ -1,16 +1,27 @@
 -- The format of a record (document 01, "The record"): what a record says, and the record that says it.
---   Content, Legal        a tolerance and samples; what can be said
---   allowed, within, short  the rules
---   shortStep, longStep, endStep   what each command after the first sample does; stepOf: the one at a cursor
---   headerOf              the tolerance and the first sample, or the fault's byte
---   Samples, steps        the samples that the commands from a cursor on give, or the fault's byte
---   Parsed, parse         what a record says, or the fault's byte
---   encode                the record of a content
---   Accepted              what holds of an accepted record and its content
---   SameRecord            two records are the same: their kept samples agree, tolerance disregarded
+--   Content, Legal                   a tolerance and samples; what can be said
+--   isHeld                           a tolerance is allowed, and in lowest terms
+--   inLimits, short                  a sample is within the limits of a trace; a step is short
+--   follows                          a sample may follow the one at a cursor
+--   shortObeys, longObeys            a short and a long step obey the rules
+--   moved                            where a step leads, or its fault
+--   shortStep, longStep, endStep     what each command after the first sample does
+--   obey, stepOf                     what a command does at a cursor; the command there
+--   Samples                          samples, or the fault's byte
+--   onto, follow                     a sample before others; a step, and the samples after it
+--   steps, samplesFrom               the samples that the commands from a cursor on give; with the cursor's own before them
+--   sampleHeader, toleranceHeader    the first sample's command after a tolerance; the tolerance's command, and then that one
+--   headerOf                         the tolerance and the first sample of a record, or the fault's byte
+--   Parsed                           what a record says, or the fault's byte
+--   attach, began                    what samples say with a tolerance; what a record says from its header on
+--   parse                            what a record says
+--   stepTo, stepsOnto, samplesOnto   a step as a command; steps as they are written, before other bytes; all samples' commands
+--   encode                           the record of a content
+--   Accepted                         what holds of an accepted record and its content
+--   SameRecord                       two records are the same: their kept samples agree, tolerance disregarded
 -- A fault lies at the first byte of the first command that breaks a rule or is cut off, at the first byte after a whole end command, or at
 -- the record's end where a command is missing.
--- Laws are in ParseEncode, EncodeParse and SameLaws; examples are in proofs/Examples. Assumes nothing.
+-- Laws are in RuleLaws, ParseEncode, EncodeParse and SameLaws; examples are in proofs/Examples. Assumes nothing.
 use mathlib.Core.Path.{_≡_}
 use mathlib.Core.Bool.{Bool, not, _&&_}
 use mathlib.Core.List.{List, [], _∷_}
@@ -50,12 +61,13 @@ pub record Legal (x : Content) : Type 0 where
 
 -- ---- the rules
 
-unfoldable pub allowed : Ratio → Bool
-allowed r = leb 1 (r .q) && leb (r .q) 1048575 && leb (r .p) (65535 * r .q) && eqb (gcd (r .p) (r .q)) 1
+-- a tolerance as it is held (tolerance: specs/Meaning, `Held`)
+unfoldable pub isHeld : Ratio → Bool
+isHeld r = leb 1 (r .q) && leb (r .q) 1048575 && leb (r .p) (65535 * r .q) && eqb (gcd (r .p) (r .q)) 1
 
 -- a sample after the first one's tick: the tick is 32 bits, the span at most 1,048,575, the value 16 bits
-abbrev pub within : ℕ → ℕ → ℕ → Bool
-within first tick level = leb tick 4294967295 && leb tick (first + 1048575) && leb level 65535
+abbrev pub inLimits : ℕ → ℕ → ℕ → Bool
+inLimits first tick level = leb tick 4294967295 && leb tick (first + 1048575) && leb level 65535
 
 -- a step from one level to the next is short: an advance of at most 255, and a change from -128 to 127
 abbrev pub short : ℕ → ℕ → ℕ → Bool
@@ -65,21 +77,26 @@ short level advance next = leb advance 255 && leb level (next + 128) && leb next
 
 -- the sample that a step leads to may follow
 abbrev pub follows : Cursor → ℕ → ℕ → Bool
-follows c tick level = within (c .first) tick level && ltb (c .count) 4096
+follows c tick level = inLimits (c .first) tick level && ltb (c .count) 4096
 
 -- a step of k bytes to the next sample, if it obeys the rules
 abbrev pub moved : Bool → ℕ → Cursor → ℕ → ℕ → Step
 moved ok k c tick level =
     choose ok (Sample (record { at = c .at + k; first = c .first; tick = tick; level = level; count = c .count + 1 })) (Fault (c .at))
 
--- a short step: an advance from 1, and a change of d - 128
-unfoldable pub shortStep : Cursor → ℕ → ℕ → Step
-shortStep c a d =
-    moved (leb 1 a && leb 128 (c .level + d) && follows c (c .tick + a) (c .level + d - 128)) 3 c (c .tick + a) (c .level + d - 128)
+-- a short step obeys the rules: an advance from 1, and a change of d - 128
+abbrev pub shortObeys : Cursor → ℕ → ℕ → Bool
+shortObeys c a d = leb 1 a && leb 128 (c .level + d) && follows c (c .tick + a) (c .level + d - 128)
 
--- a long step, which no short one could take the place of
+-- a long step obeys them: an advance from 1, and no short step could take its place
+abbrev pub longObeys : Cursor → ℕ → ℕ → Bool
+longObeys c a level = leb 1 a && not (short (c .level) a level) && follows c (c .tick + a) level
+
+unfoldable pub shortStep : Cursor → ℕ → ℕ → Step
+shortStep c a d = moved (shortObeys c a d) 3 c (c .tick + a) (c .level + d - 128)
+
 unfoldable pub longStep : Cursor → ℕ → ℕ → Step
-longStep c a level = moved (leb 1 a && not (short (c .level) a level) && follows c (c .tick + a) level) 6 c (c .tick + a) level
+longStep c a level = moved (longObeys c a level) 6 c (c .tick + a) level
 
 -- the end of a record of n bytes: it gives the number of samples, and nothing follows
 unfoldable pub endStep : ℕ → Cursor → ℕ → Step
@@ -131,16 +148,16 @@ sampleHeader r (Long _ _) = NoHeader 9
 sampleHeader r (End _) = NoHeader 9
 sampleHeader r Invalid = NoHeader 9
 
-abbrev pub toleranceOf : Command → Command → Header
-toleranceOf (Tolerance r) m = choose (allowed r) (sampleHeader r m) (NoHeader 0)
-toleranceOf (First _ _) m = NoHeader 0
-toleranceOf (Short _ _) m = NoHeader 0
-toleranceOf (Long _ _) m = NoHeader 0
-toleranceOf (End _) m = NoHeader 0
-toleranceOf Invalid m = NoHeader 0
+abbrev pub toleranceHeader : Command → Command → Header
+toleranceHeader (Tolerance r) m = choose (isHeld r) (sampleHeader r m) (NoHeader 0)
+toleranceHeader (First _ _) m = NoHeader 0
+toleranceHeader (Short _ _) m = NoHeader 0
+toleranceHeader (Long _ _) m = NoHeader 0
+toleranceHeader (End _) m = NoHeader 0
+toleranceHeader Invalid m = NoHeader 0
 
 abbrev pub headerOf : List ℕ → Header
-headerOf b = toleranceOf (commandOf b) (commandOf (drop 9 b))
+headerOf b = toleranceHeader (commandOf b) (commandOf (drop 9 b))
 
 pub data Parsed : Type 0 where
   faulty : ℕ → Parsed

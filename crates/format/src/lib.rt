@@ -1,7 +1,8 @@
-// The record of a reduced trace (document 01, "The record"): the types of its format, and the rule that reader and writer share. specs/ holds
-// the format itself, and proofs/ its laws.
+// The record of a reduced trace (document 01, "The record"): the types of its format, and what reader and writer share. specs/ holds the
+// format itself, and proofs/ its laws.
 ghost use mathlib.Core.Path.{_≡_};
-ghost use Prim.Native.Nat.{_≤_};
+ghost use Prim.Native.Nat.{_≤_, _<_};
+ghost use Rattle.format.specs.Number.{flip16 as flip16Of, flip8 as flip8Of};
 ghost use Rattle.format.specs.Format.{short};
 use ratio::Ratio;
 
@@ -40,6 +41,22 @@ pub enum Step {
 pub enum Header {
     Start(Ratio, Cursor),
     Fault(usize),
+}
+
+// Offset binary to two's complement, of 16 bits; and back.
+pub fn flip16(x: u64) -> u64
+    requires { ⌜ x < 65536 ⌝ }
+    ensures { λ r. ⌜ r ≡ flip16Of x ⌝ }
+{
+    (x + 32768) % 65536
+}
+
+// The same of 8 bits.
+pub fn flip8(x: u64) -> u64
+    requires { ⌜ x < 256 ⌝ }
+    ensures { λ r. ⌜ r ≡ flip8Of x ⌝ }
+{
+    (x + 128) % 256
 }
 
 // Whether a step from one level to the next is a short one.

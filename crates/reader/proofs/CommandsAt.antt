@@ -22,8 +22,8 @@ use Rattle.format.specs.declared.Step.the-variants.{Sample, End as Ended, Fault
 use Rattle.format.specs.declared.Header.the-variants.{Fault as NoHeader}
 use Rattle.format.specs.Number.{field, flip16, flip8}
 use Rattle.format.specs.Command.{choose, opens, commandOf}
-use Rattle.format.specs.Format.{allowed, moved, shortStep, longStep, endStep, obey, stepOf, sampleHeader, toleranceOf, headerOf}
-use Rattle.reader.specs.Reading.{shortObeys, longObeys, isSample}
+use Rattle.format.specs.Format.{isHeld, moved, shortObeys, longObeys, shortStep, longStep, endStep, obey, stepOf, sampleHeader, toleranceHeader, headerOf}
+use Rattle.reader.specs.Reading.{isSample}
 
 -- ---- the command
 
@@ -66,11 +66,11 @@ module _ (s : List ℕ) where
   unfolding commandOf
   tolerance-is e h = rw (e, le-leb 9 (length s) h)
 
-  pub no-tolerance : opens 0x54 9 s ≡ false → (m : Command) → toleranceOf (commandOf s) m ≡ NoHeader 0
+  pub no-tolerance : opens 0x54 9 s ≡ false → (m : Command) → toleranceHeader (commandOf s) m ≡ NoHeader 0
   unfolding commandOf
   no-tolerance e m = rw e (go (opens 0x41 7 s) (opens 0x53 3 s) (opens 0x4C 6 s) (opens 0x45 3 s))
     where
-      go : (f h l n : Bool) → toleranceOf (choose f (First (field s 1 4) (flip16 (field s 5 2))) (choose h (Short (field s 1 1) (flip8 (field s 2 1)))
+      go : (f h l n : Bool) → toleranceHeader (choose f (First (field s 1 4) (flip16 (field s 5 2))) (choose h (Short (field s 1 1) (flip8 (field s 2 1)))
           (choose l (Long (field s 1 3) (flip16 (field s 4 2))) (choose n (End (field s 1 2)) Invalid)))) m ≡ NoHeader 0
       go true h l n = refl
       go false true l n = refl
@@ -79,8 +79,8 @@ module _ (s : List ℕ) where
       go false false false false = refl
 
   -- the tolerance is there
-  pub tolerance-header : getD s 0 0 ≡ 0x54 → 9 ≤ length s → headerOf s ≡ (let r : Ratio = record { p = field s 1 5; q = field s 6 3 } in choose (allowed r) (sampleHeader r (commandOf (drop 9 s))) (NoHeader 0))
-  tolerance-header e h = ap (λ (m : Command). toleranceOf m (commandOf (drop 9 s))) (tolerance-is e h)
+  pub tolerance-header : getD s 0 0 ≡ 0x54 → 9 ≤ length s → headerOf s ≡ (let r : Ratio = record { p = field s 1 5; q = field s 6 3 } in choose (isHeld r) (sampleHeader r (commandOf (drop 9 s))) (NoHeader 0))
+  tolerance-header e h = ap (λ (m : Command). toleranceHeader m (commandOf (drop 9 s))) (tolerance-is e h)
 
   pub no-first : opens 0x41 7 s ≡ false → (r : Ratio) → sampleHeader r (commandOf s) ≡ NoHeader 9
   unfolding commandOf

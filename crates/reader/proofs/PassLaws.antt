@@ -1,7 +1,7 @@
 -- What a pass over the steps of a record has come to at each cursor: the samples before the cursor's are passed, and with those to come they
 -- are the whole.
 --   Passed     the samples w, v are passed
---   Filling    and are written over two lent lists
+--   Copying    and are written over two lent lists
 -- Assumes nothing.
 use mathlib.Core.Path.{_≡_, refl, sym, ap, _∙_, subst}
 use mathlib.Core.Bool.{true, false}
@@ -19,10 +19,10 @@ use Rattle.format.specs.declared.Step.{Step}
 use Rattle.format.specs.declared.Step.the-variants.{Sample, End as Ended, Fault}
 use Rattle.format.specs.Number.{Bytes, valueOf}
 use Rattle.format.specs.Format.{stepOf, Samples, fault, samples, onto, steps, samplesFrom, attach}
-use Rattle.format.proofs.RuleLaws.{within-le}
+use Rattle.format.proofs.RuleLaws.{in-limits-le}
 use Rattle.format.proofs.EncodeParse.{stepped}
 use Rattle.reader.specs.declared.Verdict.the-variants.{Samples as Gives}
-use Rattle.reader.specs.Reading.{recordVerdict, isSample, closedBy, Ready, Begun, Entry, Fitting, Filled}
+use Rattle.reader.specs.Reading.{recordVerdict, isSample, closedBy, CursorOk, AfterFirst, Entry, Fitting, Filled}
 
 -- samples before the others
 abbrev prepend : List ℕ → List ℤ → Samples → Samples
@@ -38,13 +38,13 @@ prepend-onto w v c (fault k) = refl
 prepend-onto w v c (samples ts vs) = rw (append-assoc w (c .tick ∷ []) ts, append-assoc v (valueOf (c .level) ∷ []) vs)
 
 pub record Passed (b : List ℕ) (start c : Cursor) (w : List ℕ) (v : List ℤ) : Type 0 where
-  pub ready : Ready (length b) c
+  pub ready : CursorOk (length b) c
   pub ticks : length w + 1 ≡ c .count
   pub values : length v + 1 ≡ c .count
   pub all : samplesFrom b start ≡ prepend w v (onto c (steps b (4097 - c .count) c))
 
 module _ {b : List ℕ} {start : Cursor} where
-  pub begins : Begun (length b) start → Passed b start start [] []
+  pub begins : AfterFirst (length b) start → Passed b start start [] []
   begins h =
       let n : 4097 - start .count ≡ 4096 = omega (arith, h .one) in
       record { ready = h .ready; ticks = sym (h .one); values = sym (h .one); all = rw n (sym (prepend-none (samplesFrom b start))) }
@@ -60,7 +60,7 @@ module _ {b : List ℕ} {start : Cursor} where
     unfolding steps
     goes-on {d} by e =
         let s = stepped b c d by e in
-        let l = within-le (c .first) (d .tick) (d .level) (s .ok) in
+        let l = in-limits-le (c .first) (d .tick) (d .level) (s .ok) in
         let n : 4096 - c .count ≡ 4097 - d .count = omega (arith, s .count) in
         let f : steps b (4097 - c .count) c ≡ onto d (steps b (4097 - d .count) d) = rw (more, e, n) in
         record {
@@ -94,9 +94,9 @@ module _ {b : List ℕ} {start : Cursor} where
         go Ended e = rw (ends e) (ap (λ (n : ℕ). Gives n r) (sym counts))
         go (Fault k) e = rw (faults e)
 
--- ---- filling
+-- ---- copying
 
-pub record Filling (b : List ℕ) (start : Cursor) (n : ℕ) (o : List ℕ) (u : List ℤ) (ts : List ℕ) (vs : List ℤ) (c : Cursor) (w : List ℕ) (v : List ℤ) : Type 0 where
+pub record Copying (b : List ℕ) (start : Cursor) (n : ℕ) (o : List ℕ) (u : List ℤ) (ts : List ℕ) (vs : List ℤ) (c : Cursor) (w : List ℕ) (v : List ℤ) : Type 0 where
   pub passed : Passed b start c w v
   pub fitting : Fitting (samplesFrom b start) n (length o) (length u)
   pub ticks : ts ≡ overwrite w o
@@ -109,10 +109,10 @@ fitting-more w v c (samples ts vs) n k m f =
     (omega (arith, f .0), f .1, f .2)
 
 module _ {b : List ℕ} {start : Cursor} {n : ℕ} {o : List ℕ} {u : List ℤ} where
-  pub filling-begins : Begun (length b) start → Fitting (samplesFrom b start) n (length o) (length u) → Filling b start n o u o u start [] []
-  filling-begins h f = record { passed = begins h; fitting = f; ticks = refl; values = refl }
+  pub copying-begins : AfterFirst (length b) start → Fitting (samplesFrom b start) n (length o) (length u) → Copying b start n o u o u start [] []
+  copying-begins h f = record { passed = begins h; fitting = f; ticks = refl; values = refl }
 
-  module _ {ts : List ℕ} {vs : List ℤ} {c : Cursor} {w : List ℕ} {v : List ℤ} (f : Filling b start n o u ts vs c w v) where
+  module _ {ts : List ℕ} {vs : List ℤ} {c : Cursor} {w : List ℕ} {v : List ℤ} (f : Copying b start n o u ts vs c w v) where
     -- the samples passed and the one at the cursor are among the n
     among : {w′ : List ℕ} {v′ : List ℤ} {d : Cursor} → Passed b start d w′ v′ → (length w′ < n) × (n ≤ length o) × (n ≤ length u)
     among {w′} {v′} {d} p = fitting-more w′ v′ d (steps b (4097 - d .count) d) n (length o) (length u) (subst (λ (s : Samples). Fitting s n (length o) (length u)) (p .all) (f .fitting))
@@ -158,7 +158,7 @@ module _ {b : List ℕ} {start : Cursor} {n : ℕ} {o : List ℕ} {u : List ℤ}
             ap length (stored .1) ∙ overwrite-length (v ++ (valueOf (c .level) ∷ [])) u (omega (arith, m, room .1, p .ticks, p .values)),
           )
 
-      pub fills : {d : Cursor} → Bytes b → stepOf b c ≡ Sample d → Filling b start n o u ts′ vs′ d (w ++ (c .tick ∷ [])) (v ++ (valueOf (c .level) ∷ []))
+      pub fills : {d : Cursor} → Bytes b → stepOf b c ≡ Sample d → Copying b start n o u ts′ vs′ d (w ++ (c .tick ∷ [])) (v ++ (valueOf (c .level) ∷ []))
       fills by e = record { passed = goes-on (f .passed) by e; fitting = f .fitting; ticks = stored .0; values = stored .1 }
 
     not-faulty : {k : ℕ} → stepOf b c ≡ Fault k → ⊥

@@ -24,13 +24,13 @@ use Rattle.format.specs.declared.Header.{Header}
 use Rattle.format.specs.declared.Header.the-variants.{Start, Fault as NoHeader}
 use Rattle.format.specs.Number.{Bytes}
 use Rattle.format.specs.Command.{choose, commandOf}
-use Rattle.format.specs.Format.{SameRecord, allowed, Samples, fault, samples, samplesFrom, sampleHeader, toleranceOf, headerOf, Parsed, faulty, says, attach, began, parse}
+use Rattle.format.specs.Format.{SameRecord, isHeld, Samples, fault, samples, samplesFrom, sampleHeader, toleranceHeader, headerOf, Parsed, faulty, says, attach, began, parse}
 use Rattle.format.proofs.NumberLaws.{bytes-drop}
 use Rattle.format.proofs.CommandLaws.{Starts, Read, read}
 use Rattle.format.proofs.ParseEncode.{record-long}
 use Rattle.format.proofs.EncodeParse.{encode-parse}
 use Rattle.format.proofs.SameLaws.{same-tails}
-use Rattle.reader.specs.Reading.{readRows, sameRows, Said, CheckOutcome, ReadBack, Compared, recordVerdict, Begun, Fitting, Filled}
+use Rattle.reader.specs.Reading.{readRows, sameRows, Said, CheckOutcome, ReadBack, Compared, recordVerdict, AfterFirst, Fitting, Filled}
 use Rattle.reader.specs.declared.Verdict.{Verdict}
 
 -- ---- the header
@@ -43,41 +43,41 @@ pub parse-fault : (b : List ℕ) {k : ℕ} → headerOf b ≡ NoHeader k → par
 unfolding parse
 parse-fault b e = ap (began b) e
 
-BegunBy : ℕ → Header → Type 0
-BegunBy n (Start r c) = Begun n c
-BegunBy n (NoHeader k) = Unit {0}
+AfterFirstBy : ℕ → Header → Type 0
+AfterFirstBy n (Start r c) = AfterFirst n c
+AfterFirstBy n (NoHeader k) = Unit {0}
 
-begun-first : (b : List ℕ) (r : Ratio) → Starts b (Tolerance r) → (m : Command) → Read (drop 9 b) m → BegunBy (length b) (sampleHeader r m)
-unfolding BegunBy
-begun-first b r v (First t l) w =
+after-first-sample : (b : List ℕ) (r : Ratio) → Starts b (Tolerance r) → (m : Command) → Read (drop 9 b) m → AfterFirstBy (length b) (sampleHeader r m)
+unfolding AfterFirstBy
+after-first-sample b r v (First t l) w =
     let o = w .operands in
     record {
       ready = record { at = omega (arith, v .whole, w .whole, length-drop 9 b); begun = omega arith; tick = o .0; level = o .1; count = omega arith };
       one = refl;
     }
-begun-first b r v (Tolerance r′) w = tt
-begun-first b r v (Short a d) w = tt
-begun-first b r v (Long a l) w = tt
-begun-first b r v (End m) w = tt
-begun-first b r v Invalid w = tt
+after-first-sample b r v (Tolerance r′) w = tt
+after-first-sample b r v (Short a d) w = tt
+after-first-sample b r v (Long a l) w = tt
+after-first-sample b r v (End m) w = tt
+after-first-sample b r v Invalid w = tt
 
-begun : {b : List ℕ} → Bytes b → (m : Command) → Read b m → BegunBy (length b) (toleranceOf m (commandOf (drop 9 b)))
-unfolding BegunBy
-begun {b} by (Tolerance r) v = go (allowed r)
+after-first : {b : List ℕ} → Bytes b → (m : Command) → Read b m → AfterFirstBy (length b) (toleranceHeader m (commandOf (drop 9 b)))
+unfolding AfterFirstBy
+after-first {b} by (Tolerance r) v = go (isHeld r)
   where
-    go : (a : Bool) → BegunBy (length b) (choose a (sampleHeader r (commandOf (drop 9 b))) (NoHeader 0))
-    go true = begun-first b r v (commandOf (drop 9 b)) (read (bytes-drop 9 by))
+    go : (a : Bool) → AfterFirstBy (length b) (choose a (sampleHeader r (commandOf (drop 9 b))) (NoHeader 0))
+    go true = after-first-sample b r v (commandOf (drop 9 b)) (read (bytes-drop 9 by))
     go false = tt
-begun by (First t l) v = tt
-begun by (Short a d) v = tt
-begun by (Long a l) v = tt
-begun by (End m) v = tt
-begun by Invalid v = tt
+after-first by (First t l) v = tt
+after-first by (Short a d) v = tt
+after-first by (Long a l) v = tt
+after-first by (End m) v = tt
+after-first by Invalid v = tt
 
 -- the cursor after the first sample
-pub header-begun : {b : List ℕ} → Bytes b → {r : Ratio} {c : Cursor} → headerOf b ≡ Start r c → Begun (length b) c
-unfolding BegunBy
-header-begun {b} by e = subst (BegunBy (length b)) e (begun by (commandOf b) (read by))
+pub header-after-first : {b : List ℕ} → Bytes b → {r : Ratio} {c : Cursor} → headerOf b ≡ Start r c → AfterFirst (length b) c
+unfolding AfterFirstBy
+header-after-first {b} by e = subst (AfterFirstBy (length b)) e (after-first by (commandOf b) (read by))
 
 -- ---- check
 

@@ -3,16 +3,16 @@
 --   readRows, sameRows                       the first row that applies
 --   Said, ReadBack, ReadDeclined, Compared   what holds of each answer
 --   CheckOutcome, ReadOutcome, SameOutcome   what is answered, and what lent lists then hold
---   recordVerdict                                a record's verdict
---   shortObeys, longObeys, isSample          the rules for a step; a step that leads to a sample
+--   recordVerdict                            a record's verdict
+--   isSample                                 a step leads to a sample
 --   closedBy                                 the verdict after the last sample
---   Ready, Begun                             a cursor within a record; one after the first sample
+--   CursorOk, AfterFirst                     a cursor within a record; one after the first sample
 --   Entry, Fitting, Filled                   lists with an entry for a sample; for all samples; samples written over them
--- Assumes nothing.
+-- Laws are in ReadingLaws, PassLaws and CommandsAt. Assumes nothing.
 use mathlib.Core.Path.{_≡_}
-use mathlib.Core.Bool.{Bool, true, false, not, _&&_}
+use mathlib.Core.Bool.{Bool, true, false, _&&_}
 use mathlib.Core.List.{List}
-use Prim.Native.Nat.{ℕ, _+_, _-_, _≤_}
+use Prim.Native.Nat.{ℕ, _≤_}
 use lib.Dec.{leb}
 use lib.IntN.{ℤ}
 use lib.ListN.{length}
@@ -26,7 +26,7 @@ use Rattle.refusal.specs.Table.{row, _thenCheck_}
 use Rattle.format.specs.declared.Cursor.{Cursor}
 use Rattle.format.specs.declared.Step.{Step}
 use Rattle.format.specs.declared.Step.the-variants.{Sample, End as Ended, Fault as Faulty}
-use Rattle.format.specs.Format.{Content, short, follows, Samples, fault, samples, Parsed, faulty, says, parse, Accepted, SameRecord}
+use Rattle.format.specs.Format.{Content, Samples, fault, samples, Parsed, faulty, says, parse, Accepted, SameRecord}
 use Rattle.reader.specs.declared.Verdict.{Verdict}
 use Rattle.reader.specs.declared.Verdict.the-variants.{Samples as Gives, Fault}
 use Rattle.reader.specs.declared.Answer.{Answer}
@@ -103,13 +103,6 @@ abbrev pub recordVerdict : Parsed → Verdict
 recordVerdict (faulty k) = Fault k
 recordVerdict (says x) = Gives (length (x .ticks)) (x .tolerance)
 
--- a short step and a long one obey the rules (format: specs/Format, shortStep and longStep)
-abbrev pub shortObeys : Cursor → ℕ → ℕ → Bool
-shortObeys c a d = leb 1 a && leb 128 (c .level + d) && follows c (c .tick + a) (c .level + d - 128)
-
-abbrev pub longObeys : Cursor → ℕ → ℕ → Bool
-longObeys c a level = leb 1 a && not (short (c .level) a level) && follows c (c .tick + a) level
-
 -- a step leads to a sample
 abbrev pub isSample : Step → Bool
 isSample (Sample d) = true
@@ -123,15 +116,16 @@ closedBy r c Ended = Gives (c .count) r
 closedBy r c (Faulty k) = Fault k
 
 -- a cursor within a record of n bytes
-pub record Ready (n : ℕ) (c : Cursor) : Type 0 where
+pub record CursorOk (n : ℕ) (c : Cursor) : Type 0 where
   pub at : c .at ≤ n
   pub begun : c .first ≤ c .tick
   pub tick : c .tick ≤ 4294967295
   pub level : c .level ≤ 65535
   pub count : c .count ≤ 4096
 
-pub record Begun (n : ℕ) (c : Cursor) : Type 0 where
-  pub ready : Ready n c
+-- and after its first sample
+pub record AfterFirst (n : ℕ) (c : Cursor) : Type 0 where
+  pub ready : CursorOk n c
   pub one : c .count ≡ 1
 
 -- lists of m and n entries have one for the sample at the cursor

@@ -3,16 +3,16 @@ ghost use mathlib.Core.Path.{_≡_};
 ghost use Prim.Native.Nat.{_≤_};
 ghost use lib.ListN.{length, drop};
 ghost use Rattle.format.specs.Command.{commandOf};
-ghost use Rattle.format.specs.Format.{allowed, sampleHeader, headerOf};
+ghost use Rattle.format.specs.Format.{isHeld, sampleHeader, headerOf};
 use crate::numbers::field;
-use crate::numbers::flip16;
 use format::Cursor;
 use format::Header;
+use format::flip16;
 use ratio::Ratio;
 
-// Whether a tolerance is allowed, and reduced.
-fn is_allowed(r: Ratio) -> bool
-    ensures { λ b. ⌜ b ≡ allowed r ⌝ }
+// Whether a tolerance is one that is held: allowed, and in lowest terms.
+fn is_held(r: Ratio) -> bool
+    ensures { λ b. ⌜ b ≡ isHeld r ⌝ }
 {
     let p = r.p;
     let q = r.q;
@@ -69,7 +69,7 @@ pub fn read_header(bytes: &[u8]) -> Header
         p: field(bytes, 1, 5),
         q: field(bytes, 6, 3),
     };
-    if is_allowed(r) {
+    if is_held(r) {
         read_first(bytes, r)
     } else {
         Header::Fault(0)

@@ -100,18 +100,20 @@ pub fn same(a: &[u8], b: &[u8]) -> Comparison
     ensures { λ r. ⌜ SameOutcome (now (a .entry)) (now (b .entry)) r ⌝ }
 {
     let x = check(a);
-    let y = check(b);
     match x {
-        Verdict::Samples(_, _) => match y {
-            Verdict::Samples(_, _) => {
-                if equal(&a[9..], &b[9..]) {
-                    Comparison::Same
-                } else {
-                    Comparison::Different
+        Verdict::Samples(_, _) => {
+            let y = check(b);
+            match y {
+                Verdict::Samples(_, _) => {
+                    if equal(&a[9..], &b[9..]) {
+                        Comparison::Same
+                    } else {
+                        Comparison::Different
+                    }
                 }
+                Verdict::Fault(k) => Comparison::Refused(Refusal::SecondRecord(k)),
             }
-            Verdict::Fault(k) => Comparison::Refused(Refusal::SecondRecord(k)),
-        },
+        }
         Verdict::Fault(k) => Comparison::Refused(Refusal::Record(k)),
     }
 }

@@ -2,7 +2,7 @@
 ghost use mathlib.Core.Path.{_≡_};
 ghost use Prim.Native.Nat.{_+_, _^_, _≤_, _<_};
 ghost use lib.ListN.{length};
-ghost use Rattle.format.specs.Number.{field as fieldOf, flip16 as flip16Of};
+ghost use Rattle.format.specs.Number.{field as fieldOf};
 
 fn wide(x: u8) -> u64
     ensures { λ r. ⌜ r ≡ x ⌝ }
@@ -23,12 +23,4 @@ pub fn field(s: &[u8], i: usize, k: usize) -> u64
         j += 1;
     }
     n
-}
-
-// Two's complement of 16 bits to offset binary.
-pub fn flip16(x: u64) -> u64
-    requires { ⌜ x < 65536 ⌝ }
-    ensures { λ r. ⌜ r ≡ flip16Of x ⌝ }
-{
-    (x + 32768) % 65536
 }

@@ -5,7 +5,7 @@ ghost use Prim.Native.Nat.{_-_, _≤_};
 ghost use lib.ListN.{length, set};
 ghost use Rattle.format.specs.Number.{valueOf};
 ghost use Rattle.format.specs.Format.{attach, samplesFrom, stepOf};
-ghost use Rattle.reader.specs.Reading.{recordVerdict, isSample, closedBy, Ready, Begun, Entry, Fitting, Filled};
+ghost use Rattle.reader.specs.Reading.{recordVerdict, isSample, closedBy, CursorOk, AfterFirst, Entry, Fitting, Filled};
 use crate::Verdict;
 use crate::numbers::field;
 use crate::steps::is_step;
@@ -15,7 +15,7 @@ use ratio::Ratio;
 
 // The verdict at a cursor that no sample follows: the end, or a fault.
 fn close(bytes: &[u8], r: Ratio, c: Cursor) -> Verdict
-    requires { ⌜ Ready (length (now bytes)) c × (isSample (stepOf (now bytes) c) ≡ false) ⌝ }
+    requires { ⌜ CursorOk (length (now bytes)) c × (isSample (stepOf (now bytes) c) ≡ false) ⌝ }
     ensures { λ v. ⌜ v ≡ closedBy r c (stepOf (now (bytes .entry)) c) ⌝ }
 {
     let at = c.at;
@@ -39,7 +39,7 @@ fn close(bytes: &[u8], r: Ratio, c: Cursor) -> Verdict
 
 // Counts the samples, from the cursor after the first one on.
 pub fn count_samples(bytes: &[u8], r: Ratio, start: Cursor) -> Verdict
-    requires { ⌜ Begun (length (now bytes)) start ⌝ }
+    requires { ⌜ AfterFirst (length (now bytes)) start ⌝ }
     ensures { λ v. ⌜ v ≡ recordVerdict (attach r (samplesFrom (now (bytes .entry)) start)) ⌝ }
 {
     let mut c = start;
@@ -71,7 +71,7 @@ fn put_sample(ticks: &mut [u32], values: &mut [i16], c: Cursor)
 
 // Writes the n samples of a record without fault, from the cursor after the first one on.
 pub fn fill(bytes: &[u8], start: Cursor, n: usize, ticks: &mut [u32], values: &mut [i16])
-    requires { ⌜ Begun (length (now bytes)) start × Fitting (samplesFrom (now bytes) start) n (length (now ticks)) (length (now values)) ⌝ }
+    requires { ⌜ AfterFirst (length (now bytes)) start × Fitting (samplesFrom (now bytes) start) n (length (now ticks)) (length (now values)) ⌝ }
     ensures { λ _. ⌜ Filled (samplesFrom (now (bytes .entry)) start) (now (ticks .entry)) (now (values .entry)) (now (ticks .exit)) (now (values .exit)) ⌝ }
 {
     let mut c = start;

@@ -4,15 +4,16 @@ ghost use mathlib.Core.Bool.{true};
 ghost use Prim.Native.Nat.{_≤_, _^_};
 ghost use lib.ListN.{length};
 ghost use Rattle.format.specs.declared.Step.the-variants.{Sample};
-ghost use Rattle.format.specs.Format.{follows as followsOf, stepOf};
-ghost use Rattle.reader.specs.Reading.{Ready, shortObeys, longObeys, isSample};
+ghost use Rattle.format.specs.Format.{follows as followsOf, shortObeys, longObeys, stepOf};
+ghost use Rattle.reader.specs.Reading.{CursorOk, isSample};
 use crate::numbers::field;
-use crate::numbers::flip16;
 use format::Cursor;
+use format::flip8;
+use format::flip16;
 
 // Whether a sample may follow.
 fn follows(c: Cursor, tick: u64, level: u64) -> bool
-    requires { ⌜ Ready (2 ^ 63) c ⌝ }
+    requires { ⌜ CursorOk (2 ^ 63) c ⌝ }
     ensures { λ r. ⌜ r ≡ followsOf c tick level ⌝ }
 {
     let first = c.first;
@@ -31,7 +32,7 @@ fn follows(c: Cursor, tick: u64, level: u64) -> bool
 
 // Whether a short step obeys the rules. The value changes by change - 128.
 fn short_obeys(c: Cursor, advance: u64, change: u64) -> bool
-    requires { ⌜ Ready (2 ^ 63) c × (advance ≤ 255) × (change ≤ 255) ⌝ }
+    requires { ⌜ CursorOk (2 ^ 63) c × (advance ≤ 255) × (change ≤ 255) ⌝ }
     ensures { λ r. ⌜ r ≡ shortObeys c advance change ⌝ }
 {
     if advance < 1 {
@@ -46,7 +47,7 @@ fn short_obeys(c: Cursor, advance: u64, change: u64) -> bool
 
 // Whether a long step obeys the rules.
 fn long_obeys(c: Cursor, advance: u64, level: u64) -> bool
-    requires { ⌜ Ready (2 ^ 63) c × (advance ≤ 16777215) × (level ≤ 65535) ⌝ }
+    requires { ⌜ CursorOk (2 ^ 63) c × (advance ≤ 16777215) × (level ≤ 65535) ⌝ }
     ensures { λ r. ⌜ r ≡ longObeys c advance level ⌝ }
 {
     if advance < 1 {
@@ -60,7 +61,7 @@ fn long_obeys(c: Cursor, advance: u64, level: u64) -> bool
 
 // Whether the command at the cursor leads to a sample.
 pub fn is_step(bytes: &[u8], c: Cursor) -> bool
-    requires { ⌜ Ready (length (now bytes)) c ⌝ }
+    requires { ⌜ CursorOk (length (now bytes)) c ⌝ }
     ensures { λ r. ⌜ r ≡ isSample (stepOf (now (bytes .entry)) c) ⌝ }
 {
     let at = c.at;
@@ -70,7 +71,7 @@ pub fn is_step(bytes: &[u8], c: Cursor) -> bool
     }
     let kind = bytes[at];
     if kind == 0x53 {
-        let change = (field(bytes, at + 2, 1) + 128) % 256;
+        let change = flip8(field(bytes, at + 2, 1));
         return short_obeys(c, field(bytes, at + 1, 1), change);
     }
     if kind != 0x4C {
@@ -84,13 +85,13 @@ pub fn is_step(bytes: &[u8], c: Cursor) -> bool
 
 // The sample to which the command at the cursor leads.
 pub fn next_sample(bytes: &[u8], c: Cursor) -> Cursor
-    requires { ⌜ Ready (length (now bytes)) c × (isSample (stepOf (now bytes) c) ≡ true) ⌝ }
+    requires { ⌜ CursorOk (length (now bytes)) c × (isSample (stepOf (now bytes) c) ≡ true) ⌝ }
     ensures { λ r. ⌜ stepOf (now (bytes .entry)) c ≡ Sample r ⌝ }
 {
     let at = c.at;
     let kind = bytes[at];
     if kind == 0x53 {
-        let change = (field(bytes, at + 2, 1) + 128) % 256;
+        let change = flip8(field(bytes, at + 2, 1));
         return Cursor {
             at: at + 3,
             first: c.first,

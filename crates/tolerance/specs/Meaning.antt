@@ -1,8 +1,11 @@
 -- Which tolerances are allowed, and the fraction in lowest terms that each means (document 01, "Tolerances").
---   inSteps   a float is from 0 to most, and k times it is whole
---   meaning   the held ratio of a tolerance, or that it is not allowed
---   Held      a ratio as a tolerance is held: allowed, and in lowest terms
---   stepsOf   the whole number of steps of a float
+--   notNegative   a float is a number, and not below zero
+--   inSteps       a float is from 0 to most, and k times it is whole
+--   held          a fraction in lowest terms where a tolerance is allowed, or that it is not
+--   meaning       the held ratio of a tolerance, or that it is not allowed
+--   Held          a ratio as a tolerance is held: allowed, and in lowest terms
+--   pickSteps     a number of steps where a float is in steps, or that it is not
+--   stepsOf       the whole number of steps of a float
 -- A finite float x is the fraction num x / den x, with a sign. Laws are in Values and Meanings. Assumes nothing.
 use Prim.Native.Nat.{ℕ, _*_, _/_, _%_, _≤_, _<_}
 use mathlib.Core.Path.{_≡_}

@@ -1,8 +1,9 @@
 -- Writing a record (document 01, "The record", and "When the engine declines", row 10): the complete outcome.
---   Kept           a trace and a kept list of it
---   selected       what is written: a tolerance and the samples that a list keeps
---   writeRow       row 10: too few bytes from the place on
---   ContentWritten   what is answered, and what the buffer then holds
+--   Kept                       a trace and a kept list of it
+--   selected                   what is written: a tolerance and the samples that a list keeps
+--   writeRow                   row 10: too few bytes from the place on
+--   WrittenAt, WriteDeclined   what holds of each answer
+--   ContentWritten             what is answered, and what the buffer then holds
 -- For the kernels:
 --   keptTicks, keptValues, SampleAt, SampleOk   the kept samples; one of them; its ranges
 --   StepBetween, StepOk, stepAt, MoveFrom       the steps between them

@@ -7,6 +7,8 @@ ghost use Rattle.lists.specs.Overwrite.{overwrite};
 ghost use Rattle.format.specs.Number.{bytesOnto};
 ghost use Rattle.format.specs.Command.{sizeOf, commandOnto, Operands};
 use format::Command;
+use format::flip8;
+use format::flip16;
 
 // The k bytes of n go to the start of part.
 fn put_number(part: &mut [u8], k: usize, n: u64)
@@ -40,30 +42,9 @@ pub fn put_command(part: &mut [u8], m: Command)
 {
     match m {
         Command::Tolerance(r) => put_operands(part, 0x54, 5, r.p, 3, r.q),
-        Command::First(tick, level) => put_operands(
-            part,
-            0x41,
-            4,
-            tick,
-            2,
-            (level + 32768) % 65536,
-        ),
-        Command::Short(advance, change) => put_operands(
-            part,
-            0x53,
-            1,
-            advance,
-            1,
-            (change + 128) % 256,
-        ),
-        Command::Long(advance, level) => put_operands(
-            part,
-            0x4C,
-            3,
-            advance,
-            2,
-            (level + 32768) % 65536,
-        ),
+        Command::First(tick, level) => put_operands(part, 0x41, 4, tick, 2, flip16(level)),
+        Command::Short(advance, change) => put_operands(part, 0x53, 1, advance, 1, flip8(change)),
+        Command::Long(advance, level) => put_operands(part, 0x4C, 3, advance, 2, flip16(level)),
         Command::End(samples) => put_operands(part, 0x45, 2, samples, 0, 0),
         Command::Invalid => (),
     }

@@ -3,7 +3,7 @@ use mathlib.Core.Path.{sym, _∙_, ap}
 use borrow.Author.Needs.{needs}
 use Rattle.format.specs.Number.{Bytes}
 use Rattle.reader.specs.Reading.{recordVerdict}
-use Rattle.reader.proofs.ReadingLaws.{parse-start, parse-fault, header-begun, verdict}
+use Rattle.reader.proofs.ReadingLaws.{parse-start, parse-fault, header-after-first, verdict}
 use Rattle.reader.proofs.check.Statement.{statement}
 use Rattle.reader.proofs.check.Tie as tie
 
@@ -19,7 +19,7 @@ enum-known-h c = search needs
 count-samples-requires : tie.Need-count-samples-requires
 count-samples-requires c κs =
     let h = c .before .before .before in
-    header-begun (by (h .before)) (sym (h .read-header .ensures) ∙ c .before .h .given .1)
+    header-after-first (by (h .before)) (sym (h .read-header .ensures) ∙ c .before .h .given .1)
 
 enum-known-h-2 : tie.Need-enum-known-h-2
 enum-known-h-2 c = search needs

@@ -3,7 +3,7 @@ use mathlib.Core.Path.{refl, sym, _∙_, ap, subst}
 use borrow.Author.Tests.{le-leb, lt-leb}
 use Rattle.format.specs.Number.{Bytes}
 use Rattle.reader.specs.Reading.{Said, CheckOutcome, recordVerdict}
-use Rattle.reader.proofs.ReadingLaws.{parse-start, header-begun, verdict, no-room, room, read-back, read-fault}
+use Rattle.reader.proofs.ReadingLaws.{parse-start, header-after-first, verdict, no-room, room, read-back, read-fault}
 use borrow.Author.Needs.{needs}
 use Rattle.reader.proofs.read_from.Statement.{statement}
 use Rattle.reader.proofs.read_from.Tie as tie
@@ -19,7 +19,7 @@ said : (c : tie.After-v) → Said (c .before .before .before .before .before .ar
 said c = subst (CheckOutcome (c .before .before .before .before .before .args .bytes .now)) (c .v .given .1) (counted (c .before .before))
 
 count-samples-requires : tie.Need-count-samples-requires
-count-samples-requires c κs = header-begun (by (c .before)) (c .before .before .pre)
+count-samples-requires c κs = header-after-first (by (c .before)) (c .before .before .pre)
 
 enum-known-v : tie.Need-enum-known-v
 enum-known-v c = search needs
@@ -39,7 +39,7 @@ fill-requires c κs =
     let e = c .before .before in
     let k = e .before .before .before .before .before in
     let s = k .before .before .before in
-    (header-begun (by (k .before .before)) (s .pre), room (said (e .before .before .before)) (s .pre) (s .args .ticks .now) (s .args .values .now) (e .before .if1 .left) (e .if2 .left))
+    (header-after-first (by (k .before .before)) (s .pre), room (said (e .before .before .before)) (s .pre) (s .args .ticks .now) (s .args .values .now) (e .before .if1 .left) (e .if2 .left))
 
 enum-known-v-2 : tie.Need-enum-known-v-2
 enum-known-v-2 c = search needs

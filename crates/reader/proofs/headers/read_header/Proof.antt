@@ -7,7 +7,7 @@ use lib.ListN.{drop}
 use Rattle.format.specs.declared.Header.the-variants.{Fault as NoHeader}
 use Rattle.format.specs.Number.{field}
 use Rattle.format.specs.Command.{choose, commandOf}
-use Rattle.format.specs.Format.{allowed, sampleHeader, headerOf}
+use Rattle.format.specs.Format.{isHeld, sampleHeader, headerOf}
 use Rattle.reader.proofs.CommandsAt.{cut, other, no-tolerance, tolerance-header}
 use borrow.Author.Needs.{needs}
 use Rattle.reader.proofs.headers.read_header.Statement.{statement}
@@ -18,7 +18,7 @@ module _ (c : tie.Else2) where
   abbrev b : List ℕ
   b = c .before .before .before .before .args .bytes .now
 
-  header : headerOf b ≡ choose (allowed (record { p = field b 1 5; q = field b 6 3 })) (sampleHeader (record { p = field b 1 5; q = field b 6 3 }) (commandOf (drop 9 b))) (NoHeader 0)
+  header : headerOf b ≡ choose (isHeld (record { p = field b 1 5; q = field b 6 3 })) (sampleHeader (record { p = field b 1 5; q = field b 6 3 }) (commandOf (drop 9 b))) (NoHeader 0)
   header = tolerance-header b (c .if2 .left) (omega (arith, c .before .before .if1 .left))
 
 returns : tie.Need-returns
@@ -36,8 +36,8 @@ field-requires c κs = search needs
 field-requires-2 : tie.Need-field-requires-2
 field-requires-2 c κs = search needs
 
-is-allowed-requires : tie.Need-is-allowed-requires
-is-allowed-requires c κs = search needs
+is-held-requires : tie.Need-is-held-requires
+is-held-requires c κs = search needs
 
 read-first-requires : tie.Need-read-first-requires
 read-first-requires c κs = search needs
@@ -45,12 +45,12 @@ read-first-requires c κs = search needs
 returns-3 : tie.Need-returns-3
 returns-3 c =
     let f = c .before .before .before in
-    rw (header (f .before .before), ← f .before .field .ensures .0, ← f .field2 .ensures .0, sym (c .before .before .is-allowed .ensures) ∙ c .before .if3 .taken) (c .read-first .ensures)
+    rw (header (f .before .before), ← f .before .field .ensures .0, ← f .field2 .ensures .0, sym (c .before .before .is-held .ensures) ∙ c .before .if3 .taken) (c .read-first .ensures)
 
 returns-4 : tie.Need-returns-4
 returns-4 c =
     let f = c .before .before in
-    rw (header (f .before .before), ← f .before .field .ensures .0, ← f .field2 .ensures .0, sym (c .before .is-allowed .ensures) ∙ c .if3 .left)
+    rw (header (f .before .before), ← f .before .field .ensures .0, ← f .field2 .ensures .0, sym (c .before .is-held .ensures) ∙ c .if3 .left)
 
 pub read-header-spec : {M : Type 1} → statement M
 read-header-spec =
@@ -61,7 +61,7 @@ read-header-spec =
     returns-2
     field-requires
     field-requires-2
-    is-allowed-requires
+    is-held-requires
     read-first-requires
     returns-3
     returns-4)

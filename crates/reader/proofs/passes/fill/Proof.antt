@@ -6,12 +6,12 @@ use Prim.Native.Nat.{ℕ, _-_}
 use lib.IntN.{ℤ}
 use lib.ListN.{length}
 use Rattle.format.specs.Number.{Bytes}
-use Rattle.reader.proofs.PassLaws.{Filling, filling-begins, falls, entry, stored-lengths, fills, filled, more-follow}
+use Rattle.reader.proofs.PassLaws.{Copying, copying-begins, falls, entry, stored-lengths, fills, filled, more-follow}
 use Rattle.reader.proofs.passes.fill.Statement.{statement}
 use Rattle.reader.proofs.passes.fill.Tie as tie
 
 abbrev Inv-loop : tie.InvT-loop
-Inv-loop bytes n ticks₀ values₀ c₀ ticks values c = (w : List ℕ) × (v : List ℤ) × Filling bytes c₀ n ticks₀ values₀ ticks values c w v
+Inv-loop bytes n ticks₀ values₀ c₀ ticks values c = (w : List ℕ) × (v : List ℤ) × Copying bytes c₀ n ticks₀ values₀ ticks values c w v
 
 abbrev μ-loop : tie.MeasureT-loop
 μ-loop bytes n ticks₀ values₀ c₀ ticks values c = 4097 - c .count
@@ -31,7 +31,7 @@ module _ (c : tie.After-struct-known Inv-loop μ-loop) where
   lengths = stored-lengths (head .loop .inv .2) (put .put-sample .ensures .0) (put .put-sample .ensures .1)
 
 loop-holds : tie.Need-loop-holds Inv-loop μ-loop
-loop-holds c = (_, _, filling-begins (c .before .before .pre .0) (c .before .before .pre .1))
+loop-holds c = (_, _, copying-begins (c .before .before .pre .0) (c .before .before .pre .1))
 
 put-sample-requires : tie.Need-put-sample-requires Inv-loop μ-loop
 put-sample-requires c κs = entry (c .before .before .loop .inv .2)

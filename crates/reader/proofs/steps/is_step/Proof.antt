@@ -26,8 +26,8 @@ add-field c = search needs
 field-requires : tie.Need-field-requires
 field-requires c κs = search needs
 
-add-change : tie.Need-add-change
-add-change c = search needs
+flip8-requires : tie.Need-flip8-requires
+flip8-requires c κs = search needs
 
 add-field-2 : tie.Need-add-field-2
 add-field-2 c = search needs
@@ -40,9 +40,10 @@ short-obeys-requires c κs = search needs
 
 returns-2 : tie.Need-returns-2
 returns-2 c =
-    let k = c .before .before .before in
+    let f = c .before .before in
+    let k = f .before .before in
     let s = k .before .before .before .before in
-    rw (is-short (s .args .bytes .now) (s .args .c) (k .if2 .taken) (omega (arith, k .before .before .if1 .left, s .pre)), ← c .before .field2 .ensures .0, ← c .before .before .field .ensures .0) (c .short-obeys .ensures)
+    rw (is-short (s .args .bytes .now) (s .args .c) (k .if2 .taken) (omega (arith, k .before .before .if1 .left, s .pre)), ← c .before .field2 .ensures .0, ← f .before .field .ensures .0, ← f .flip8 .ensures) (c .short-obeys .ensures)
 
 returns-3 : tie.Need-returns-3
 returns-3 c =
@@ -94,7 +95,7 @@ is-step-spec =
     shared-slice-read-kind
     add-field
     field-requires
-    add-change
+    flip8-requires
     add-field-2
     field-requires-2
     short-obeys-requires

@@ -31,8 +31,8 @@ add-field c = search needs
 field-requires : tie.Need-field-requires
 field-requires c κs = let e = three (c .before .before .before) in omega arith
 
-add-change : tie.Need-add-change
-add-change c = search needs
+flip8-requires : tie.Need-flip8-requires
+flip8-requires c κs = search needs
 
 add-t10 : tie.Need-add-t10
 add-t10 c = search needs
@@ -41,28 +41,30 @@ add-field-2 : tie.Need-add-field-2
 add-field-2 c = search needs
 
 field-requires-2 : tie.Need-field-requires-2
-field-requires-2 c κs = let e = three (c .before .before .before .before) in omega arith
+field-requires-2 c κs = let e = three (c .before .before .before .before .before) in omega arith
 
-add-t11 : tie.Need-add-t11
-add-t11 c = search needs
+add-t12 : tie.Need-add-t12
+add-t12 c = search needs
 
 add-t13 : tie.Need-add-t13
 add-t13 c = search needs
 
 sub-t14 : tie.Need-sub-t14
 sub-t14 c =
-    let f = c .before .before .before in
+    let g = c .before .before .before in
+    let f = g .before in
     let s = f .before .before .before .before in
-    omega (arith, short-known (s .args .bytes .now) (s .args .c) (f .before .if1 .taken) (three s) (s .pre .1) .0, f .field .ensures .0)
+    omega (arith, short-known (s .args .bytes .now) (s .args .c) (f .before .if1 .taken) (three s) (s .pre .1) .0, f .field .ensures .0, g .flip8 .ensures)
 
 add-t15 : tie.Need-add-t15
 add-t15 c = search needs
 
 returns : tie.Need-returns
 returns c =
-    let f = c .before .before .before .before in
+    let g = c .before .before .before .before in
+    let f = g .before in
     let s = f .before .before .before .before in
-    rw (f .field .ensures .0, c .before .before .before .field2 .ensures .0) (short-known (s .args .bytes .now) (s .args .c) (f .before .if1 .taken) (three s) (s .pre .1) .1)
+    rw (g .flip8 .ensures, f .field .ensures .0, c .before .before .before .field2 .ensures .0) (short-known (s .args .bytes .now) (s .args .c) (f .before .if1 .taken) (three s) (s .pre .1) .1)
 
 add-t16 : tie.Need-add-t16
 add-t16 c = search needs
@@ -102,11 +104,11 @@ next-sample-spec =
     shared-slice-read-kind
     add-field
     field-requires
-    add-change
+    flip8-requires
     add-t10
     add-field-2
     field-requires-2
-    add-t11
+    add-t12
     add-t13
     sub-t14
     add-t15
