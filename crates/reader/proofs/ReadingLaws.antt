@@ -9,9 +9,8 @@ use borrow.Author.Tests.{le-leb}
 use lib.Dec.{leb}
 use lib.IntN.{ℤ}
 use lib.ListN.{length, take, drop, length-drop}
-use lib.Seq.{take-append-seam}
 use Rattle.lists.specs.Decides.{Decides}
-use Rattle.lists.specs.Overwrite.{overwrite}
+use Rattle.lists.proofs.OverwriteLaws.{wrote-read}
 use Rattle.lists.proofs.PartLaws.{part-from}
 use Rattle.ratio.specs.declared.Ratio.{Ratio}
 use Rattle.refusal.specs.declared.Refusal.the-variants.{Record, SecondRecord, Room}
@@ -128,11 +127,7 @@ read-fault b m n e = rw e
 
 -- the entries that were written are a trace
 pub read-trace : {b ts : List ℕ} {vs : List ℤ} {n : ℕ} {r : Ratio} {ts′ : List ℕ} {vs′ : List ℤ} → ReadBack b ts vs n r ts′ vs′ → Trace (take n ts′) (take n vs′)
-read-trace {ts = ts} {vs = vs} {n = n} h =
-    let x = h .content in
-    let a : take n (overwrite (x .ticks) ts) ≡ x .ticks = rw (h .ticks .count) (take-append-seam (x .ticks) (drop (length (x .ticks)) ts)) in
-    let b : take n (overwrite (x .values) vs) ≡ x .values = rw (h .values .count) (take-append-seam (x .values) (drop (length (x .values)) vs)) in
-    rw (h .ticks .content, h .values .content, a, b) (h .accepted .legal .trace)
+read-trace h = rw (wrote-read (h .ticks), wrote-read (h .values)) (h .accepted .legal .trace)
 
 -- ---- same
 
