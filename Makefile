@@ -23,8 +23,9 @@ PLACES = PREFIX BINDIR LIBDIR INCLUDEDIR PYTHONDIR
 CHECK_PLACES = $(foreach place,$(PLACES),$(if $(and $(filter 1,$(words $($(place)))),$(filter /%,$($(place)))),,\
 $(error $(place) must be an absolute path without spaces, not '$($(place))')))
 
-# Provers that run at once in the gate: one more than processors, since they run in groups, each of which waits for its slowest.
-JOBS = $(shell expr $$(nproc) + 1)
+# Provers that run at once in the gate: one more than processors, since they run in groups, each of which waits for its slowest;
+# at most five, each of which may need a gigabyte.
+JOBS = $(shell n=$$(nproc); if [ "$$n" -gt 4 ]; then n=4; fi; expr "$$n" + 1)
 
 # The gate's run of evidence: about 6 seconds.
 GATE_EVIDENCE = --cases 30000 --seed 1
