@@ -68,7 +68,7 @@ fn show(arguments: &[OsString]) -> Result<Status, Failure> {
     if line.arguments.help {
         return output::print(help::SHOW);
     }
-    let inputs = line.inputs();
+    let inputs = line.inputs()?;
     each(&inputs, |name, record| {
         let mut text = String::new();
         if inputs.len() > 1 {
@@ -91,12 +91,16 @@ fn judge(arguments: &[OsString]) -> Result<Status, Failure> {
     let Some((tolerance, _)) = line.tolerance()? else {
         return Err(line.wrong("--tolerance is missing"));
     };
+    let input = line.input()?.unwrap_or(OsStr::new("-"));
+    if line.value(LIST_FILE) == Some(OsStr::new("-")) && input == "-" {
+        return Err(line.wrong("standard input is wanted twice"));
+    }
     let list = match (line.text(LIST)?, line.value(LIST_FILE)) {
         (Some(list), None) => List::of(LIST.0, list).map_err(|cause| line.wrong(&cause))?,
         (None, Some(file)) => List::read(Source::open(Some(file))?)?,
         _ => return Err(line.wrong("one of --list and --list-file is wanted")),
     };
-    let text = Text::read(Source::open(line.input()?)?)?;
+    let text = Text::read(Source::open(line.input()?)?)?.original()?;
     match kovrelna::judge(&text.ticks, &text.values, &list.entries, tolerance) {
         Ok(Verdict::Within) => output::print("yes\n"),
         Ok(Verdict::Outside { link }) => {
@@ -120,8 +124,8 @@ fn least(arguments: &[OsString]) -> Result<Status, Failure> {
         return Err(line.wrong("--allowance is missing"));
     };
     let wrong = |cause: &dyn Display| line.wrong(&format!("--allowance: {cause}"));
-    let allowance = text::whole("allowance", allowance, 0, u64::MAX).map_err(|c| wrong(&c))?;
-    let text = Text::read(Source::open(line.input()?)?)?;
+    let allowance: u64 = text::whole("allowance", allowance, 2, 4_096).map_err(|c| wrong(&c))?;
+    let text = Text::read(Source::open(line.input()?)?)?.original()?;
     let mut list = vec![0; text.ticks.len()];
     let answer = kovrelna::least(&text.ticks, &text.values, allowance, &mut list);
     let Least { kept, error } = answer.map_err(|refusal| match refusal {
@@ -184,7 +188,7 @@ fn summary(arguments: &[OsString]) -> Result<Status, Failure> {
     }
     output::print("samples\tspan\ttolerance\tleast\tgreatest\tbytes\tfile\n")?;
     let mut total: Option<Counts> = None;
-    let status = each(&line.inputs(), |name, record| {
+    let status = each(&line.inputs()?, |name, record| {
         let counts = Counts::of(&record);
         let Ratio { p, q } = record.tolerance;
         let line = counts.line(&format!("{p}/{q}"), &name);
@@ -236,8 +240,8 @@ fn samples(count: usize) -> String {
 /// The lines of a record, and how many samples there are in words.
 fn picture_of_record(line: &Line, source: Source) -> Result<(String, Picture), Failure> {
     if line.value(TOLERANCE).is_some() || line.value(METHOD).is_some() {
-        let cause = "is a record, and has its own tolerance: --tolerance and --method do not apply";
-        return Err(line.wrong(&format!("{} {cause}", source.name)));
+        let cause = "a record, with its own tolerance: --tolerance and --method do not apply";
+        return Err(line.wrong(&format!("{}: {cause}", source.name)));
     }
     let record = records::load(source)?;
     let counts = format!("{} kept", samples(record.ticks.len()));

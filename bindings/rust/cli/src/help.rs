@@ -18,18 +18,19 @@ Usage: kovrelna COMMAND [OPTION..] [FILE..]
 
 A trace is text: a line for each sample with its tick (0 to 4294967295) and its
 value (-32768 to 32767), between them a comma, a semicolon, a tab or spaces.
-What follows a # is skipped; so are blank lines and a heading of words. A trace
-has 1 to 4,096 samples; ticks rise; the last is at most 1,048,575 above the
-first.
+What follows a # is skipped, but for a line `# tolerance p/q` (record --help);
+so are blank lines and a heading of words. A trace has 1 to 4,096 samples;
+ticks rise; the last is at most 1,048,575 above the first.
 
 A tolerance is p/q (2/3), counts (2 or 1.5, in steps of 1/64), or a channel's
 noise and the multiple wanted (3.25x4).
 
 Without a file, or with -, standard input is read. Errors go to standard error
-as `kovrelna: FILE:LINE: cause`.
+as `kovrelna: FILE: cause` or `kovrelna: FILE:LINE: cause`.
 
-Exit status: 0 done (judge: yes), 1 judge says no, 2 error. A closed standard
-output (>&-) is not noticed: what is written there is lost.
+Exit status: 0 done (judge: yes), 1 judge says no, 2 error, also, without a
+word, where a pipe is closed before all is written. A closed standard output
+(>&-) is not noticed: what is written there is lost.
 ";
 
 pub const RECORD: &str = "\
@@ -44,7 +45,8 @@ Usage: kovrelna record -t TOLERANCE [-m METHOD] [-o FILE] [INPUT]
                       samples as possible)
   -o, --output FILE   write to FILE instead of standard output (-); FILE is
                       replaced only when all is written, and other hard links
-                      to it keep what they had
+                      to it keep what they had; if a signal ends the tool, a
+                      file .kovrelna-* may stay beside it
 
 Without a tolerance, INPUT has a line `# tolerance p/q` before its samples, as
 `kovrelna show` prints it, and every sample is kept: show and record without
@@ -71,6 +73,7 @@ pub const JUDGE: &str = "\
 Says whether a list of samples is within a tolerance: prints `yes`, or `no at
 link N` with the first link that some sample is too far from. Samples and links
 are counted from 0; the list begins with 0, rises, and ends with the last one.
+INPUT is the original trace: samples with a line `# tolerance p/q` are refused.
 
 Usage: kovrelna judge -t TOLERANCE -l LIST [INPUT]
        kovrelna judge -t TOLERANCE -f FILE [INPUT]
@@ -86,7 +89,7 @@ Exit status: 0 yes, 1 no, 2 error.
 pub const LEAST: &str = "\
 Prints the least tolerance that a list of at most so many samples is within, as
 `error p/q`, and the list that minimum keeps at it, as `list 0,3,4`. The trace
-has at most 256 samples.
+has at most 256 samples; samples with a line `# tolerance p/q` are refused.
 
 Usage: kovrelna least -a ALLOWANCE [INPUT]
 
@@ -119,7 +122,8 @@ Usage: kovrelna draw -t TOLERANCE [-m METHOD] [-o FILE] [INPUT]
   -m, --method M      walk (the default), gallop or minimum
   -o, --output FILE   write to FILE instead of standard output (-); FILE is
                       replaced only when all is written, and other hard links
-                      to it keep what they had
+                      to it keep what they had; if a signal ends the tool, a
+                      file .kovrelna-* may stay beside it
 
 Exit status: 0 done, 2 error.
 ";

@@ -94,11 +94,15 @@ impl Line {
     }
 
     /// Every operand, or standard input.
-    pub fn inputs(&self) -> Vec<&OsStr> {
-        match &self.arguments.operands[..] {
+    pub fn inputs(&self) -> Result<Vec<&OsStr>, Failure> {
+        let operands = &self.arguments.operands;
+        if operands.iter().filter(|&operand| operand == "-").count() > 1 {
+            return Err(self.wrong("standard input is wanted twice"));
+        }
+        Ok(match &operands[..] {
             [] => vec![OsStr::new("-")],
             operands => operands.iter().map(OsString::as_os_str).collect(),
-        }
+        })
     }
 }
 

@@ -99,7 +99,10 @@ const LINKS: usize = 40;
 fn followed(path: &Path) -> io::Result<(PathBuf, OsString)> {
     let mut path = path.to_path_buf();
     for _ in 0..LINKS {
-        let Some(name) = path.file_name() else {
+        let ends_in_slash = path.as_os_str().as_encoded_bytes().ends_with(b"/");
+        let Some(name) = path.file_name().filter(|_| !ends_in_slash) else {
+            // A folder is named, which may not be there.
+            fs::metadata(&path)?;
             return Err(io::ErrorKind::IsADirectory.into());
         };
         let folder = match path.parent() {

@@ -25,9 +25,7 @@ pub fn load(mut source: Source) -> Result<Record, Failure> {
     let bytes = source.up_to(BYTES + 1)?;
     let (mut ticks, mut values) = (vec![0; SAMPLES], vec![0; SAMPLES]);
     let content = read(&bytes, &mut ticks, &mut values).map_err(|refusal| match refusal {
-        Refusal::Record(0) => {
-            Failure::Told(format!("{} is no record (faulty at byte 0)", source.name))
-        }
+        Refusal::Record(0) => Failure::at(&source.name, "no record: it is faulty at byte 0"),
         refusal => Failure::at(&source.name, refusal),
     })?;
     ticks.truncate(content.samples);
@@ -79,7 +77,7 @@ mod tests {
         let told = "in: the record is faulty at byte 19".to_string();
         assert_eq!(cut, Failure::Told(told));
         let text = load(Source::of("in", b"0,1\n")).unwrap_err();
-        let told = "in is no record (faulty at byte 0)".to_string();
+        let told = "in: no record: it is faulty at byte 0".to_string();
         assert_eq!(text, Failure::Told(told));
     }
 

@@ -40,8 +40,7 @@ impl Text {
         };
         let beginning = source.up_to(records::BEGINNING)?;
         if records::begins(&beginning) {
-            let cause = "is a record: use `kovrelna show`";
-            return Err(Failure::Told(format!("{} {cause}", text.name)));
+            return Err(Failure::at(&text.name, "a record: use `kovrelna show`"));
         }
         let mut heading = true;
         let mut lines = Lines::new(source.put_back(beginning));
@@ -51,9 +50,9 @@ impl Text {
             };
             let (data, comment) = line.split_once('#').unwrap_or((line, ""));
             if data.trim().is_empty() {
-                if let Some(tolerance) = comment.trim().strip_prefix("tolerance ") {
-                    let tolerance = tolerance.trim().to_string();
-                    text.note_tolerance(tolerance, lines.number)?;
+                let tolerance = comment.trim().strip_prefix("tolerance ");
+                if let Some(ratio) = tolerance.map(str::trim).filter(|rest| is_ratio(rest)) {
+                    text.note_tolerance(ratio.to_string(), lines.number)?;
                 }
                 continue;
             }
@@ -90,6 +89,18 @@ impl Text {
         match tolerance::parse(written) {
             Ok(tolerance) => Ok(Some(tolerance)),
             Err(cause) => Err(self.at_tolerance(&format!("tolerance: {cause}"))),
+        }
+    }
+
+    /// Refuses samples that are kept at a tolerance already: what is asked is about all samples.
+    pub fn original(self) -> Result<Text, Failure> {
+        match &self.tolerance {
+            Some((ratio, _)) => {
+                let cause = "the answer would not be about the original trace";
+                let cause = format!("samples are reduced already at {ratio}: {cause}");
+                Err(self.at_tolerance(&cause))
+            }
+            None => Ok(self),
         }
     }
 
@@ -178,6 +189,10 @@ impl List {
 
     /// The refusal of the list at the line of this entry.
     pub fn refused(&self, entry: usize) -> Failure {
+        if entry == self.entries.len() {
+            let cause = "no kept list: it does not end with the last sample";
+            return Failure::at(&self.name, cause);
+        }
         let refusal = Refusal::List(entry);
         match self.lines.get(entry) {
             Some(&line) => Failure::at_line(&self.name, line, refusal),
@@ -237,6 +252,12 @@ impl Lines {
     }
 }
 
+/// Whether this is p/q, both whole.
+fn is_ratio(text: &str) -> bool {
+    let whole = |part: &str| !part.is_empty() && part.bytes().all(|byte| byte.is_ascii_digit());
+    matches!(text.split_once('/'), Some((p, q)) if whole(p) && whole(q))
+}
+
 /// The fields of a line: between semicolons, or commas, or tabs, or else white space; without space
 /// and quotation marks around them.
 fn fields(line: &str) -> Vec<&str> {
@@ -284,7 +305,8 @@ fn sample(fields: &[&str]) -> Result<(u32, i16), String> {
     }
 }
 
-/// The whole number in this field or option, which is to be from `low` to `high`.
+/// The whole number in this field or option. What its type does not hold is said to be not from `low`
+/// to `high`.
 pub fn whole<T: TryFrom<i128> + Display>(
     what: &str,
     field: &str,
@@ -367,6 +389,8 @@ mod tests {
         assert_eq!(tolerance("# c\n#tolerance  2/3 \r\n"), at(2));
         assert_eq!(tolerance("# tolerances 2/3\n0,1\n"), None);
         assert_eq!(tolerance("0,1 # tolerance 2/3\n"), None);
+        assert_eq!(tolerance("# tolerance of the digitiser: 2/3\n0,1\n"), None);
+        assert_eq!(tolerance("# tolerance 2\n0,1\n# tolerance met\n"), None);
         for (text, line) in [
             ("0,1\n# tolerance 2/3\n", 2),
             ("# tolerance 2/3\n# tolerance 2/3\n0,1\n", 2),
@@ -382,7 +406,7 @@ mod tests {
         let record = b"T\0\0\0\0\x02\0\0\x01A\0\0\0\0\0\0E\0\x01";
         assert_eq!(
             read(record).unwrap_err(),
-            "in is a record: use `kovrelna show`"
+            "in: a record: use `kovrelna show`"
         );
     }
 
@@ -465,7 +489,8 @@ mod tests {
         let told =
             |words: &str| Failure::Told(format!("{words} is bad, or the list stops short there"));
         assert_eq!(list.refused(2), told("in:4: no kept list: entry 2"));
-        assert_eq!(list.refused(3), told("in: no kept list: entry 3"));
+        let short = "in: no kept list: it does not end with the last sample";
+        assert_eq!(list.refused(3), Failure::Told(short.to_string()));
         let given = List::of("list", "0,3").unwrap();
         assert_eq!(given.refused(1), told("--list: no kept list: entry 1"));
         let read = |entries| List::read(Source::of("in", "0\n".repeat(entries).as_bytes()));

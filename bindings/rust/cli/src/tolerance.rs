@@ -17,6 +17,9 @@ fn form(text: &str) -> Result<Tolerance, String> {
     if let Some((p, q)) = text.split_once('/') {
         let (p, q) = (whole(p)?, whole(q)?);
         Ok(Tolerance::Ratio { p, q })
+    } else if text.trim().starts_with("0x") {
+        let cause = "could be meant as a hexadecimal number; write 0 for the tolerance 0";
+        Err(format!("`{}` {cause}", text.trim()))
     } else if let Some((noise, multiple)) = text.split_once(['x', '*']) {
         Ok(Tolerance::Noise {
             noise: steps(noise, 64)?,
@@ -123,6 +126,7 @@ mod tests {
             ("3.25x0.1", "`0.1` is not a multiple of 1/8"),
             ("3x64", "the tolerance is not allowed: the noise is"),
             ("3x4x5", "`4x5` is not a number"),
+            ("0x10", "`0x10` could be meant as a hexadecimal number"),
         ] {
             let told = parse(text).unwrap_err();
             assert!(told.contains(cause), "{text}: {told}");

@@ -115,6 +115,7 @@ fn round_trip() {
 fn show_several() {
     let wave = shipped("examples/wave.record");
     let name = path(&wave);
+    fails(&["show", "-", "-"], "", "standard input is wanted twice");
     let (status, printed, error) = told(&run(&["show", name, "missing", name], ""));
     let one = format!("# {name}\n# tolerance 2/1\n{WAVE}");
     assert_eq!(printed, one.repeat(2));
@@ -132,7 +133,7 @@ fn judges() {
     assert_eq!((status, &printed[..]), (2, ""));
     assert_eq!(
         error,
-        "kovrelna: --list: no kept list: entry 2 is bad, or the list stops short there\n"
+        "kovrelna: --list: no kept list: it does not end with the last sample\n"
     );
     let folder = folder("judges");
     let list = folder.join("list");
@@ -150,6 +151,16 @@ fn judges() {
         zigzag,
         "one of --list",
     );
+    fails(
+        &["judge", "-t2", "-f-"],
+        zigzag,
+        "standard input is wanted twice",
+    );
+    // What is kept already is no original trace.
+    let kept = format!("# tolerance 2/1\n{zigzag}");
+    let message = "<stdin>:1: samples are reduced already at 2/1";
+    fails(&["judge", "-t2", "-l0,4"], &kept, message);
+    fails(&["least", "-a2"], &kept, message);
 }
 
 #[test]
@@ -169,7 +180,10 @@ fn least_errors() {
             "18446744073709551615",
             "--allowance: the allowance is below",
         ),
-        ("-2", "--allowance: the allowance `-2` is not from 0"),
+        (
+            "-2",
+            "--allowance: the allowance `-2` is not from 2 to 4096",
+        ),
         ("two", "--allowance: the allowance `two` is not a number"),
     ] {
         fails(&["least", "-a", allowance], zigzag, cause);
@@ -245,7 +259,7 @@ fn draws() {
     assert!(String::from_utf8(from_pipe)
         .unwrap()
         .contains("<title>5 samples kept"));
-    let message = format!("{} is a record", path(&wave));
+    let message = format!("{}: a record", path(&wave));
     fails(&["draw", "-t2", path(&wave)], "", &message);
     fails(&["draw"], WAVE, "<stdin>: --tolerance is missing");
     fails(&["draw"], "T\0", "<stdin>: --tolerance is missing");
@@ -352,13 +366,13 @@ fn the_other_kind() {
         &["judge", "-t1", "-l0"],
         &["least", "-a2"],
     ] {
-        fails(
-            arguments,
-            &wave,
-            "<stdin> is a record: use `kovrelna show`\n",
-        );
+        fails(arguments, &wave, "<stdin>: a record: use `kovrelna show`\n");
     }
-    fails(&["show"], WAVE, "<stdin> is no record (faulty at byte 0)\n");
+    fails(
+        &["show"],
+        WAVE,
+        "<stdin>: no record: it is faulty at byte 0\n",
+    );
 }
 
 /// Noise of every sort is refused with status 2; nothing panics.
@@ -584,6 +598,10 @@ fn files_survive_errors() {
     }
     let message = format!("{}: Is a directory\n", path(&folder));
     fails(&["record", "-t1", "-o", path(&folder)], WAVE, &message);
+    let new = format!("{}/new/", path(&folder));
+    let message = format!("{new}: No such file or directory\n");
+    fails(&["record", "-t1", "-o", &new], WAVE, &message);
+    assert!(!folder.join("new").exists());
     fails(
         &["record", "-t1", "-o", ""],
         WAVE,
