@@ -1,5 +1,5 @@
-# Kovrelna: build, install and test. Needs the Rattle toolchain (rt) and a C compiler; the tests also need cargo,
-# pkg-config and Python.
+# Kovrelna: build, install and test. Needs the Rattle toolchain (rt) and a C compiler; the command-line tool, evidence and the
+# tests also need cargo, the tests pkg-config and Python.
 VERSION = 0.1.0
 ARCHIVE = target/staticlib/libkovrelna.a
 SONAME = libkovrelna.so.$(firstword $(subst ., ,$(VERSION)))
@@ -64,10 +64,12 @@ install: $(SHARED)
 	@chmod 644 "$(DESTDIR)$(LIBDIR)/pkgconfig/kovrelna.pc"
 
 uninstall:
+	@$(CHECK_PLACES)
 	@rm -f "$(DESTDIR)$(BINDIR)/kovrelna" "$(DESTDIR)$(INCLUDEDIR)/kovrelna.h" "$(DESTDIR)$(LIBDIR)/pkgconfig/kovrelna.pc"
 	@for name in a so $(patsubst libkovrelna.%,%,$(SONAME) $(notdir $(SHARED))); do \
 	rm -f "$(DESTDIR)$(LIBDIR)/libkovrelna.$$name"; done
 	@rm -rf "$(DESTDIR)$(PYTHONDIR)/kovrelna"
+	@rmdir --ignore-fail-on-non-empty "$(DESTDIR)$(PYTHONDIR)" 2>/dev/null || true
 
 # The command-line tool, as bindings/rust/target/release/kovrelna.
 cli: lib

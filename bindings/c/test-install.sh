@@ -62,4 +62,5 @@ grep -qx 'prefix=/opt/kovrelna' "$work/stage/opt/kovrelna/lib/pkgconfig/kovrelna
   || fail "DESTDIR is in kovrelna.pc"
 make --no-print-directory uninstall PREFIX="$prefix" >/dev/null
 [ -z "$(files "$prefix")" ] || fail "uninstall leaves $(files "$prefix")"
+[ ! -e "$prefix/lib/kovrelna-python" ] || fail "uninstall leaves the module's folder"
 echo "install: ok"

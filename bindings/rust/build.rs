@@ -1,10 +1,11 @@
-//! Links libkovrelna.a from KOVRELNA_LIB_DIR, or from target/staticlib at the repository's root.
+//! Links libkovrelna.a from KOVRELNA_LIB_DIR, an absolute path, or from target/staticlib at the repository's root.
 use std::{env, path::PathBuf};
 
 fn main() {
     println!("cargo:rerun-if-env-changed=KOVRELNA_LIB_DIR");
     let package = PathBuf::from(env::var_os("CARGO_MANIFEST_DIR").unwrap());
-    let directory = match env::var_os("KOVRELNA_LIB_DIR") {
+    let named = env::var_os("KOVRELNA_LIB_DIR").filter(|directory| !directory.is_empty());
+    let directory = match named {
         Some(directory) => PathBuf::from(directory),
         None => package.join("../../target/staticlib"),
     };
@@ -13,7 +14,7 @@ fn main() {
     let archive = archive.canonicalize().unwrap_or_else(|error| {
         panic!(
             "{}: {error}. Build the library with `make lib`, or set KOVRELNA_LIB_DIR \
-             to the directory of libkovrelna.a",
+             to the directory of libkovrelna.a, as an absolute path",
             archive.display()
         )
     });

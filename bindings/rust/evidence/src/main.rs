@@ -42,12 +42,7 @@ struct Options {
 }
 
 fn options() -> Result<Option<Options>, String> {
-    let mut until = None;
-    let mut options = Options {
-        until: Until::Cases(10_000),
-        seed: RandomState::new().build_hasher().finish(),
-        case: None,
-    };
+    let (mut until, mut seed, mut case) = (None, None, None);
     let mut arguments = env::args_os().skip(1);
     while let Some(option) = arguments.next() {
         let option = option.to_string_lossy().into_owned();
@@ -70,16 +65,22 @@ fn options() -> Result<Option<Options>, String> {
                 let time = Duration::try_from_secs_f64(60.0 * minutes).map_err(|_| wrong(()))?;
                 until = Some(Until::Elapsed(time));
             }
-            "--seed" => options.seed = number()?,
-            "--case" => options.case = Some(number()?),
+            "--seed" => seed = Some(number()?),
+            "--case" => case = Some(number()?),
             _ => return Err(format!("there is no option {option}")),
         }
         if let Some(Until::Cases(0) | Until::Elapsed(Duration::ZERO)) = until {
             return Err(format!("{option}: with 0 nothing is compared"));
         }
     }
-    options.until = until.unwrap_or(options.until);
-    Ok(Some(options))
+    if case.is_some() && seed.is_none() {
+        return Err("--case: the seed of the run is missing".to_string());
+    }
+    Ok(Some(Options {
+        until: until.unwrap_or(Until::Cases(10_000)),
+        seed: seed.unwrap_or_else(|| RandomState::new().build_hasher().finish()),
+        case,
+    }))
 }
 
 fn main() -> ExitCode {

@@ -52,6 +52,7 @@ fn command_lines() {
         (&["--minutes", "nan"], "--minutes: `nan` is not a number"),
         (&["--hours", "1"], "there is no option --hours"),
         (&["--cases", "0"], "--cases: with 0 nothing is compared"),
+        (&["--case", "3"], "--case: the seed of the run is missing"),
         (&["--minutes", "0"], "--minutes: with 0 nothing is compared"),
         (
             &["--cases", "1", "--minutes", "1"],
