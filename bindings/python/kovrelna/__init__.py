@@ -30,7 +30,7 @@ codes, the record) are one, otherwise an array.array. Of a lent output only the 
 and the call returns a view of these. It overlaps no other list; one that does raises ValueError.
 
 A call may run at the same time as others on any threads. Nothing else may write to a lent list
-before the call returns.
+before the call returns. minimum and least take up to 18 KiB of stack, every other call under 1 KiB.
 
 >>> ticks, values = [0, 1, 3], [0, 1, 1]
 >>> kept = walk(ticks, values, Ratio(4, 6))
