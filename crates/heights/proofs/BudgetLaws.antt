@@ -15,7 +15,7 @@ use Rattle.trace.specs.Link.{valid}
 use Rattle.trace.proofs.Difference.{times, at-most, size-at-most, less, parts}
 use Rattle.heights.specs.Heights.{Fraction, lineAt, traceAt, allOf, Near, Equals, Between, peak, trough, ErrorBudget}
 use Rattle.heights.proofs.Order.{order}
-use Rattle.heights.proofs.Entries.{Entry, kept-inside, every-kept, every-entry}
+use Rattle.heights.proofs.Entries.{Entry, kept-entry, every-kept, every-entry}
 use Rattle.heights.proofs.NearLaws.{line-near}
 use Rattle.heights.proofs.ExtremeLaws.{Sampled, peak-bound, trough-bound, peak-sampled, trough-sampled, line-through, sample-on, line-extremes}
 
@@ -92,7 +92,7 @@ module _ {ts : List ℕ} {vs : List ℤ} (c : Criterion) {l : List ℕ} (t : Tra
 
   -- a sample of the list is a sample of the trace
   of-trace : {v : ℤ} (m : Sampled vs l v) → Entry (m .sample) (allOf ts)
-  of-trace m = every-entry (length ts - 1) (m .sample) (kept-inside l kept (m .entry))
+  of-trace m = every-entry (length ts - 1) (m .sample) (kept-entry l kept (m .entry))
 
   peak-high : peak vs l ≤ℤ peak vs (allOf ts)
   peak-high = let m = peak-sampled vs l kept in subst (λ (v : ℤ). v ≤ℤ peak vs (allOf ts)) (m .is) (peak-bound vs (allOf ts) (m .sample) (of-trace m))
@@ -103,12 +103,12 @@ module _ {ts : List ℕ} {vs : List ℤ} (c : Criterion) {l : List ℕ} (t : Tra
   peak-near : ((peak vs (allOf ts) -ℤ peak vs l) *ℤ pos (c .q)) ≤ℤ pos (c .p)
   peak-near =
       let m = peak-sampled vs (allOf ts) (every-kept (length ts - 1)) in
-      subst (λ (v : ℤ). ((v -ℤ peak vs l) *ℤ pos (c .q)) ≤ℤ pos (c .p)) (m .is) (sample-peak (m .sample) (kept-inside (allOf ts) (every-kept (length ts - 1)) (m .entry)))
+      subst (λ (v : ℤ). ((v -ℤ peak vs l) *ℤ pos (c .q)) ≤ℤ pos (c .p)) (m .is) (sample-peak (m .sample) (kept-entry (allOf ts) (every-kept (length ts - 1)) (m .entry)))
 
   trough-near : ((trough vs l -ℤ trough vs (allOf ts)) *ℤ pos (c .q)) ≤ℤ pos (c .p)
   trough-near =
       let m = trough-sampled vs (allOf ts) (every-kept (length ts - 1)) in
-      subst (λ (v : ℤ). ((trough vs l -ℤ v) *ℤ pos (c .q)) ≤ℤ pos (c .p)) (m .is) (sample-trough (m .sample) (kept-inside (allOf ts) (every-kept (length ts - 1)) (m .entry)))
+      subst (λ (v : ℤ). ((trough vs l -ℤ v) *ℤ pos (c .q)) ≤ℤ pos (c .p)) (m .is) (sample-trough (m .sample) (kept-entry (allOf ts) (every-kept (length ts - 1)) (m .entry)))
 
   pub error-budget : 1 ≤ c .q → ErrorBudget ts vs c l
   error-budget some = record {

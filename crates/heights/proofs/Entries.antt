@@ -1,6 +1,6 @@
 -- The entries of a list, and the list of all samples, which is a kept list.
 -- Assumes nothing.
-use mathlib.Core.Path.{_≡_, refl, _∙_, ap}
+use mathlib.Core.Path.{_≡_, refl, _∙_}
 use mathlib.Core.Logic.{_⊎_, inl, inr, ⊎-elim}
 use mathlib.Core.List.{List, [], _∷_}
 use Prim.Native.Nat.{ℕ, zero, suc, _+_, _≤_, _<_}
@@ -20,15 +20,9 @@ entry-inside k [] i r e = ⊎-elim (λ q. omega arith) (λ z. absurd z) e
 entry-inside k (j ∷ s) i r e =
     ⊎-elim (λ q. omega (arith, rise-le j s (r .1))) (λ m. omega (arith, entry-inside k s j (r .1) m)) e
 
-pub kept-inside : {last k : ℕ} (l : List ℕ) → KeptList last l → Entry k l → k ≤ last
-kept-inside [] h e = absurd e
-kept-inside {k = k} (i ∷ s) h e = omega (arith, entry-inside k s i (h .rises) e, h .spans .1)
-
--- one sample has one kept list
-pub kept-one : (l : List ℕ) → KeptList 0 l → l ≡ 0 ∷ []
-kept-one [] h = absurd (h .spans)
-kept-one (i ∷ []) h = ap {B = List ℕ} (λ (n : ℕ). n ∷ []) (h .spans .0)
-kept-one (i ∷ j ∷ s) h = absurd (omega (arith, rise-le j s (h .rises .1), h .rises .0, h .spans .1))
+pub kept-entry : {last k : ℕ} (l : List ℕ) → KeptList last l → Entry k l → k ≤ last
+kept-entry [] h e = absurd e
+kept-entry {k = k} (i ∷ s) h e = omega (arith, entry-inside k s i (h .rises) e, h .spans .1)
 
 -- ---- all samples
 

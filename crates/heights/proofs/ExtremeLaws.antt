@@ -21,7 +21,7 @@ use Rattle.trace.proofs.Deviation.{line}
 use Rattle.trace.proofs.Offsets.{offset-of-diff}
 use Rattle.heights.specs.Heights.{linkAt, lineFrom, lineAt, OnTrace, Equals, Between, higher, lower, joined, ofSamples, peak, trough, Attained, Extremes}
 use Rattle.heights.proofs.Order.{order, order-refl, order-trans, higher-left, higher-right, higher-one, lower-left, lower-right, lower-one}
-use Rattle.heights.proofs.Entries.{Entry, entry-inside, kept-inside}
+use Rattle.heights.proofs.Entries.{Entry, entry-inside, kept-entry}
 use Rattle.heights.proofs.LineLaws.{link-den, link-num, link-positive}
 
 -- ---- the values of a list's samples, joined
@@ -184,8 +184,8 @@ module _ {ts : List ℕ} {vs : List ℤ} (t : Trace ts vs) where
   attained : (l : List ℕ) → KeptList (length ts - 1) l → {v : ℤ} → Sampled vs l v → Attained ts vs l v
   attained l kl {v} m = record {
     sample = m .sample;
-    inside = kept-inside l kl (m .entry);
-    on = sample-on (m .sample) (kept-inside l kl (m .entry));
+    inside = kept-entry l kl (m .entry);
+    on = sample-on (m .sample) (kept-entry l kl (m .entry));
     at = subst (Equals (lineAt ts vs l (tick ts (m .sample)) 1)) (m .is) (line-through l kl (m .sample) (m .entry));
   }
 

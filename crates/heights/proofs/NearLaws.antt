@@ -12,7 +12,7 @@ use native.Mathlib.Decide.{decLe}
 use lib.IntN.{ℤ}
 use lib.ListN.{length}
 use Rattle.kept.specs.Kept.{KeptList, AllValid}
-use Rattle.kept.proofs.KeptLaws.{each-zip, kept-links}
+use Rattle.kept.proofs.KeptLaws.{each-zip, kept-links, kept-one}
 use Rattle.trace.specs.declared.Criterion.{Criterion}
 use Rattle.trace.specs.Trace.{tick, Rising, Trace}
 use Rattle.trace.specs.Link.{Band, Valid, valid}
@@ -24,7 +24,7 @@ use Rattle.trace.proofs.Offsets.{offsetBase, offsetOf, offset-of-diff, High, Lo
 use Rattle.trace.proofs.Validity.{valid-band, true-valid}
 use Rattle.trace.proofs.Half.{band-high, band-low}
 use Rattle.heights.specs.Heights.{Fraction, linkAt, lineFrom, lineAt, samplesAfter, everySample, traceAt, OnTrace, Near}
-use Rattle.heights.proofs.Entries.{kept-one, every-kept, every-links}
+use Rattle.heights.proofs.Entries.{every-kept, every-links}
 use Rattle.heights.proofs.LineLaws.{Located, kept-located, link-den, link-num, link-positive}
 
 -- ---- over levels

@@ -19,42 +19,42 @@ use Rattle.reduction.specs.Outgoing.{TakenIn, Next}
 use Rattle.reduction.proofs.OutgoingLaws.{next-at, taken-at, valid-at}
 
 -- walk from sample i has reached sample j by valid links
-pub record Reached (ts : List ℕ) (vs : List ℤ) (c : Criterion) (i j : ℕ) (l : Links) : Type 0 where
+pub record WalkedTo (ts : List ℕ) (vs : List ℤ) (c : Criterion) (i j : ℕ) (l : Links) : Type 0 where
   pub after : i < j
   pub within : j ≤ length ts - 1
   pub links : TakenIn ts vs c i (j + 1) l
   pub stop : walkFrom (valid ts vs c) i j (length ts - 1 - j) ≡ walkStop (valid ts vs c) (length ts - 1) i
 
-pub reached-first : {ts : List ℕ} {vs : List ℤ} {c : Criterion} {i : ℕ} {l : Links} → i + 1 < length ts → TakenIn ts vs c i (i + 1 + 1) l → Reached ts vs c i (i + 1) l
-reached-first {ts} {vs} {c} {i} h t = record {
+pub walked-first : {ts : List ℕ} {vs : List ℤ} {c : Criterion} {i : ℕ} {l : Links} → i + 1 < length ts → TakenIn ts vs c i (i + 1 + 1) l → WalkedTo ts vs c i (i + 1) l
+walked-first {ts} {vs} {c} {i} h t = record {
   after = omega arith;
   within = omega arith;
   links = t;
   stop = sym (from-valid (valid ts vs c) (length ts - 1) i i (omega arith) (rw (add-one i) (steps-valid ts vs c i)));
 }
 
-module _ {ts : List ℕ} {vs : List ℤ} {c : Criterion} {i j : ℕ} {l : Links} (g : Reached ts vs c i j l) where
-  pub reached-bounds : 1 ≤ length ts → (i < j) × (j < length ts)
-  reached-bounds some = (g .after, omega (arith, g .within))
+module _ {ts : List ℕ} {vs : List ℤ} {c : Criterion} {i j : ℕ} {l : Links} (g : WalkedTo ts vs c i j l) where
+  pub walked-bounds : 1 ≤ length ts → (i < j) × (j < length ts)
+  walked-bounds some = (g .after, omega (arith, g .within))
 
-  pub reached-last : length ts - 1 ≤ j → j ≡ walkStop (valid ts vs c) (length ts - 1) i
-  reached-last le = sym (from-last (valid ts vs c) (length ts - 1) i j le) ∙ g .stop
+  pub walked-last : length ts - 1 ≤ j → j ≡ walkStop (valid ts vs c) (length ts - 1) i
+  walked-last le = sym (from-last (valid ts vs c) (length ts - 1) i j le) ∙ g .stop
 
   module _ (lt : j < length ts - 1) where
-    pub reached-next : Trace ts vs → Bounded c → Next ts vs c l (j + 1)
-    reached-next t b = next-at (g .links) t b (omega (arith, g .after)) (omega arith)
+    pub walked-next : Trace ts vs → Bounded c → Next ts vs c l (j + 1)
+    walked-next t b = next-at (g .links) t b (omega (arith, g .after)) (omega arith)
 
     module _ {r b : Bool} (q : r ≡ b) (e : r ≡ valid ts vs c (l .from .sample) (j + 1)) where
       test : valid ts vs c i (j + 1) ≡ b
       test = sym (valid-at (g .links) (j + 1) e) ∙ q
 
-    pub reached-valid : {r : Bool} {m : Links} → r ≡ true → r ≡ valid ts vs c (l .from .sample) (j + 1) → TakenIn ts vs c (l .from .sample) (j + 1 + 1) m → Reached ts vs c i (j + 1) m
-    reached-valid q e t = record {
+    pub walked-valid : {r : Bool} {m : Links} → r ≡ true → r ≡ valid ts vs c (l .from .sample) (j + 1) → TakenIn ts vs c (l .from .sample) (j + 1 + 1) m → WalkedTo ts vs c i (j + 1) m
+    walked-valid q e t = record {
       after = omega (arith, g .after);
       within = omega arith;
       links = taken-at (g .links) t;
       stop = sym (from-valid (valid ts vs c) (length ts - 1) i j lt (test q e)) ∙ g .stop;
     }
 
-    pub reached-invalid : {r : Bool} → r ≡ false → r ≡ valid ts vs c (l .from .sample) (j + 1) → j ≡ walkStop (valid ts vs c) (length ts - 1) i
-    reached-invalid q e = sym (from-invalid (valid ts vs c) (length ts - 1) i j lt (test q e)) ∙ g .stop
+    pub walked-invalid : {r : Bool} → r ≡ false → r ≡ valid ts vs c (l .from .sample) (j + 1) → j ≡ walkStop (valid ts vs c) (length ts - 1) i
+    walked-invalid q e = sym (from-invalid (valid ts vs c) (length ts - 1) i j lt (test q e)) ∙ g .stop

@@ -3,12 +3,12 @@ use Prim.Native.Nat.{_-_}
 use native.Mathlib.Omega.{arith}
 use borrow.Author.Needs.{needs}
 use borrow.Author.Tests.{not-true, not-false}
-use Rattle.reduction.proofs.WalkingLaws.{Reached, reached-first, reached-next, reached-valid, reached-invalid, reached-last, reached-bounds}
+use Rattle.reduction.proofs.WalkingLaws.{WalkedTo, walked-first, walked-next, walked-valid, walked-invalid, walked-last, walked-bounds}
 use Rattle.reduction.proofs.walks.stop_after.Statement.{statement}
 use Rattle.reduction.proofs.walks.stop_after.Tie as tie
 
 abbrev Inv-loop : tie.InvT-loop
-Inv-loop ticks values c i last links₀ at₀ links at = Reached ticks values c i at links
+Inv-loop ticks values c i last links₀ at₀ links at = WalkedTo ticks values c i at links
 
 abbrev μ-loop : tie.MeasureT-loop
 μ-loop ticks values c i last links₀ at₀ links at = last - at
@@ -23,7 +23,7 @@ add-at : tie.Need-add-at Inv-loop μ-loop
 add-at c = search needs
 
 loop-holds : tie.Need-loop-holds Inv-loop μ-loop
-loop-holds c = reached-first (c .before .before .pre .2) (c .links-past .ensures)
+loop-holds c = walked-first (c .before .before .pre .2) (c .links-past .ensures)
 
 add-next : tie.Need-add-next Inv-loop μ-loop
 add-next c = search needs
@@ -31,20 +31,20 @@ add-next c = search needs
 reaches-requires : tie.Need-reaches-requires Inv-loop μ-loop
 reaches-requires c κs =
     let pre = c .before .before .before .before .pre in
-    reached-next (c .before .loop .inv) (c .loop-test .taken) (pre .0) (pre .1)
+    walked-next (c .before .loop .inv) (c .loop-test .taken) (pre .0) (pre .1)
 
 returns : tie.Need-returns Inv-loop μ-loop
 returns c =
     let at = c .before .before in (
-      reached-invalid (at .before .loop .inv) (at .loop-test .taken) (not-true _ (c .if1 .taken)) (c .before .reaches .ensures),
-      reached-bounds (at .before .loop .inv) (omega (arith, at .loop-test .taken)),
+      walked-invalid (at .before .loop .inv) (at .loop-test .taken) (not-true _ (c .if1 .taken)) (c .before .reaches .ensures),
+      walked-bounds (at .before .loop .inv) (omega (arith, at .loop-test .taken)),
     )
 
 taken-requires : tie.Need-taken-requires Inv-loop μ-loop
 taken-requires c κs =
     let at = c .before .before in
     let pre = at .before .before .before .before .pre in
-    reached-next (at .before .loop .inv) (at .loop-test .taken) (pre .0) (pre .1)
+    walked-next (at .before .loop .inv) (at .loop-test .taken) (pre .0) (pre .1)
 
 loop-less : tie.Need-loop-less Inv-loop μ-loop
 loop-less c = search needs
@@ -52,10 +52,10 @@ loop-less c = search needs
 loop-again : tie.Need-loop-again Inv-loop μ-loop
 loop-again c =
     let at = c .before .before .before in
-    reached-valid (at .before .loop .inv) (at .loop-test .taken) (not-false _ (c .before .if1 .left)) (c .before .before .reaches .ensures) (c .taken .ensures)
+    walked-valid (at .before .loop .inv) (at .loop-test .taken) (not-false _ (c .before .if1 .left)) (c .before .before .reaches .ensures) (c .taken .ensures)
 
 returns-2 : tie.Need-returns-2 Inv-loop μ-loop
-returns-2 c = (reached-last (c .before .loop .inv) (c .loop-test .left), reached-bounds (c .before .loop .inv) (omega (arith, c .before .before .before .before .pre .2)))
+returns-2 c = (walked-last (c .before .loop .inv) (c .loop-test .left), walked-bounds (c .before .loop .inv) (omega (arith, c .before .before .before .before .pre .2)))
 
 pub stop-after-spec : {M : Type 1} → statement M
 stop-after-spec =

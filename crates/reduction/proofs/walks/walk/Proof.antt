@@ -41,13 +41,13 @@ loop-less c = search needs
 loop-again : tie.Need-loop-again Inv-loop μ-loop
 loop-again c =
     let at = c .before .before .before .before .before in
-    rw (c .before .before .store2 .ensures) (filling-more (at .before .loop .inv) (walk-bounds _ (steps-valid _ _ _) _) (at .loop-test .taken) (c .before .before .before .before .stop-after .ensures .0))
+    rw (c .before .before .store2 .ensures) (filling-more (at .before .loop .inv) (walk-bounds _ _ (steps-valid _ _ _)) (at .loop-test .taken) (c .before .before .before .before .stop-after .ensures .0))
 
 same-length : tie.Need-same-length Inv-loop μ-loop
 same-length c = omega (arith, c .before .loop .inv .same, c .before .before .before .before .store .kept)
 
 returns : tie.Need-returns Inv-loop μ-loop
-returns c = walk-filled _ (steps-valid _ _ _) _ (c .before .loop .inv) (c .before .before .before .before .before .before .before .before .args .out .now) (c .before .before .before .before .store .ensures) (c .loop-test .left)
+returns c = walk-filled _ _ (c .before .loop .inv) (c .before .before .before .before .before .before .before .before .args .out .now) (c .before .before .before .before .store .ensures) (c .loop-test .left)
 
 pub walk-spec : {M : Type 1} → statement M
 walk-spec =
