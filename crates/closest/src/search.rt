@@ -44,7 +44,7 @@ fn first_error(ticks: &[u32], values: &[i16], m: usize) -> Ratio
     ends_error(ticks, values, m)
 }
 
-// Halves the tolerances below `from` until they are narrow: 23 times are enough, as fractions tried lie within 1/1,048,575 of the middle.
+// Halves the tolerances below `from` until they are narrow: 24 times are enough, as fractions tried lie within 1/1,048,575 of the middle.
 fn approach(ticks: &[u32], values: &[i16], m: usize, from: Ratio) -> Interval
     requires { ⌜ Task (now ticks) (now values) m × Reached (now ticks) (now values) m from ⌝ }
     ensures { λ r. ⌜ Narrowed (now (ticks .entry)) (now (values .entry)) m from r ⌝ }

@@ -12,7 +12,7 @@ pub enum Holding {
 }
 
 // What the checks of a trace and a tolerance find: the criterion that the tolerance sets, or a refusal.
-pub enum Ready {
+enum Ready {
     At(Criterion),
     Refused(Refusal),
 }

@@ -1,8 +1,8 @@
 -- What the structs of the C interface stand for: the enums of the public calls.
 --   toleranceOf   the tolerance that a form gives
 --   heldOf, verdictOf, keptOf, gallopedOf, closestOf, writtenOf, readOf, comparedOf   an answer as numbers: 0 for success, or the refusal's number and value
---   WalkExport, GallopExport, MinimumExport, LeastExport, ExpandExport, WriteExport, ReadExport, SameExport   an export that writes, or whose
---                 answer has a content, has the outcome of the public call
+--   HoldExport, JudgeExport, WalkExport, GallopExport, MinimumExport, LeastExport, ExpandExport, WriteExport, ReadExport, SameExport
+--                 an export's answer is that of the public call, with its whole outcome
 -- Assumes nothing.
 use mathlib.Core.Path.{_≡_}
 use mathlib.Core.Bool.{cond}
@@ -25,6 +25,8 @@ use Rattle.engine.specs.declared.Closest as C
 use Rattle.engine.specs.declared.Closest.the-variants.{Kept as IsClosest, Refused as NotClosest}
 use Rattle.engine.specs.declared.Written.{Written}
 use Rattle.engine.specs.declared.Written.the-variants.{Count, Refused as NotWritten}
+use Rattle.engine.specs.Hold.{HoldOutcome}
+use Rattle.engine.specs.Judge.{JudgeOutcome}
 use Rattle.engine.specs.Expand.{ExpandOutcome}
 use Rattle.engine.specs.Write.{WriteOutcome}
 use Rattle.reader.specs.declared.Answer as R
@@ -54,10 +56,20 @@ abbrev pub heldOf : Holding → Held
 heldOf (IsHeld r) = record { number = 0; value = 0; p = r .p; q = r .q }
 heldOf (HoldRefused x) = record { number = numberOf x; value = returnedOf x; p = 0; q = 0 }
 
+pub record HoldExport (t : Tolerance) (r : Held) : Type 0 where
+  pub answer : Holding
+  pub is : r ≡ heldOf answer
+  pub outcome : HoldOutcome (toleranceOf t) answer
+
 abbrev pub verdictOf : E.Verdict → Verdict
 verdictOf Yes = record { number = 0; passed = 1; value = 0 }
 verdictOf (No k) = record { number = 0; passed = 0; value = k }
 verdictOf (Refused x) = record { number = numberOf x; passed = 0; value = returnedOf x }
+
+pub record JudgeExport (ts : List ℕ) (vs : List ℤ) (l : List ℕ) (t : Tolerance) (r : Verdict) : Type 0 where
+  pub answer : E.Verdict
+  pub is : r ≡ verdictOf answer
+  pub outcome : JudgeOutcome ts vs l (toleranceOf t) answer
 
 abbrev pub keptOf : Reduced → Answer
 keptOf (IsKept n) = record { number = 0; value = n }

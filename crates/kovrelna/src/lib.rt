@@ -1,9 +1,6 @@
 // The C interface: each export is a public call of `engine`, with numbers and structs for its enums.
 ghost use mathlib.Core.Path.{_≡_};
-ghost use Rattle.tolerance.specs.Meaning.{meaning};
-ghost use Rattle.engine.specs.Hold.{holdingOf};
-ghost use Rattle.engine.specs.Judge.{judgeOf};
-ghost use Rattle.kovrelna.specs.Border.{toleranceOf, heldOf, verdictOf, keptOf, gallopedOf, closestOf, writtenOf, readOf, comparedOf, WalkExport, GallopExport, MinimumExport, LeastExport, ExpandExport, WriteExport, ReadExport, SameExport};
+ghost use Rattle.kovrelna.specs.Border.{toleranceOf, heldOf, verdictOf, keptOf, gallopedOf, closestOf, writtenOf, readOf, comparedOf, HoldExport, JudgeExport, WalkExport, GallopExport, MinimumExport, LeastExport, ExpandExport, WriteExport, ReadExport, SameExport};
 
 // A tolerance: form 0 is the ratio p/q, form 1 is x counts, form 2 is the noise x times the multiple y. No other form is allowed.
 #[repr(C)]
@@ -240,7 +237,7 @@ fn compared_of(a: reader::Comparison) -> Verdict
 // The ratio in lowest terms that a tolerance means.
 #[no_mangle]
 pub extern "C" fn kovrelna_hold(t: Tolerance) -> Held
-    ensures { λ r. ⌜ r ≡ heldOf (holdingOf (meaning (toleranceOf t))) ⌝ }
+    ensures { λ r. ⌜ HoldExport t r ⌝ }
 {
     held_of(engine::hold::hold(tolerance_of(t)))
 }
@@ -253,7 +250,7 @@ pub extern "C" fn kovrelna_judge(
     list: &[u16],
     t: Tolerance,
 ) -> Verdict
-    ensures { λ r. ⌜ r ≡ verdictOf (judgeOf (now (ticks .entry)) (now (values .entry)) (now (list .entry)) (toleranceOf t)) ⌝ }
+    ensures { λ r. ⌜ JudgeExport (now (ticks .entry)) (now (values .entry)) (now (list .entry)) t r ⌝ }
 {
     verdict_of(engine::judge::judge(ticks, values, list, tolerance_of(t)))
 }

@@ -1,33 +1,49 @@
 -- Demand 3, whole: how near the kept lists are to the shortest and to the closest. For every trace, unless the call is refused:
---   walk-near      no kept list of the trace within half the tolerance has fewer samples than walk's list
---   gallop-near    nor than gallop's
+--   walk-near      walk's list is a kept list within the tolerance, and no kept list within half the tolerance has fewer samples
+--   gallop-near    so is gallop's
 --   least-near     least's list has at most m samples and exactly the error returned, and no kept list of at most m samples has a lesser one
 -- Each follows from the call's contract alone, and speaks of what the call returned: the kept number, the error, the entries written.
 -- Assumes nothing.
+use mathlib.Core.Path.{_≡_}
 use mathlib.Core.List.{List}
 use Prim.Native.Nat.{ℕ}
 use native.Mathlib.Omega.{arith}
 use lib.IntN.{ℤ}
-use lib.ListN.{take}
+use lib.ListN.{length, take}
+use Rattle.lists.specs.Overwrite.{Wrote}
 use Rattle.lists.proofs.OverwriteLaws.{wrote-read}
+use Rattle.refusal.specs.declared.Checked.the-variants.{Fine}
+use Rattle.refusal.proofs.TableLaws.{then-fine}
 use Rattle.tolerance.specs.declared.Tolerance.{Tolerance}
-use Rattle.trace.specs.Link.{NoLonger}
+use Rattle.trace.proofs.Errors.{within-error}
 use Rattle.reduction.specs.declared.Galloped.{Galloped}
 use Rattle.closest.specs.declared.Found.{Found}
 use Rattle.engine.specs.declared.Reduced.the-variants.{Kept}
 use Rattle.engine.specs.declared.Probed.the-variants.{Kept as KeptBy}
 use Rattle.engine.specs.declared.Closest.the-variants.{Kept as KeptAt}
-use Rattle.engine.specs.Prepare.{criterionOf}
-use Rattle.engine.specs.Reduce.{WalkOutcome, GallopOutcome}
+use Rattle.engine.specs.Prepare.{commonRows, criterionOf, outputRows}
+use Rattle.engine.specs.Reduce.{GreedyList, WalkOutcome, GallopOutcome}
+use Rattle.engine.specs.Write.{ratioOf}
+use Rattle.engine.proofs.PrepareLaws.{common-trace}
 use Rattle.engine.specs.Least.{LeastOutcome}
-use Rattle.promises.specs.Nearness.{Nearest}
+use Rattle.promises.specs.Nearness.{NearShortest, Nearest}
 
 module _ (ts : List ℕ) (vs : List ℤ) where
-  pub walk-near : (t : Tolerance) {o o′ : List ℕ} {n : ℕ} → WalkOutcome ts vs t o (Kept n) o′ → NoLonger ts vs (criterionOf t) n
-  walk-near t w h k v = omega (arith, w .wrote .count, w .list .size h k v)
+  greedy-near : (t : Tolerance) {l o o′ : List ℕ} {n : ℕ} → outputRows ts vs t (length o) ≡ Fine → Wrote l o n o′ → GreedyList ts vs t l → NearShortest ts vs t n (take n o′)
+  unfolding outputRows
+  greedy-near t {l} rows w g = rw (wrote-read w) (record {
+    kept = g .kept;
+    count = omega (arith, w .count);
+    within = g .within;
+    error = within-error (common-trace ts vs t (then-fine (commonRows ts vs t) _ rows .0)) l (g .kept) (ratioOf (criterionOf t)) .0 (g .within);
+    size = λ h k v. omega (arith, w .count, g .size h k v);
+  })
 
-  pub gallop-near : (t : Tolerance) {o o′ : List ℕ} {g : Galloped} → GallopOutcome ts vs t o (KeptBy g) o′ → NoLonger ts vs (criterionOf t) (g .kept)
-  gallop-near t w h k v = omega (arith, w .wrote .count, w .list .size h k v)
+  pub walk-near : (t : Tolerance) {o o′ : List ℕ} {n : ℕ} → WalkOutcome ts vs t o (Kept n) o′ → NearShortest ts vs t n (take n o′)
+  walk-near t w = greedy-near t (w .rows) (w .wrote) (w .list)
+
+  pub gallop-near : (t : Tolerance) {o o′ : List ℕ} {g : Galloped} → GallopOutcome ts vs t o (KeptBy g) o′ → NearShortest ts vs t (g .kept) (take (g .kept) o′)
+  gallop-near t w = greedy-near t (w .rows) (w .wrote) (w .list)
 
   pub least-near : (m : ℕ) {o o′ : List ℕ} {f : Found} → LeastOutcome ts vs m o (KeptAt f) o′ → Nearest ts vs m f (take (f .kept) o′)
   least-near m w =

@@ -1,5 +1,6 @@
--- How near a list is to the closest: demand 3 (document 01, "The trace and its links"). Its other half is trace: specs/Link, `NoLonger`.
---   Nearest    no kept list of at most m samples has a lesser error
+-- How near a list is to the shortest and to the closest: demand 3, whole (document 01, "The trace and its links").
+--   NearShortest    a kept list within the tolerance, and no kept list within half of it has fewer samples
+--   Nearest         a kept list of at most m samples, and no such list has a lesser error
 -- The theorems are in proofs/Nearness. Assumes nothing.
 use mathlib.Core.Path.{_≡_}
 use mathlib.Core.List.{List}
@@ -8,9 +9,21 @@ use lib.IntN.{ℤ}
 use lib.ListN.{length}
 use Rattle.ratio.specs.Gcd.{gcd}
 use Rattle.ratio.specs.Order.{AtMost}
-use Rattle.kept.specs.Kept.{KeptList}
-use Rattle.trace.specs.Link.{listError}
+use Rattle.kept.specs.Kept.{KeptList, AllValid}
+use Rattle.tolerance.specs.declared.Tolerance.{Tolerance}
+use Rattle.trace.specs.Link.{listError, NoLonger}
 use Rattle.closest.specs.declared.Found.{Found}
+use Rattle.engine.specs.Prepare.{criterionOf}
+use Rattle.engine.specs.Reduce.{okOf}
+use Rattle.engine.specs.Write.{ratioOf}
+
+-- l is a kept list of n samples within the tolerance, so that its error is at most the tolerance, and no kept list within half of it has fewer
+pub record NearShortest (ts : List ℕ) (vs : List ℤ) (t : Tolerance) (n : ℕ) (l : List ℕ) : Type 0 where
+  pub kept : KeptList (length ts - 1) l
+  pub count : length l ≡ n
+  pub within : AllValid (okOf ts vs t) l
+  pub error : AtMost (listError ts vs l) (ratioOf (criterionOf t))
+  pub size : NoLonger ts vs (criterionOf t) n
 
 -- l is a kept list of at most m samples with the error returned, in lowest terms, and every such list has at least that error
 pub record Nearest (ts : List ℕ) (vs : List ℤ) (m : ℕ) (f : Found) (l : List ℕ) : Type 0 where

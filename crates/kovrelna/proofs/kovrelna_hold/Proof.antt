@@ -1,4 +1,7 @@
--- `kovrelna::kovrelna_hold` meets its contract. Assumes nothing.
+-- `kovrelna::kovrelna_hold` meets its contract: it has the outcome of the public call. Assumes nothing.
+use mathlib.Core.Path.{subst}
+use Rattle.engine.specs.Hold.{HoldOutcome}
+use Rattle.tolerance.specs.declared.Tolerance.{Tolerance}
 use borrow.Author.Needs.{needs}
 use Rattle.kovrelna.proofs.kovrelna_hold.Statement.{statement}
 use Rattle.kovrelna.proofs.kovrelna_hold.Tie as tie
@@ -13,7 +16,11 @@ held-of-requires : tie.Need-held-of-requires
 held-of-requires c κs = search needs
 
 returns : tie.Need-returns
-returns c = rw (c .held-of .ensures, c .before .hold .ensures .is, c .before .before .tolerance-of .ensures)
+returns c = record {
+  answer = c .before .hold .result;
+  is = c .held-of .ensures;
+  outcome = subst (λ (x : Tolerance). HoldOutcome x (c .before .hold .result)) (c .before .before .tolerance-of .ensures) (c .before .hold .ensures);
+}
 
 pub kovrelna-hold-spec : {M : Type 1} → statement M
 kovrelna-hold-spec =

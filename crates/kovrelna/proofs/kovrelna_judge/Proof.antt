@@ -1,4 +1,7 @@
--- `kovrelna::kovrelna_judge` meets its contract. Assumes nothing.
+-- `kovrelna::kovrelna_judge` meets its contract: it has the outcome of the public call. Assumes nothing.
+use mathlib.Core.Path.{subst}
+use Rattle.engine.specs.Judge.{JudgeOutcome}
+use Rattle.tolerance.specs.declared.Tolerance.{Tolerance}
 use borrow.Author.Needs.{needs}
 use Rattle.kovrelna.proofs.kovrelna_judge.Statement.{statement}
 use Rattle.kovrelna.proofs.kovrelna_judge.Tie as tie
@@ -13,7 +16,14 @@ verdict-of-requires : tie.Need-verdict-of-requires
 verdict-of-requires c κs = search needs
 
 returns : tie.Need-returns
-returns c = rw (c .verdict-of .ensures, c .before .judge .ensures .is, c .before .before .tolerance-of .ensures)
+returns c =
+    let called = c .before in
+    let a = called .before .before .before .before .args in
+    record {
+      answer = called .judge .result;
+      is = c .verdict-of .ensures;
+      outcome = subst (λ (x : Tolerance). JudgeOutcome (a .ticks .now) (a .values .now) (a .list .now) x (called .judge .result)) (called .before .tolerance-of .ensures) (called .judge .ensures);
+    }
 
 pub kovrelna-judge-spec : {M : Type 1} → statement M
 kovrelna-judge-spec =
