@@ -191,16 +191,17 @@ module _ (b : List ℕ) (by : Bytes b) where
 
 -- ---- the whole record
 
+-- the cursor after the first sample
+abbrev pub start : ℕ → ℕ → Cursor
+start t l = record { at = 16; first = t; tick = t; level = l; count = 1 }
+
 module _ {b : List ℕ} (by : Bytes b) where
   Whole : Parsed → Type 0
   Whole (faulty k) = Unit {0}
   Whole (says x) = (b ≡ encode x) × Legal x
 
   module _ (r : Ratio) (t l : ℕ) (a : isHeld r ≡ true) (v : Starts b (Tolerance r)) (w : Starts (drop 9 b) (First t l)) where
-    abbrev start : Cursor
-    start = record { at = 16; first = t; tick = t; level = l; count = 1 }
-
-    whole-content : (ts : List ℕ) (vs : List ℤ) → Tail b start ts vs → Whole (says (record { tolerance = r; ticks = t ∷ ts; values = valueOf l ∷ vs }))
+    whole-content : (ts : List ℕ) (vs : List ℤ) → Tail b (start t l) ts vs → Whole (says (record { tolerance = r; ticks = t ∷ ts; values = valueOf l ∷ vs }))
     unfolding Whole encode samplesOnto
     whole-content ts vs s =
         let n : 1 + length ts ≡ suc (length ts) = omega arith in
@@ -211,14 +212,14 @@ module _ {b : List ℕ} (by : Bytes b) where
           follows-legal r t ts (valueOf l) vs (is-held-true r a) (o .0) (value-short l (o .1)) (omega (arith, s .few (omega arith))) (s .follows-on),
         )
 
-    whole-first : (s : Samples) → steps b 4096 start ≡ s → Whole (attach r (onto start s))
+    whole-first : (s : Samples) → steps b 4096 (start t l) ≡ s → Whole (attach r (onto (start t l) s))
     unfolding Whole
     whole-first (fault k) e = tt
-    whole-first (samples ts vs) e = whole-content ts vs (tail b by 4096 start e)
+    whole-first (samples ts vs) e = whole-content ts vs (tail b by 4096 (start t l) e)
 
   whole-tolerance : (r : Ratio) → isHeld r ≡ true → Starts b (Tolerance r) → (m : Command) → Read (drop 9 b) m → Whole (began b (sampleHeader r m))
   unfolding Whole
-  whole-tolerance r a v (First t l) w = whole-first r t l a v w (steps b 4096 (start r t l a v w)) refl
+  whole-tolerance r a v (First t l) w = whole-first r t l a v w (steps b 4096 (start t l)) refl
   whole-tolerance r a v (Tolerance r′) w = tt
   whole-tolerance r a v (Short x d) w = tt
   whole-tolerance r a v (Long x l) w = tt

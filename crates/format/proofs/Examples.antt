@@ -1,15 +1,21 @@
 -- Examples of records, computed: how one is parsed, which steps are short, and each place of a fault.
 -- Assumes nothing.
 use mathlib.Core.Path.{_≡_, refl}
-use mathlib.Core.Bool.{true, false}
+use mathlib.Core.Bool.{Bool, true, false, _&&_}
 use mathlib.Core.List.{List, [], _∷_, _++_}
-use Prim.Native.Nat.{ℕ}
+use Prim.Native.Nat.{ℕ, zero, suc, _<_}
+use native.Mathlib.Omega.{arith}
+use borrow.Author.Tests.{ltb-true}
+use lib.Dec.{ltb}
 use lib.IntN.{pos}
-use lib.ListN.{take, set}
+use lib.ListN.{getD, take, set}
+use Rattle.lists.proofs.Tests.{and-first, and-second}
 use Rattle.ratio.specs.Gcd.{gcd}
-use Rattle.format.specs.Number.{numberFrom, valueOf}
+use Rattle.format.specs.Number.{numberFrom, Bytes, valueOf}
 use Rattle.format.specs.Command.{commandOf}
 use Rattle.format.specs.Format.{Content, isHeld, short, shortStep, longStep, endStep, steps, faulty, says, parse}
+use Rattle.format.specs.Fault.{FaultAt}
+use Rattle.format.proofs.FaultLaws.{fault-exact}
 
 -- samples 0 and 2 of ticks 0 1 3 and values 0 1 1, at 2/3
 abbrev kept : Content
@@ -70,3 +76,38 @@ fault-advance = refl
 fault-kind : parse (set figure 9 0x53) ≡ faulty 9
 unfolding parse steps shortStep longStep endStep commandOf isHeld gcd numberFrom
 fault-kind = refl
+
+-- ---- one fault of each kind, without the parser
+
+areBytes : List ℕ → Bool
+areBytes [] = true
+areBytes (x ∷ s) = ltb x 256 && areBytes s
+
+are-bytes : (s : List ℕ) → areBytes s ≡ true → Bytes s
+unfolding areBytes
+are-bytes s e = record { byte = go s e }
+  where
+    go : (s : List ℕ) → areBytes s ≡ true → (i : ℕ) → getD s i 0 < 256
+    go [] e i = omega arith
+    go (x ∷ s) e zero = ltb-true x 256 (and-first (ltb x 256) (areBytes s) e)
+    go (x ∷ s) e (suc i) = go s (and-second (ltb x 256) (areBytes s) e) i
+
+-- a command that is cut off
+cut-off : FaultAt (take 21 figure) 19
+unfolding areBytes
+cut-off = fault-exact (are-bytes _ refl) 19 .0 fault-cut
+
+-- one that breaks a rule
+broken : FaultAt (set figure 17 0) 16
+unfolding areBytes
+broken = fault-exact (are-bytes _ refl) 16 .0 fault-advance
+
+-- a byte after the end
+after-end : FaultAt (figure ++ (0 ∷ [])) 22
+unfolding areBytes
+after-end = fault-exact (are-bytes _ refl) 22 .0 fault-after
+
+-- a missing end
+end-missing : FaultAt (take 19 figure) 19
+unfolding areBytes
+end-missing = fault-exact (are-bytes _ refl) 19 .0 fault-missing

@@ -5,4 +5,5 @@ pub mod RuleLaws
 pub mod ParseEncode
 pub mod EncodeParse
 pub mod SameLaws
+pub mod FaultLaws
 pub mod Examples

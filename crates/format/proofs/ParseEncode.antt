@@ -4,10 +4,9 @@ use mathlib.Core.Path.{_≡_, refl, sym, ap, _∙_}
 use mathlib.Core.Bool.{true, false}
 use mathlib.Core.List.{List, [], _∷_}
 use Prim.Native.Nat.{ℕ, zero, suc, _+_, _-_, _≤_, _<_}
-use native.Mathlib.Nat.{add-zero}
 use native.Mathlib.Omega.{arith}
 use borrow.Author.Tests.{le-leb, eq-eqb, lt-ltb}
-use lib.Dec.{leb}
+use lib.Dec.{leb, eqb}
 use lib.IntN.{ℤ}
 use lib.ListN.{length, drop, length-drop}
 use lib.Seq.{drop-drop}
@@ -15,15 +14,16 @@ use Rattle.lists.proofs.Tests.{by-test}
 use Rattle.ratio.specs.declared.Ratio.{Ratio}
 use Rattle.trace.specs.Level.{level}
 use Rattle.trace.proofs.Level.{level-short}
-use Rattle.format.specs.Command.{sizeOf, commandOnto}
-use Rattle.format.specs.Format.{Content, Legal, inLimits, short, shortStep, longStep, endStep, stepOf, samples, steps, says, parse, stepTo, stepsOnto, samplesOnto, encode}
+use Rattle.format.specs.Number.{valueOf}
+use Rattle.format.specs.Command.{sizeOf, choose, commandOnto}
+use Rattle.format.specs.Format.{Content, Legal, inLimits, short, shortStep, longStep, endStep, stepOf, Samples, samples, onto, steps, says, parse, stepTo, stepsOnto, samplesOnto, encode}
 use Rattle.format.specs.declared.Cursor.{Cursor}
 use Rattle.format.specs.declared.Command.{Command}
 use Rattle.format.specs.declared.Command.the-variants.{Tolerance, First, Short, Long, End}
-use Rattle.format.specs.declared.Step.the-variants.{Sample}
+use Rattle.format.specs.declared.Step.the-variants.{Sample, End as Ended, Fault}
 use Rattle.format.proofs.NumberLaws.{value-level}
 use Rattle.format.proofs.CommandLaws.{command-read, command-rest, command-length}
-use Rattle.format.proofs.RuleLaws.{short-le, le-in-limits, held-is-held, Follows, legal-follows}
+use Rattle.format.proofs.RuleLaws.{short-le, le-in-limits, held-is-held, Follows, first-sample, legal-follows}
 
 -- the cursor after a step of k bytes
 abbrev next : Cursor → ℕ → ℕ → ℕ → Cursor
@@ -33,6 +33,7 @@ next c k t l = record { at = c .at + k; first = c .first; tick = t; level = l; c
 record Reaches (b : List ℕ) (c : Cursor) (t l : ℕ) (xs : List ℕ) : Type 0 where
   size : ℕ
   step : stepOf b c ≡ Sample (next c size t l)
+  inside : c .at + size ≤ length b
   rest : drop (c .at + size) b ≡ xs
 
 -- the rest of a record whose part from a place on is a command and then xs
@@ -53,6 +54,7 @@ module _ (b : List ℕ) (c : Cursor) (t l : ℕ) (xs : List ℕ) (rise : c .tick
       record {
         size = 3;
         step = rw (e, command-read xs (Short a d) (omega arith), x, y, h₁, h₂, ok, lt-ltb _ _ room);
+        inside = omega (arith, ap length e ∙ command-length (Short a d) xs, length-drop (c .at) b);
         rest = after b (c .at) (Short a d) xs e;
       }
 
@@ -65,6 +67,7 @@ module _ (b : List ℕ) (c : Cursor) (t l : ℕ) (xs : List ℕ) (rise : c .tick
       record {
         size = 6;
         step = rw (e, command-read xs (Long a l) (omega arith), x, h₁, s, ok, lt-ltb _ _ room);
+        inside = omega (arith, ap length e ∙ command-length (Long a l) xs, length-drop (c .at) b);
         rest = after b (c .at) (Long a l) xs e;
       }
 
@@ -73,24 +76,35 @@ module _ (b : List ℕ) (c : Cursor) (t l : ℕ) (xs : List ℕ) (rise : c .tick
 
 -- ---- the steps, and the whole record
 
-module _ (b : List ℕ) where
-  steps-read : (n : ℕ) (c : Cursor) (ts : List ℕ) (vs : List ℤ) → c .first ≤ c .tick → Follows (c .first) (c .tick) ts vs → length ts < n → c .count + length ts ≤ 4096
-      → drop (c .at) b ≡ stepsOnto (c .tick) (c .level) ts vs (commandOnto (End (c .count + length ts)) [])
-      → steps b n c ≡ samples ts vs
-  unfolding steps stepsOnto endStep
-  steps-read zero c ts vs begun f n m e = absurd (omega arith)
-  steps-read (suc n) c [] [] begun f h m e =
-      let k : c .at + 3 ≡ length b = omega (arith, ap length e ∙ command-length (End (c .count + 0)) [], length-drop (c .at) b) in
-      rw (e, command-read [] (End (c .count + 0)) (omega arith), add-zero, eq-eqb (c .count) (c .count) refl, eq-eqb (c .at + 3) (length b) k)
-  steps-read (suc n) c [] (v ∷ vs) begun f h m e = absurd f
-  steps-read (suc n) c (t ∷ ts) [] begun f h m e = absurd f
-  steps-read (suc n) c (t ∷ ts) (v ∷ vs) begun f h m e =
+-- what holds of the last command's samples, and of more samples with those after them, holds of all that are written before xs
+module _ (b xs : List ℕ) (n : ℕ) (P : List ℕ → List ℤ → Samples → Type 0)
+    (more : (c : Cursor) (ts : List ℕ) (vs : List ℤ) (s : Samples) → P ts vs s → P (c .tick ∷ ts) (valueOf (c .level) ∷ vs) (onto c s))
+    (last : (m : ℕ) (c : Cursor) → c .at ≤ length b → c .count ≡ n → drop (c .at) b ≡ xs → P [] [] (steps b (suc m) c)) where
+  pub steps-along : (m : ℕ) (c : Cursor) (ts : List ℕ) (vs : List ℤ) → c .at ≤ length b → c .first ≤ c .tick → Follows (c .first) (c .tick) ts vs → length ts < m → c .count + length ts ≡ n → n ≤ 4096
+      → drop (c .at) b ≡ stepsOnto (c .tick) (c .level) ts vs xs
+      → P ts vs (steps b m c)
+  unfolding steps stepsOnto
+  steps-along zero c ts vs i g f l k h e = absurd (omega arith)
+  steps-along (suc m) c [] [] i g f l k h e = last m c i (omega arith) e
+  steps-along (suc m) c [] (v ∷ vs) i g f l k h e = absurd f
+  steps-along (suc m) c (t ∷ ts) [] i g f l k h e = absurd f
+  steps-along (suc m) c (t ∷ ts) (v ∷ vs) i g f l k h e =
       let s : level v ≤ 65535 = level-short v (f .3) in
       let r = reaches b c t (level v) _ (f .0) (omega arith) s (le-in-limits (c .first) t (level v) (f .1) (f .2) s) (omega arith) e in
-      let x : c .count + suc (length ts) ≡ c .count + 1 + length ts = omega arith in
       let d : Cursor = next c (r .size) t (level v) in
-      let ih : steps b n d ≡ samples ts vs = steps-read n d ts vs (omega arith) (f .4) (omega arith) (omega arith) (r .rest ∙ ap (λ (m : ℕ). stepsOnto t (level v) ts vs (commandOnto (End m) [])) x) in
-      rw (r .step, ih, value-level v (f .3))
+      let p : P ts vs (steps b m d) = steps-along m d ts vs (r .inside) (omega arith) (f .4) (omega arith) (omega arith) h (r .rest) in
+      rw (r .step) (rw (value-level v (f .3)) at (more d ts vs (steps b m d) p))
+
+-- an end that gives the number of samples
+pub end-step : (b : List ℕ) (c : Cursor) (xs : List ℕ) → c .count ≤ 4096 → drop (c .at) b ≡ commandOnto (End (c .count)) xs → stepOf b c ≡ choose (eqb (c .at + 3) (length b)) Ended (Fault (c .at + 3))
+unfolding endStep
+end-step b c xs h e = rw (e, command-read xs (End (c .count)) (omega arith), eq-eqb (c .count) (c .count) refl)
+
+end-read : (b : List ℕ) (m : ℕ) (c : Cursor) → c .count ≤ 4096 → drop (c .at) b ≡ commandOnto (End (c .count)) [] → steps b (suc m) c ≡ samples [] []
+unfolding steps
+end-read b m c h e =
+    let l : c .at + 3 ≡ length b = omega (arith, ap length e ∙ command-length (End (c .count)) [], length-drop (c .at) b) in
+    rw (end-step b c [] h e, eq-eqb (c .at + 3) (length b) l)
 
 module _ (r : Ratio) (t : ℕ) (ts : List ℕ) (v : ℤ) (vs : List ℤ) (h : Legal (record { tolerance = r; ticks = t ∷ ts; values = v ∷ vs })) where
   whole : parse (encode (record { tolerance = r; ticks = t ∷ ts; values = v ∷ vs })) ≡ says (record { tolerance = r; ticks = t ∷ ts; values = v ∷ vs })
@@ -101,13 +115,14 @@ module _ (r : Ratio) (t : ℕ) (ts : List ℕ) (v : ℤ) (vs : List ℤ) (h : Le
       let xs : List ℕ = stepsOnto t (level v) ts vs (commandOnto (End (length (t ∷ ts))) []) in
       let ys : List ℕ = commandOnto (First t (level v)) xs in
       let c : Cursor = record { at = 16; first = t; tick = t; level = level v; count = 1 } in
-      let y : 1 + length ts ≡ suc (length ts) = omega arith in
       let l : level v ≤ 65535 = level-short v (h .value-range 0) in
       let ht : t ≤ 4294967295 = h .tick-range 0 in
       let e₁ : drop 9 b ≡ ys = command-rest (Tolerance r) ys in
       let e₂ : drop 16 b ≡ xs = sym (drop-drop 7 9 b) ∙ ap (drop 7) e₁ ∙ command-rest (First t (level v)) xs in
+      let n : ℕ = length (t ∷ ts) in
       let s : steps b 4096 c ≡ samples ts vs =
-      steps-read b 4096 c ts vs (omega arith) (legal-follows h) (omega (arith, h .trace .few)) (omega (arith, h .trace .few)) (e₂ ∙ ap (λ (m : ℕ). stepsOnto t (level v) ts vs (commandOnto (End m) [])) (sym y)) in
+      steps-along b (commandOnto (End n) []) n (λ us ws s. s ≡ samples us ws) (λ d us ws s e. rw e) (λ m d i k e. end-read b m d (omega (arith, h .trace .few)) (e ∙ ap (λ (j : ℕ). commandOnto (End j) []) (sym k)))
+      4096 c ts vs (omega (arith, ap length e₁ ∙ command-length (First t (level v)) xs, length-drop 9 b)) (omega arith) (legal-follows h) (omega (arith, h .trace .few)) (omega arith) (h .trace .few) e₂ in
       rw (command-read ys (Tolerance r) (omega (arith, h .held)), held-is-held r (h .held), e₁, command-read xs (First t (level v)) (omega arith), s, value-level v (h .value-range 0))
 
 -- a record has at least its tolerance's bytes
@@ -117,9 +132,4 @@ record-long x = omega (arith, command-length (Tolerance (x .tolerance)) (samples
 
 -- every legal content is read as it was written
 pub parse-encode : (x : Content) → Legal x → parse (encode x) ≡ says x
-parse-encode x = go (x .tolerance) (x .ticks) (x .values)
-  where
-    go : (r : Ratio) (ts : List ℕ) (vs : List ℤ) → Legal (record { tolerance = r; ticks = ts; values = vs }) → parse (encode (record { tolerance = r; ticks = ts; values = vs })) ≡ says (record { tolerance = r; ticks = ts; values = vs })
-    go r [] vs h = absurd (omega (arith, h .trace .some))
-    go r (t ∷ ts) [] h = absurd (omega (arith, h .trace .same))
-    go r (t ∷ ts) (v ∷ vs) h = whole r t ts v vs h
+parse-encode = first-sample (λ x. parse (encode x) ≡ says x) whole

@@ -17,7 +17,7 @@ use Rattle.ratio.specs.Gcd.{gcd}
 use Rattle.tolerance.specs.Meaning.{Held}
 use Rattle.trace.specs.Trace.{tick, value, Rising}
 use Rattle.trace.proofs.Ticks.{not-earlier}
-use Rattle.format.specs.Format.{Legal, isHeld, inLimits, short}
+use Rattle.format.specs.Format.{Content, Legal, isHeld, inLimits, short}
 
 -- ---- tests
 
@@ -58,6 +58,16 @@ Follows first t [] [] = Unit {0}
 Follows first t [] (v′ ∷ vs) = ⊥
 Follows first t (t′ ∷ ts) [] = ⊥
 Follows first t (t′ ∷ ts) (v′ ∷ vs) = (t < t′) × (t′ ≤ 4294967295) × (t′ ≤ first + 1048575) × (mag v′ < 32768) × Follows first t′ ts vs
+
+-- a legal content has a first sample
+pub first-sample : (P : Content → Type 0) → ((r : Ratio) (t : ℕ) (ts : List ℕ) (v : ℤ) (vs : List ℤ)
+    → Legal (record { tolerance = r; ticks = t ∷ ts; values = v ∷ vs }) → P (record { tolerance = r; ticks = t ∷ ts; values = v ∷ vs })) → (x : Content) → Legal x → P x
+first-sample P f x = go (x .tolerance) (x .ticks) (x .values)
+  where
+    go : (r : Ratio) (ts : List ℕ) (vs : List ℤ) → Legal (record { tolerance = r; ticks = ts; values = vs }) → P (record { tolerance = r; ticks = ts; values = vs })
+    go r [] vs h = absurd (omega (arith, h .trace .some))
+    go r (t ∷ ts) [] h = absurd (omega (arith, h .trace .same))
+    go r (t ∷ ts) (v ∷ vs) h = f r t ts v vs h
 
 rising-tail : {t : ℕ} {ts : List ℕ} → Rising (t ∷ ts) → Rising ts
 rising-tail r = record { rises = λ k h. r .rises (suc k) (omega arith) }

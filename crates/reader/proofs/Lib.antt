@@ -2,3 +2,4 @@
 pub mod CommandsAt
 pub mod PassLaws
 pub mod ReadingLaws
+pub mod FaultPlaces

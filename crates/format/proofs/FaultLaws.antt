@@ -1,0 +1,390 @@
+-- The fault's byte: `parse b` is faulty at byte k exactly if the fault of b lies at byte k.
+--   EndOrNone        the end that n samples have, or none
+--   opening          a tolerance and samples, before other bytes
+--   Opened           bytes whose first k are a tolerance, samples and an end or none
+--   Faults           the fault of the step at a cursor
+--   Ahead, AheadBy   the bytes from a cursor on are steps and an end or none, up to byte k; so they are up to a fault
+--   Obeyed           the bytes before a fault are commands that obey the rules
+--   Late, Past       a fault lies at byte n or after it
+-- Assumes nothing.
+use mathlib.Core.Path.{_≡_, refl, sym, ap, _∙_, subst}
+use mathlib.Core.Logic.{_↔_, _⊎_, inl, inr}
+use mathlib.Core.Bool.{Bool, true, false}
+use mathlib.Core.List.{List, [], _∷_, _++_, append-assoc}
+use Prim.Native.Nat.{ℕ, zero, suc, _+_, _≤_}
+use native.Mathlib.Nat.{add-zero}
+use native.Mathlib.Omega.{arith}
+use borrow.Author.Tests.{eqb-true}
+use lib.Dec.{eqb}
+use lib.IntN.{ℤ}
+use lib.ListN.{length, take, drop, length-append, length-drop, take-append-drop}
+use lib.Seq.{drop-drop, take-at, length-take-le}
+use Rattle.ratio.specs.declared.Ratio.{Ratio}
+use Rattle.tolerance.specs.Meaning.{Held}
+use Rattle.trace.specs.Level.{level}
+use Rattle.trace.proofs.Level.{level-short}
+use Rattle.format.specs.Number.{Bytes, valueOf}
+use Rattle.format.specs.Command.{choose, commandOf, commandOnto}
+use Rattle.format.specs.Format.{Content, Legal, isHeld, moved, shortObeys, longObeys, shortStep, longStep, endStep, obey, stepOf, Samples, fault, samples, onto, follow, steps, sampleHeader, toleranceHeader, Parsed, faulty, says, attach, began, parse, stepTo, stepsOnto, samplesOnto, encode}
+use Rattle.format.specs.Fault.{Run, none, toleranceOnly, unended, complete, FaultAt}
+use Rattle.format.specs.declared.Cursor.{Cursor}
+use Rattle.format.specs.declared.Command.{Command}
+use Rattle.format.specs.declared.Command.the-variants.{Tolerance, First, Short, Long, End, Invalid}
+use Rattle.format.specs.declared.Step.{Step}
+use Rattle.format.specs.declared.Step.the-variants.{Sample, End as Ended, Fault}
+use Rattle.format.specs.declared.Header.the-variants.{Fault as NoHeader}
+use Rattle.format.proofs.NumberLaws.{bytes-drop, level-value, value-short}
+use Rattle.format.proofs.CommandLaws.{Starts, Read, read, command-append, command-length, command-read, command-rest}
+use Rattle.format.proofs.RuleLaws.{in-limits-le, is-held-true, held-is-held, Follows, first-sample, legal-follows, follows-legal}
+use Rattle.format.proofs.ParseEncode.{steps-along, end-step, parse-encode}
+use Rattle.format.proofs.EncodeParse.{Stepped, stepped, start, encode-parse}
+
+-- ---- a record with its end, or without it
+
+EndOrNone : ℕ → List ℕ → Type 0
+EndOrNone n e = (e ≡ []) ⊎ (e ≡ commandOnto (End n) [])
+
+onto-append : (m : Command) (xs ys : List ℕ) → commandOnto m (xs ++ ys) ≡ commandOnto m xs ++ ys
+onto-append m xs ys = command-append m (xs ++ ys) ∙ sym (append-assoc (commandOnto m []) xs ys) ∙ ap (λ (r : List ℕ). r ++ ys) (sym (command-append m xs))
+
+steps-append : (t l : ℕ) (ts : List ℕ) (vs : List ℤ) (xs ys : List ℕ) → stepsOnto t l ts vs (xs ++ ys) ≡ stepsOnto t l ts vs xs ++ ys
+unfolding stepsOnto
+steps-append t l [] vs xs ys = refl
+steps-append t l (t′ ∷ ts) [] xs ys = refl
+steps-append t l (t′ ∷ ts) (v ∷ vs) xs ys =
+    let m : Command = stepTo t l t′ (level v) in
+    ap (commandOnto m) (steps-append t′ (level v) ts vs xs ys) ∙ onto-append m (stepsOnto t′ (level v) ts vs xs) ys
+
+front : (b : List ℕ) (k : ℕ) (s : List ℕ) → k ≤ length b → b ≡ s ++ drop k b → take k b ≡ s
+front b k s h e = ap (take k) e ∙ take-at s (drop k b) k (omega (arith, ap length e ∙ length-append s (drop k b), length-drop k b))
+
+behind : (b : List ℕ) (k : ℕ) (s : List ℕ) → take k b ≡ s → b ≡ s ++ drop k b
+behind b k s e = sym (take-append-drop k b) ∙ ap (λ (r : List ℕ). r ++ drop k b) e
+
+cancel : (s t e : List ℕ) → s ++ e ≡ t ++ e → s ≡ t
+cancel s t e h =
+    sym (take-at s e (length s) refl) ∙ ap (take (length s)) h
+    ∙ take-at t e (length s) (omega (arith, ap length h, length-append s e, length-append t e))
+
+module _ (r : Ratio) (t : ℕ) (ts : List ℕ) (v : ℤ) (vs : List ℤ) where
+  abbrev content : Content
+  content = record { tolerance = r; ticks = t ∷ ts; values = v ∷ vs }
+
+  abbrev opening : List ℕ → List ℕ
+  opening xs = commandOnto (Tolerance r) (commandOnto (First t (level v)) (stepsOnto t (level v) ts vs xs))
+
+  opening-append : (xs ys : List ℕ) → opening (xs ++ ys) ≡ opening xs ++ ys
+  opening-append xs ys =
+      let s : List ℕ = stepsOnto t (level v) ts vs xs in
+      rw (steps-append t (level v) ts vs xs ys, onto-append (First t (level v)) s ys) (onto-append (Tolerance r) (commandOnto (First t (level v)) s) ys)
+
+  record Opened (b : List ℕ) (k : ℕ) : Type 0 where
+    legal : Legal content
+    end : List ℕ
+    ends : EndOrNone (length (t ∷ ts)) end
+    bytes : b ≡ opening (end ++ drop k b)
+
+  module _ (b : List ℕ) (k : ℕ) where
+    opened-run : k ≤ length b → Opened b k → Run (take k b)
+    unfolding EndOrNone encode samplesOnto
+    opened-run h o = go (o .end) (o .bytes ∙ opening-append (o .end) (drop k b)) (o .ends)
+      where
+        go : (e : List ℕ) → b ≡ opening e ++ drop k b → EndOrNone (length (t ∷ ts)) e → Run (take k b)
+        go e f (inl g) = unended content (o .legal) (rw (front b k (opening e) h f, g) (sym (opening-append [] (commandOnto (End (length (t ∷ ts))) []))))
+        go e f (inr g) = complete content (o .legal) (rw (front b k (opening e) h f, g))
+
+    opened : Legal content → (e : List ℕ) → EndOrNone (length (t ∷ ts)) e → take k b ≡ opening e → Opened b k
+    opened h e w f = record {
+      legal = h;
+      end = e;
+      ends = w;
+      bytes = behind b k (opening e) f ∙ sym (opening-append e (drop k b));
+    }
+
+    unended-opened : Legal content → take k b ++ commandOnto (End (length (t ∷ ts))) [] ≡ encode content → Opened b k
+    unfolding EndOrNone encode samplesOnto
+    unended-opened h e =
+        let x : List ℕ = commandOnto (End (length (t ∷ ts))) [] in
+        opened h [] (inl refl) (cancel (take k b) (opening []) x (e ∙ opening-append [] x))
+
+    complete-opened : Legal content → take k b ≡ encode content → Opened b k
+    unfolding EndOrNone encode samplesOnto
+    complete-opened h e = opened h (commandOnto (End (length (t ∷ ts))) []) (inr refl) e
+
+-- ---- a step's fault
+
+-- at the command there; or after it, where it is an end
+record Faults (b : List ℕ) (c : Cursor) (k : ℕ) : Type 0 where
+  end : List ℕ
+  ends : EndOrNone (c .count) end
+  bytes : drop (c .at) b ≡ end ++ drop k b
+  order : c .at ≤ k
+  inside : k ≤ length b
+
+module _ (b : List ℕ) (c : Cursor) (k : ℕ) (within : c .at ≤ length b) where
+  faults-here : c .at ≡ k → Faults b c k
+  unfolding EndOrNone
+  faults-here e = record { end = []; ends = inl refl; bytes = rw e; order = omega arith; inside = omega arith }
+
+  faults-moved : (ok : Bool) (n t l : ℕ) → moved ok n c t l ≡ Fault k → Faults b c k
+  faults-moved true n t l e = faults-here cc
+  faults-moved false n t l e = faults-here cc
+
+  faults-end : (m : ℕ) → Starts (drop (c .at) b) (End m) → endStep (length b) c m ≡ Fault k → Faults b c k
+  unfolding endStep EndOrNone
+  faults-end m w = go (eqb m (c .count)) refl (eqb (c .at + 3) (length b))
+    where
+      go : (x : Bool) → eqb m (c .count) ≡ x → (y : Bool) → choose x (choose y Ended (Fault (c .at + 3))) (Fault (c .at)) ≡ Fault k → Faults b c k
+      go true f true e = faults-here cc
+      go true f false e =
+          let j : c .at + 3 ≡ k = cc in
+          record {
+            end = commandOnto (End (c .count)) [];
+            ends = inr refl;
+            bytes = rw (← j, ← drop-drop 3 (c .at) b, ← eqb-true m (c .count) f) (w .bytes ∙ command-append (End m) (drop 3 (drop (c .at) b)));
+            order = omega arith;
+            inside = omega (arith, length-drop (c .at) b);
+          }
+      go false f y e = faults-here cc
+
+  faults : Bytes b → stepOf b c ≡ Fault k → Faults b c k
+  unfolding shortStep longStep
+  faults by = go (commandOf (drop (c .at) b)) (read (bytes-drop (c .at) by))
+    where
+      go : (m : Command) → Read (drop (c .at) b) m → obey (length b) c m ≡ Fault k → Faults b c k
+      go (Tolerance r) w e = faults-here cc
+      go (First t l) w e = faults-here cc
+      go (Short a x) w e = faults-moved (shortObeys c a x) 3 _ _ e
+      go (Long a l) w e = faults-moved (longObeys c a l) 6 _ _ e
+      go (End m) w e = faults-end m w e
+      go Invalid w e = faults-here cc
+
+-- ---- the steps before a fault obey the rules
+
+record Ahead (b : List ℕ) (c : Cursor) (k : ℕ) : Type 0 where
+  ticks : List ℕ
+  values : List ℤ
+  end : List ℕ
+  ends : EndOrNone (c .count + length ticks) end
+  bytes : drop (c .at) b ≡ stepsOnto (c .tick) (c .level) ticks values (end ++ drop k b)
+  follows-on : Follows (c .first) (c .tick) ticks values
+  few : c .count + length ticks ≤ 4096
+  order : c .at ≤ k
+  inside : k ≤ length b
+
+module _ {b : List ℕ} (by : Bytes b) where
+  AheadBy : Cursor → Samples → Type 0
+  AheadBy c (fault k) = Ahead b c k
+  AheadBy c (samples ts vs) = Unit {0}
+
+  ahead-here : (c : Cursor) (k : ℕ) → c .count ≤ 4096 → Faults b c k → Ahead b c k
+  unfolding stepsOnto
+  ahead-here c k h f = record {
+    ticks = [];
+    values = [];
+    end = f .end;
+    ends = rw add-zero (f .ends);
+    bytes = f .bytes;
+    follows-on = tt;
+    few = omega arith;
+    order = f .order;
+    inside = f .inside;
+  }
+
+  ahead-more : (c d : Cursor) → c .at ≤ length b → Stepped b c d → (s : Samples) → AheadBy d s → AheadBy c (onto d s)
+  unfolding AheadBy stepsOnto
+  ahead-more c d h s (samples ts vs) a = tt
+  ahead-more c d h s (fault k) a =
+      let w = in-limits-le (c .first) (d .tick) (d .level) (s .ok) in
+      let m : Command = stepTo (c .tick) (c .level) (d .tick) (d .level) in
+      let n : d .count + length (a .ticks) ≡ c .count + suc (length (a .ticks)) = omega arith in
+      record {
+        ticks = d .tick ∷ a .ticks;
+        values = valueOf (d .level) ∷ a .values;
+        end = a .end;
+        ends = rw (← n) (a .ends);
+        bytes = rw (level-value (d .level) (w .2)) (s .bytes ∙ ap (commandOnto m) (a .bytes));
+        follows-on = (s .rise, w .0, w .1, value-short (d .level) (w .2), rw (s .first) at (a .follows-on));
+        few = omega arith;
+        order = omega (arith, ap length (s .bytes) ∙ command-length m (drop (d .at) b), length-drop (c .at) b, length-drop (d .at) b);
+        inside = a .inside;
+      }
+
+  ahead : (n : ℕ) (c : Cursor) → c .at ≤ length b → c .count ≤ 4096 → AheadBy c (steps b n c)
+  unfolding steps AheadBy
+  ahead zero c h i = ahead-here c (c .at) i (faults-here b c (c .at) h refl)
+  ahead (suc n) c h i = go (λ d. ahead n d) (stepOf b c) refl
+    where
+      go : ((d : Cursor) → d .at ≤ length b → d .count ≤ 4096 → AheadBy d (steps b n d)) → (s : Step) → stepOf b c ≡ s → AheadBy c (follow s (λ d. steps b n d))
+      go ih (Sample d) e = let s = stepped b c d by e in ahead-more c d h s (steps b n d) (ih d (s .inside) (omega arith))
+      go ih Ended e = tt
+      go ih (Fault k) e = ahead-here c k i (faults b c k h by e)
+
+  -- ---- the commands before a fault obey the rules
+
+  Obeyed : Parsed → Type 0
+  Obeyed (faulty k) = (k ≤ length b) × Run (take k b)
+  Obeyed (says x) = Unit {0}
+
+  obeyed-none : Obeyed (faulty 0)
+  unfolding Obeyed
+  obeyed-none = (omega arith, none refl)
+
+  module _ (r : Ratio) (held : Held r) (v : Starts b (Tolerance r)) where
+    obeyed-tolerance : Obeyed (faulty 9)
+    unfolding Obeyed
+    obeyed-tolerance = (v .whole, toleranceOnly r held (front b 9 _ (v .whole) (v .bytes ∙ command-append (Tolerance r) (drop 9 b))))
+
+    module _ (t l : ℕ) (w : Starts (drop 9 b) (First t l)) where
+      obeyed-ahead : (k : ℕ) → Ahead b (start t l) k → Obeyed (faulty k)
+      unfolding Obeyed
+      obeyed-ahead k a =
+          let o = w .operands in
+          let n : 1 + length (a .ticks) ≡ length (t ∷ a .ticks) = omega arith in (
+            a .inside,
+            opened-run r t (a .ticks) (valueOf l) (a .values) b k (a .inside) (record {
+              legal = follows-legal r t (a .ticks) (valueOf l) (a .values) held (o .0) (value-short l (o .1)) (omega arith) (a .follows-on);
+              end = a .end;
+              ends = rw (← n) (a .ends);
+              bytes = rw (level-value l (o .1)) (v .bytes ∙ ap (commandOnto (Tolerance r)) (w .bytes ∙ ap (commandOnto (First t l)) (drop-drop 7 9 b ∙ a .bytes)));
+            }),
+          )
+
+      obeyed-steps : (s : Samples) → AheadBy (start t l) s → Obeyed (attach r (onto (start t l) s))
+      unfolding AheadBy Obeyed
+      obeyed-steps (fault k) a = obeyed-ahead k a
+      obeyed-steps (samples ts vs) a = tt
+
+    obeyed-first : (m : Command) → Read (drop 9 b) m → Obeyed (began b (sampleHeader r m))
+    obeyed-first (First t l) w = obeyed-steps t l w (steps b 4096 (start t l)) (ahead 4096 (start t l) (omega (arith, length-drop 9 b)) (omega arith))
+    obeyed-first (Tolerance q) w = obeyed-tolerance
+    obeyed-first (Short a d) w = obeyed-tolerance
+    obeyed-first (Long a l) w = obeyed-tolerance
+    obeyed-first (End m) w = obeyed-tolerance
+    obeyed-first Invalid w = obeyed-tolerance
+
+  obeyed : (m : Command) → Read b m → Obeyed (began b (toleranceHeader m (commandOf (drop 9 b))))
+  obeyed (Tolerance r) v = go (isHeld r) refl
+    where
+      go : (a : Bool) → isHeld r ≡ a → Obeyed (began b (choose a (sampleHeader r (commandOf (drop 9 b))) (NoHeader 0)))
+      go true e = obeyed-first r (is-held-true r e) v (commandOf (drop 9 b)) (read (bytes-drop 9 by))
+      go false e = obeyed-none
+  obeyed (First t l) v = obeyed-none
+  obeyed (Short a d) v = obeyed-none
+  obeyed (Long a l) v = obeyed-none
+  obeyed (End m) v = obeyed-none
+  obeyed Invalid v = obeyed-none
+
+  -- ---- no fault lies within a run of commands that obey them
+
+  Late : ℕ → Samples → Type 0
+  Late n (fault k) = n ≤ k
+  Late n (samples ts vs) = Unit {0}
+
+  late-onto : (n : ℕ) (c : Cursor) (s : Samples) → Late n s → Late n (onto c s)
+  unfolding Late
+  late-onto n c (fault k) h = h
+  late-onto n c (samples ts vs) h = tt
+
+  late-from : (n m : ℕ) (c : Cursor) → c .at ≤ length b → c .count ≤ 4096 → n ≤ c .at → Late n (steps b m c)
+  unfolding AheadBy Late
+  late-from n m c i j h = go (steps b m c) (ahead m c i j)
+    where
+      go : (s : Samples) → AheadBy c s → Late n s
+      go (fault k) a = omega arith
+      go (samples ts vs) a = tt
+
+  module _ (n : ℕ) (h : n ≤ length b) where
+    late-end : (m : ℕ) (c : Cursor) (e : List ℕ) → c .at ≤ length b → c .count ≤ 4096 → EndOrNone (c .count) e → drop (c .at) b ≡ e ++ drop n b → Late n (steps b (suc m) c)
+    unfolding EndOrNone Late steps
+    late-end m c e i j (inl z) f =
+        let g : drop (c .at) b ≡ drop n b = rw z at f in
+        late-from n (suc m) c i j (omega (arith, ap length g, length-drop (c .at) b, length-drop n b))
+    late-end m c e i j (inr z) f =
+        let x : Command = End (c .count) in
+        let g : drop (c .at) b ≡ commandOnto x (drop n b) = rw z at f ∙ sym (command-append x (drop n b)) in
+        rw (end-step b c (drop n b) j g) (go (eqb (c .at + 3) (length b)) (omega (arith, ap length g ∙ command-length x (drop n b), length-drop (c .at) b, length-drop n b)))
+      where
+        go : (y : Bool) → n ≤ c .at + 3 → Late n (follow (choose y Ended (Fault (c .at + 3))) (λ d. steps b m d))
+        go true k = tt
+        go false k = k
+
+  Past : ℕ → Parsed → Type 0
+  Past n (faulty k) = n ≤ k
+  Past n (says x) = Unit {0}
+
+  past-none : (p : Parsed) → Past 0 p
+  unfolding Past
+  past-none (faulty k) = omega arith
+  past-none (says x) = tt
+
+  past-attach : (n : ℕ) (r : Ratio) (c : Cursor) (s : Samples) → Late n s → Past n (attach r (onto c s))
+  unfolding Late Past
+  past-attach n r c (fault k) h = h
+  past-attach n r c (samples ts vs) h = tt
+
+  module _ (r : Ratio) (held : Held r) (xs : List ℕ) (e : b ≡ commandOnto (Tolerance r) xs) where
+    parse-tolerance : parse b ≡ began b (sampleHeader r (commandOf (drop 9 b)))
+    unfolding parse
+    parse-tolerance =
+        let f : commandOf b ≡ Tolerance r = ap commandOf e ∙ command-read xs (Tolerance r) (omega arith) in
+        rw (f, held-is-held r held)
+
+    past-tolerance : Past 9 (parse b)
+    unfolding Past
+    past-tolerance = rw parse-tolerance (go (commandOf (drop 9 b)) (read (bytes-drop 9 by)))
+      where
+        go : (m : Command) → Read (drop 9 b) m → Past 9 (began b (sampleHeader r m))
+        go (First t l) w = past-attach 9 r (start t l) (steps b 4096 (start t l)) (late-from 9 4096 (start t l) (omega (arith, length-drop 9 b)) (omega arith) (omega arith))
+        go (Tolerance q) w = omega arith
+        go (Short a d) w = omega arith
+        go (Long a l) w = omega arith
+        go (End m) w = omega arith
+        go Invalid w = omega arith
+
+  module _ (n : ℕ) (h : n ≤ length b) where
+    past-opened : (r : Ratio) (t : ℕ) (ts : List ℕ) (v : ℤ) (vs : List ℤ) → Opened r t ts v vs b n → Past n (parse b)
+    past-opened r t ts v vs o =
+        let xs : List ℕ = stepsOnto t (level v) ts vs (o .end ++ drop n b) in
+        let m : Command = First t (level v) in
+        let i : level v ≤ 65535 = level-short v (o .legal .value-range 0) in
+        let e₁ : drop 9 b ≡ commandOnto m xs = ap (drop 9) (o .bytes) ∙ command-rest (Tolerance r) (commandOnto m xs) in
+        let e₂ : drop 16 b ≡ xs = sym (drop-drop 7 9 b) ∙ ap (drop 7) e₁ ∙ command-rest m xs in
+        let f : commandOf (drop 9 b) ≡ m = ap commandOf e₁ ∙ command-read xs m (omega (arith, o .legal .tick-range 0)) in
+        let k : length (t ∷ ts) ≤ 4096 = o .legal .trace .few in
+        rw (parse-tolerance r (o .legal .held) (commandOnto m xs) (o .bytes), f) (past-attach n r (start t (level v)) (steps b 4096 (start t (level v)))
+        (steps-along b (o .end ++ drop n b) (length (t ∷ ts)) (λ us ws s. Late n s) (λ d us ws s. late-onto n d s)
+        (λ j d i c e. late-end n h j d (o .end) i (omega arith) (rw (← c) at (o .ends)) e)
+        4096 (start t (level v)) ts vs (omega (arith, ap length e₁ ∙ command-length m xs, length-drop 9 b)) (omega arith) (legal-follows (o .legal)) (omega arith) (omega arith) k e₂))
+
+    past : Run (take n b) → Past n (parse b)
+    past (none e) = let z : n ≡ 0 = omega (arith, ap length e, length-take-le n b h) in rw z (past-none (parse b))
+    past (toleranceOnly r held e) =
+        let m : Command = Tolerance r in
+        let z : n ≡ 9 = omega (arith, ap length e ∙ command-length m [], length-take-le n b h) in
+        rw z (past-tolerance r held (drop n b) (behind b n _ e ∙ sym (command-append m (drop n b))))
+    past (unended x legal e) = first-sample (λ x. take n b ++ commandOnto (End (length (x .ticks))) [] ≡ encode x → Past n (parse b)) (λ r t ts v vs l e. past-opened r t ts v vs (unended-opened r t ts v vs b n l e)) x legal e
+    past (complete x legal e) = first-sample (λ x. take n b ≡ encode x → Past n (parse b)) (λ r t ts v vs l e. past-opened r t ts v vs (complete-opened r t ts v vs b n l e)) x legal e
+
+  -- ---- the fault's byte
+
+  fault-at : {k : ℕ} → parse b ≡ faulty k → FaultAt b k
+  unfolding parse Obeyed Past
+  fault-at e =
+      let o = subst Obeyed e (obeyed (commandOf b) (read by)) in
+      record {
+        inside = o .0;
+        run = o .1;
+        longest = λ n h r. subst (Past n) e (past n h r);
+        no-record = λ x l f. let z : _≡_ {A = ℕ} 0 1 = cc (e, ap parse f, parse-encode x l) in omega arith;
+      }
+
+  fault-parse : {k : ℕ} → FaultAt b k → parse b ≡ faulty k
+  fault-parse {k} f = go (parse b) refl
+    where
+      go : (p : Parsed) → parse b ≡ p → p ≡ faulty k
+      go (faulty j) e = let g = fault-at e in let z : j ≡ k = omega (arith, f .longest j (g .inside) (g .run), g .longest k (f .inside) (f .run)) in rw z
+      go (says x) e = let a = encode-parse by e in absurd (f .no-record x (a .legal) (a .bytes))
+
+  pub fault-exact : (k : ℕ) → parse b ≡ faulty k ↔ FaultAt b k
+  fault-exact k = (fault-at, fault-parse)
