@@ -1,13 +1,13 @@
--- The starred figures of document 01, "Figures to reproduce", over the definitions, each by computation.
+-- The figures of document 01, "Figures to reproduce", over the definitions that the contracts name, each by computation: the starred ones,
+-- and that of the steps.
 -- Assumes nothing.
 use mathlib.Core.Path.{_≡_, refl}
-use mathlib.Core.Bool.{Bool, true, false}
+use mathlib.Core.Bool.{true, false}
 use mathlib.Core.List.{List, [], _∷_}
 use Prim.Native.Nat.{ℕ}
 use lib.IntN.{ℤ, pos, negsuc}
 use Rattle.lists.specs.First.{first, firstOf}
 use Rattle.ratio.specs.Gcd.{gcd, euclid}
-use Rattle.ratio.specs.declared.Ratio as R
 use Rattle.ratio.specs.Order.{over, greater, lesser}
 use Rattle.kept.specs.Stops.{stops}
 use Rattle.kept.specs.Walk.{walkFrom, walkOf}
@@ -18,88 +18,93 @@ use Rattle.refusal.specs.declared.Refusal.the-variants.{Tick, Span}
 use Rattle.refusal.specs.declared.Checked.the-variants.{Fine, Refused}
 use Rattle.refusal.specs.Table.{numberOf, returnedOf}
 use Rattle.tolerance.specs.declared.Tolerance.the-variants.{Ratio}
+use Rattle.trace.specs.declared.Criterion.{Criterion}
+use Rattle.trace.specs.Level.{level}
 use Rattle.trace.specs.Trace.{traceRows}
 use Rattle.trace.specs.Link.{deviation, within, allFrom, valid, criterion, greatest, farthest, linkError}
 use Rattle.codes.specs.Code.{codeValue, codeValues}
 use Rattle.format.specs.Number.{bytesOnto}
 use Rattle.format.specs.Format.{stepsOnto, samplesOnto, encode}
-use Rattle.writer.specs.Writing.{selected}
+use Rattle.reduction.specs.Walking.{walkList}
+use Rattle.reduction.specs.Galloping.{gallopList, gallopTotal}
+use Rattle.shortest.specs.Shortest.{minimumList}
+use Rattle.closest.specs.Closest.{leastError}
 use Rattle.proposed.specs.Proposed.{badAt, listRow, firstInvalid}
 use Rattle.engine.specs.declared.Verdict.the-variants.{Yes, No}
 use Rattle.engine.specs.Prepare.{commonRows, criterionOf}
 use Rattle.engine.specs.Judge.{judgeRows, listVerdict, judgeOf}
+use Rattle.engine.specs.Write.{contentOf}
 
 -- ticks 0 to 4
 abbrev five : List ℕ
 five = 0 ∷ 1 ∷ 2 ∷ 3 ∷ 4 ∷ []
 
--- the link test of values at ticks 0 to 4 and tolerance p
-abbrev ok : List ℤ → ℕ → ℕ → ℕ → Bool
-ok vs p = valid five vs (criterion (over p 1))
+-- the criterion of the tolerance p/1
+abbrev at : ℕ → Criterion
+at p = criterionOf (Ratio p 1)
 
 -- ---- values 0 3 0 3 0, tolerance 2: walk and gallop keep all five, gallop with 4 probes; minimum 0 3 4
 
 abbrev teeth : List ℤ
 teeth = pos 0 ∷ pos 3 ∷ pos 0 ∷ pos 3 ∷ pos 0 ∷ []
 
-walk-teeth-2 : walkOf (ok teeth 2) 4 ≡ 0 ∷ 1 ∷ 2 ∷ 3 ∷ 4 ∷ []
-unfolding walkOf walkFrom stops valid allFrom within deviation
+walk-teeth-2 : walkList five teeth (at 2) ≡ 0 ∷ 1 ∷ 2 ∷ 3 ∷ 4 ∷ []
+unfolding walkOf walkFrom stops criterionOf valid allFrom within deviation gcd euclid
 walk-teeth-2 = refl
 
-gallop-teeth-2 : gallopOf (ok teeth 2) 4 ≡ 0 ∷ 1 ∷ 2 ∷ 3 ∷ 4 ∷ []
-unfolding gallopOf gallopSearch probeOf searchBy doubling bisection stops valid allFrom within deviation
+gallop-teeth-2 : gallopList five teeth (at 2) ≡ 0 ∷ 1 ∷ 2 ∷ 3 ∷ 4 ∷ []
+unfolding gallopOf gallopSearch probeOf searchBy doubling bisection stops criterionOf valid allFrom within deviation gcd euclid
 gallop-teeth-2 = refl
 
-probes-teeth-2 : gallopProbes (ok teeth 2) 4 ≡ 4
-unfolding gallopProbes sumFrom gallopOf gallopSearch probeOf searchBy doubling bisection stops valid allFrom within deviation
+probes-teeth-2 : gallopTotal five teeth (at 2) ≡ 4
+unfolding gallopProbes sumFrom gallopOf gallopSearch probeOf searchBy doubling bisection stops criterionOf valid allFrom within deviation gcd euclid
 probes-teeth-2 = refl
 
-minimum-teeth-2 : minimumOf (ok teeth 2) 4 ≡ 0 ∷ 3 ∷ 4 ∷ []
-unfolding minimumOf nextOf linksOf linksIn bestStop stops valid allFrom within deviation
+minimum-teeth-2 : minimumList five teeth (at 2) ≡ 0 ∷ 3 ∷ 4 ∷ []
+unfolding minimumOf nextOf linksOf linksIn bestStop stops criterionOf valid allFrom within deviation gcd euclid
 minimum-teeth-2 = refl
 
 -- ---- the same, tolerance 3: all keep 0 4; gallop 5 probes
 
-minimum-teeth-3 : minimumOf (ok teeth 3) 4 ≡ 0 ∷ 4 ∷ []
-unfolding minimumOf nextOf linksOf linksIn bestStop stops valid allFrom within deviation
+minimum-teeth-3 : minimumList five teeth (at 3) ≡ 0 ∷ 4 ∷ []
+unfolding minimumOf nextOf linksOf linksIn bestStop stops criterionOf valid allFrom within deviation gcd euclid
 minimum-teeth-3 = refl
 
-walk-teeth-3 : walkOf (ok teeth 3) 4 ≡ 0 ∷ 4 ∷ []
-unfolding walkOf walkFrom stops valid allFrom within deviation
+walk-teeth-3 : walkList five teeth (at 3) ≡ 0 ∷ 4 ∷ []
+unfolding walkOf walkFrom stops criterionOf valid allFrom within deviation gcd euclid
 walk-teeth-3 = refl
 
-gallop-teeth-3 : gallopOf (ok teeth 3) 4 ≡ 0 ∷ 4 ∷ []
-unfolding gallopOf gallopSearch probeOf searchBy doubling bisection stops valid allFrom within deviation
+gallop-teeth-3 : gallopList five teeth (at 3) ≡ 0 ∷ 4 ∷ []
+unfolding gallopOf gallopSearch probeOf searchBy doubling bisection stops criterionOf valid allFrom within deviation gcd euclid
 gallop-teeth-3 = refl
 
-probes-teeth-3 : gallopProbes (ok teeth 3) 4 ≡ 5
-unfolding gallopProbes sumFrom gallopOf gallopSearch probeOf searchBy doubling bisection stops valid allFrom within deviation
+probes-teeth-3 : gallopTotal five teeth (at 3) ≡ 5
+unfolding gallopProbes sumFrom gallopOf gallopSearch probeOf searchBy doubling bisection stops criterionOf valid allFrom within deviation gcd euclid
 probes-teeth-3 = refl
 
 -- ---- the same, least for m = 2 is 3/1, for m = 3 and 4 is 2/1 with 0 3 4, for m = 5 is 0/1
 
-abbrev leastTeeth : ℕ → R.Ratio
-leastTeeth m = leastOf (linkError five teeth) 4 m
-
-least-teeth-2 : leastTeeth 2 ≡ over 3 1
+least-teeth-2 : leastError five teeth 2 ≡ over 3 1
 unfolding leastOf leastFrom linkError farthest greatest deviation gcd euclid
 least-teeth-2 = refl
 
-least-teeth-3 : leastTeeth 3 ≡ over 2 1
+least-teeth-3 : leastError five teeth 3 ≡ over 2 1
 unfolding leastOf leastFrom leastOver lesser greater linkError farthest greatest deviation gcd euclid
 least-teeth-3 = refl
 
-least-teeth-4 : leastTeeth 4 ≡ over 2 1
+least-teeth-4 : leastError five teeth 4 ≡ over 2 1
 unfolding leastOf leastFrom leastOver lesser greater linkError farthest greatest deviation gcd euclid
 least-teeth-4 = refl
 
-least-list-3 : minimumOf (valid five teeth (criterion (leastTeeth 3))) 4 ≡ 0 ∷ 3 ∷ 4 ∷ []
+least-list-3 : minimumList five teeth (criterion (leastError five teeth 3)) ≡ 0 ∷ 3 ∷ 4 ∷ []
+unfolding criterionOf gcd euclid
 least-list-3 = rw least-teeth-3 minimum-teeth-2
 
-least-list-4 : minimumOf (valid five teeth (criterion (leastTeeth 4))) 4 ≡ 0 ∷ 3 ∷ 4 ∷ []
+least-list-4 : minimumList five teeth (criterion (leastError five teeth 4)) ≡ 0 ∷ 3 ∷ 4 ∷ []
+unfolding criterionOf gcd euclid
 least-list-4 = rw least-teeth-4 minimum-teeth-2
 
-least-teeth-5 : leastTeeth 5 ≡ over 0 1
+least-teeth-5 : leastError five teeth 5 ≡ over 0 1
 unfolding leastOf leastFrom leastOver lesser greater linkError farthest greatest deviation gcd euclid
 least-teeth-5 = refl
 
@@ -108,16 +113,16 @@ least-teeth-5 = refl
 abbrev wave : List ℤ
 wave = pos 0 ∷ pos 2 ∷ pos 0 ∷ negsuc 1 ∷ pos 0 ∷ []
 
-walk-wave : walkOf (ok wave 2) 4 ≡ 0 ∷ 2 ∷ 4 ∷ []
-unfolding walkOf walkFrom stops valid allFrom within deviation
+walk-wave : walkList five wave (at 2) ≡ 0 ∷ 2 ∷ 4 ∷ []
+unfolding walkOf walkFrom stops criterionOf valid allFrom within deviation gcd euclid
 walk-wave = refl
 
-gallop-wave : gallopOf (ok wave 2) 4 ≡ 0 ∷ 4 ∷ []
-unfolding gallopOf gallopSearch probeOf searchBy doubling bisection stops valid allFrom within deviation
+gallop-wave : gallopList five wave (at 2) ≡ 0 ∷ 4 ∷ []
+unfolding gallopOf gallopSearch probeOf searchBy doubling bisection stops criterionOf valid allFrom within deviation gcd euclid
 gallop-wave = refl
 
-probes-wave : gallopProbes (ok wave 2) 4 ≡ 5
-unfolding gallopProbes sumFrom gallopOf gallopSearch probeOf searchBy doubling bisection stops valid allFrom within deviation
+probes-wave : gallopTotal five wave (at 2) ≡ 5
+unfolding gallopProbes sumFrom gallopOf gallopSearch probeOf searchBy doubling bisection stops criterionOf valid allFrom within deviation gcd euclid
 probes-wave = refl
 
 -- ---- ticks 0 1 3, values 0 1 1: link 0 to 2 has error 2/3; valid at 4/6, invalid at 665/1000
@@ -132,12 +137,12 @@ slope-error : linkError slopeTicks slopeValues 0 2 ≡ over 2 3
 unfolding linkError farthest greatest deviation gcd euclid
 slope-error = refl
 
-slope-valid : valid slopeTicks slopeValues (criterion (over 4 6)) 0 2 ≡ true
-unfolding valid allFrom within deviation
+slope-valid : valid slopeTicks slopeValues (criterionOf (Ratio 4 6)) 0 2 ≡ true
+unfolding criterionOf valid allFrom within deviation gcd euclid
 slope-valid = refl
 
-slope-invalid : valid slopeTicks slopeValues (criterion (over 665 1000)) 0 2 ≡ false
-unfolding valid allFrom within deviation
+slope-invalid : valid slopeTicks slopeValues (criterionOf (Ratio 665 1000)) 0 2 ≡ false
+unfolding criterionOf valid allFrom within deviation gcd euclid
 slope-invalid = refl
 
 -- so judge passes the list 0 2 at the one, and names link 0 at the other
@@ -175,9 +180,9 @@ tick-not-above = refl
 
 -- ---- ticks 0 1 3, values 0 1 1, list 0 2, tolerance 2/3: its record
 
-slope-record : encode (selected (over 2 3) slopeTicks slopeValues (0 ∷ 2 ∷ []))
+slope-record : encode (contentOf slopeTicks slopeValues (0 ∷ 2 ∷ []) (Ratio 2 3))
     ≡ 0x54 ∷ 0 ∷ 0 ∷ 0 ∷ 0 ∷ 2 ∷ 0 ∷ 0 ∷ 3 ∷ 0x41 ∷ 0 ∷ 0 ∷ 0 ∷ 0 ∷ 0 ∷ 0 ∷ 0x53 ∷ 3 ∷ 1 ∷ 0x45 ∷ 0 ∷ 2 ∷ []
-unfolding encode samplesOnto stepsOnto bytesOnto
+unfolding encode samplesOnto stepsOnto bytesOnto criterionOf gcd euclid
 slope-record = refl
 
 -- ---- codes 31, 32, 63, 64, 255 give 31, 32, 94, 96, 8032
@@ -185,3 +190,25 @@ slope-record = refl
 codes-values : codeValues (31 ∷ 32 ∷ 63 ∷ 64 ∷ 255 ∷ []) ≡ pos 31 ∷ pos 32 ∷ pos 94 ∷ pos 96 ∷ pos 8032 ∷ []
 unfolding codeValue
 codes-values = refl
+
+-- ---- steps 255/+127 and 255/-128 are short; 256/0 and 1/+128 long
+
+-- the step from the value 0 by an advance to a value, as it is written
+abbrev step : ℕ → ℤ → List ℕ
+step a v = stepsOnto 0 (level (pos 0)) (a ∷ []) (v ∷ []) []
+
+step-up : step 255 (pos 127) ≡ 0x53 ∷ 0xFF ∷ 0x7F ∷ []
+unfolding stepsOnto bytesOnto
+step-up = refl
+
+step-down : step 255 (negsuc 127) ≡ 0x53 ∷ 0xFF ∷ 0x80 ∷ []
+unfolding stepsOnto bytesOnto
+step-down = refl
+
+step-far : step 256 (pos 0) ≡ 0x4C ∷ 0x00 ∷ 0x01 ∷ 0x00 ∷ 0x00 ∷ 0x00 ∷ []
+unfolding stepsOnto bytesOnto
+step-far = refl
+
+step-high : step 1 (pos 128) ≡ 0x4C ∷ 0x00 ∷ 0x00 ∷ 0x01 ∷ 0x00 ∷ 0x80 ∷ []
+unfolding stepsOnto bytesOnto
+step-high = refl

@@ -1,7 +1,7 @@
--- Examples of records, computed: how one is parsed, which steps are short, and each place of a fault.
+-- Examples of records, computed: how one is parsed, and each place of a fault.
 -- Assumes nothing.
 use mathlib.Core.Path.{_≡_, refl}
-use mathlib.Core.Bool.{Bool, true, false, _&&_}
+use mathlib.Core.Bool.{Bool, true, _&&_}
 use mathlib.Core.List.{List, [], _∷_, _++_}
 use Prim.Native.Nat.{ℕ, zero, suc, _<_}
 use native.Mathlib.Omega.{arith}
@@ -13,7 +13,7 @@ use Rattle.lists.proofs.Tests.{and-first, and-second}
 use Rattle.ratio.specs.Gcd.{gcd}
 use Rattle.format.specs.Number.{numberFrom, Bytes, valueOf}
 use Rattle.format.specs.Command.{commandOf}
-use Rattle.format.specs.Format.{Content, isHeld, short, shortStep, longStep, endStep, steps, faulty, says, parse}
+use Rattle.format.specs.Format.{Content, isHeld, shortStep, longStep, endStep, steps, faulty, says, parse}
 use Rattle.format.specs.Fault.{FaultAt}
 use Rattle.format.proofs.FaultLaws.{fault-exact}
 
@@ -27,19 +27,6 @@ figure = 0x54 ∷ 0x00 ∷ 0x00 ∷ 0x00 ∷ 0x00 ∷ 0x02 ∷ 0x00 ∷ 0x00 ∷
 parsed : parse figure ≡ says kept
 unfolding parse steps shortStep longStep endStep commandOf isHeld gcd numberFrom valueOf
 parsed = refl
-
--- steps 255/+127 and 255/-128 are short; 256/0 and 1/+128 are long
-short-up : short 32768 255 32895 ≡ true
-short-up = refl
-
-short-down : short 32768 255 32640 ≡ true
-short-down = refl
-
-long-advance : short 32768 256 32768 ≡ false
-long-advance = refl
-
-long-change : short 32768 1 32896 ≡ false
-long-change = refl
 
 -- faults: an empty record
 fault-empty : parse [] ≡ faulty 0
