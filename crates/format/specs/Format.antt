@@ -19,9 +19,8 @@
 --   encode                           the record of a content
 --   Accepted                         what holds of an accepted record and its content
 --   SameRecord                       two records are the same: their kept samples agree, tolerance disregarded
--- A fault lies at the first byte of the first command that breaks a rule or is cut off, at the first byte after a whole end command, or at
--- the record's end where a command is missing.
--- Laws are in RuleLaws, ParseEncode, EncodeParse and SameLaws; examples are in proofs/Examples. Assumes nothing.
+-- Where a fault lies is said without the parser in Fault.
+-- Laws are in RuleLaws, ParseEncode, EncodeParse, FaultLaws and SameLaws; examples are in proofs/Examples. Assumes nothing.
 use mathlib.Core.Path.{_≡_}
 use mathlib.Core.Bool.{Bool, not, _&&_}
 use mathlib.Core.List.{List, [], _∷_}

@@ -8,7 +8,7 @@
 --   closedBy                                 the verdict after the last sample
 --   CursorOk, AfterFirst                     a cursor within a record; one after the first sample
 --   Entry, Fitting, Filled                   lists with an entry for a sample; for all samples; samples written over them
--- Laws are in ReadingLaws, PassLaws and CommandsAt. Assumes nothing.
+-- Laws are in ReadingLaws, FaultPlaces, PassLaws and CommandsAt. Assumes nothing.
 use mathlib.Core.Path.{_≡_}
 use mathlib.Core.Bool.{Bool, true, false, _&&_}
 use mathlib.Core.List.{List}
