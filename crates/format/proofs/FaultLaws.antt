@@ -1,31 +1,28 @@
 -- The fault's byte: `parse b` is faulty at byte k exactly if the fault of b lies at byte k.
---   EndOrNone        the end that n samples have, or none
---   opening          a tolerance and samples, before other bytes
---   Opened           bytes whose first k are a tolerance, samples and an end or none
 --   Faults           the fault of the step at a cursor
 --   Ahead, AheadBy   the bytes from a cursor on are steps and an end or none, up to byte k; so they are up to a fault
 --   Obeyed           the bytes before a fault are commands that obey the rules
 --   Late, Past       a fault lies at byte n or after it
 -- Assumes nothing.
 use mathlib.Core.Path.{_≡_, refl, sym, ap, _∙_, subst}
-use mathlib.Core.Logic.{_↔_, _⊎_, inl, inr}
+use mathlib.Core.Logic.{_↔_, inl, inr}
 use mathlib.Core.Bool.{Bool, true, false}
-use mathlib.Core.List.{List, [], _∷_, _++_, append-assoc}
+use mathlib.Core.List.{List, [], _∷_, _++_}
 use Prim.Native.Nat.{ℕ, zero, suc, _+_, _≤_}
 use native.Mathlib.Nat.{add-zero}
 use native.Mathlib.Omega.{arith}
 use borrow.Author.Tests.{eqb-true}
 use lib.Dec.{eqb}
 use lib.IntN.{ℤ}
-use lib.ListN.{length, take, drop, length-append, length-drop, take-append-drop}
-use lib.Seq.{drop-drop, take-at, length-take-le}
+use lib.ListN.{length, take, drop, length-drop}
+use lib.Seq.{drop-drop, length-take-le}
 use Rattle.ratio.specs.declared.Ratio.{Ratio}
 use Rattle.tolerance.specs.Meaning.{Held}
 use Rattle.trace.specs.Level.{level}
 use Rattle.trace.proofs.Level.{level-short}
 use Rattle.format.specs.Number.{Bytes, valueOf}
 use Rattle.format.specs.Command.{choose, commandOf, commandOnto}
-use Rattle.format.specs.Format.{Content, Legal, isHeld, moved, shortObeys, longObeys, shortStep, longStep, endStep, obey, stepOf, Samples, fault, samples, onto, follow, steps, sampleHeader, toleranceHeader, Parsed, faulty, says, attach, began, parse, stepTo, stepsOnto, samplesOnto, encode}
+use Rattle.format.specs.Format.{isHeld, moved, shortObeys, longObeys, shortStep, longStep, endStep, obey, stepOf, Samples, fault, samples, onto, follow, steps, sampleHeader, toleranceHeader, Parsed, faulty, says, attach, began, parse, stepTo, stepsOnto, encode}
 use Rattle.format.specs.Fault.{Run, none, toleranceOnly, unended, complete, FaultAt}
 use Rattle.format.specs.declared.Cursor.{Cursor}
 use Rattle.format.specs.declared.Command.{Command}
@@ -37,79 +34,8 @@ use Rattle.format.proofs.NumberLaws.{bytes-drop, level-value, value-sho
 use Rattle.format.proofs.CommandLaws.{Starts, Read, read, command-append, command-length, command-read, command-rest}
 use Rattle.format.proofs.RuleLaws.{in-limits-le, is-held-true, held-is-held, Follows, first-sample, legal-follows, follows-legal}
 use Rattle.format.proofs.ParseEncode.{steps-along, end-step, parse-encode}
+use Rattle.format.proofs.RunLaws.{EndOrNone, front, behind, Opened, opened-run, unended-opened, complete-opened}
 use Rattle.format.proofs.EncodeParse.{Stepped, stepped, start, encode-parse}
-
--- ---- a record with its end, or without it
-
-EndOrNone : ℕ → List ℕ → Type 0
-EndOrNone n e = (e ≡ []) ⊎ (e ≡ commandOnto (End n) [])
-
-onto-append : (m : Command) (xs ys : List ℕ) → commandOnto m (xs ++ ys) ≡ commandOnto m xs ++ ys
-onto-append m xs ys = command-append m (xs ++ ys) ∙ sym (append-assoc (commandOnto m []) xs ys) ∙ ap (λ (r : List ℕ). r ++ ys) (sym (command-append m xs))
-
-steps-append : (t l : ℕ) (ts : List ℕ) (vs : List ℤ) (xs ys : List ℕ) → stepsOnto t l ts vs (xs ++ ys) ≡ stepsOnto t l ts vs xs ++ ys
-unfolding stepsOnto
-steps-append t l [] vs xs ys = refl
-steps-append t l (t′ ∷ ts) [] xs ys = refl
-steps-append t l (t′ ∷ ts) (v ∷ vs) xs ys =
-    let m : Command = stepTo t l t′ (level v) in
-    ap (commandOnto m) (steps-append t′ (level v) ts vs xs ys) ∙ onto-append m (stepsOnto t′ (level v) ts vs xs) ys
-
-front : (b : List ℕ) (k : ℕ) (s : List ℕ) → k ≤ length b → b ≡ s ++ drop k b → take k b ≡ s
-front b k s h e = ap (take k) e ∙ take-at s (drop k b) k (omega (arith, ap length e ∙ length-append s (drop k b), length-drop k b))
-
-behind : (b : List ℕ) (k : ℕ) (s : List ℕ) → take k b ≡ s → b ≡ s ++ drop k b
-behind b k s e = sym (take-append-drop k b) ∙ ap (λ (r : List ℕ). r ++ drop k b) e
-
-cancel : (s t e : List ℕ) → s ++ e ≡ t ++ e → s ≡ t
-cancel s t e h =
-    sym (take-at s e (length s) refl) ∙ ap (take (length s)) h
-    ∙ take-at t e (length s) (omega (arith, ap length h, length-append s e, length-append t e))
-
-module _ (r : Ratio) (t : ℕ) (ts : List ℕ) (v : ℤ) (vs : List ℤ) where
-  abbrev content : Content
-  content = record { tolerance = r; ticks = t ∷ ts; values = v ∷ vs }
-
-  abbrev opening : List ℕ → List ℕ
-  opening xs = commandOnto (Tolerance r) (commandOnto (First t (level v)) (stepsOnto t (level v) ts vs xs))
-
-  opening-append : (xs ys : List ℕ) → opening (xs ++ ys) ≡ opening xs ++ ys
-  opening-append xs ys =
-      let s : List ℕ = stepsOnto t (level v) ts vs xs in
-      rw (steps-append t (level v) ts vs xs ys, onto-append (First t (level v)) s ys) (onto-append (Tolerance r) (commandOnto (First t (level v)) s) ys)
-
-  record Opened (b : List ℕ) (k : ℕ) : Type 0 where
-    legal : Legal content
-    end : List ℕ
-    ends : EndOrNone (length (t ∷ ts)) end
-    bytes : b ≡ opening (end ++ drop k b)
-
-  module _ (b : List ℕ) (k : ℕ) where
-    opened-run : k ≤ length b → Opened b k → Run (take k b)
-    unfolding EndOrNone encode samplesOnto
-    opened-run h o = go (o .end) (o .bytes ∙ opening-append (o .end) (drop k b)) (o .ends)
-      where
-        go : (e : List ℕ) → b ≡ opening e ++ drop k b → EndOrNone (length (t ∷ ts)) e → Run (take k b)
-        go e f (inl g) = unended content (o .legal) (rw (front b k (opening e) h f, g) (sym (opening-append [] (commandOnto (End (length (t ∷ ts))) []))))
-        go e f (inr g) = complete content (o .legal) (rw (front b k (opening e) h f, g))
-
-    opened : Legal content → (e : List ℕ) → EndOrNone (length (t ∷ ts)) e → take k b ≡ opening e → Opened b k
-    opened h e w f = record {
-      legal = h;
-      end = e;
-      ends = w;
-      bytes = behind b k (opening e) f ∙ sym (opening-append e (drop k b));
-    }
-
-    unended-opened : Legal content → take k b ++ commandOnto (End (length (t ∷ ts))) [] ≡ encode content → Opened b k
-    unfolding EndOrNone encode samplesOnto
-    unended-opened h e =
-        let x : List ℕ = commandOnto (End (length (t ∷ ts))) [] in
-        opened h [] (inl refl) (cancel (take k b) (opening []) x (e ∙ opening-append [] x))
-
-    complete-opened : Legal content → take k b ≡ encode content → Opened b k
-    unfolding EndOrNone encode samplesOnto
-    complete-opened h e = opened h (commandOnto (End (length (t ∷ ts))) []) (inr refl) e
 
 -- ---- a step's fault
 
@@ -123,7 +49,6 @@ record Faults (b : List ℕ) (c : Cursor) (k : ℕ) : Type 0 where
 
 module _ (b : List ℕ) (c : Cursor) (k : ℕ) (within : c .at ≤ length b) where
   faults-here : c .at ≡ k → Faults b c k
-  unfolding EndOrNone
   faults-here e = record { end = []; ends = inl refl; bytes = rw e; order = omega arith; inside = omega arith }
 
   faults-moved : (ok : Bool) (n t l : ℕ) → moved ok n c t l ≡ Fault k → Faults b c k
@@ -131,7 +56,7 @@ module _ (b : List ℕ) (c : Cursor) (k : ℕ) (within : c .at ≤ length b) whe
   faults-moved false n t l e = faults-here cc
 
   faults-end : (m : ℕ) → Starts (drop (c .at) b) (End m) → endStep (length b) c m ≡ Fault k → Faults b c k
-  unfolding endStep EndOrNone
+  unfolding endStep
   faults-end m w = go (eqb m (c .count)) refl (eqb (c .at + 3) (length b))
     where
       go : (x : Bool) → eqb m (c .count) ≡ x → (y : Bool) → choose x (choose y Ended (Fault (c .at + 3))) (Fault (c .at)) ≡ Fault k → Faults b c k
@@ -159,7 +84,7 @@ module _ (b : List ℕ) (c : Cursor) (k : ℕ) (within : c .at ≤ length b) whe
       go (End m) w e = faults-end m w e
       go Invalid w e = faults-here cc
 
--- ---- the steps before a fault obey the rules
+-- ---- what is shown of a fault
 
 record Ahead (b : List ℕ) (c : Cursor) (k : ℕ) : Type 0 where
   ticks : List ℕ
@@ -172,10 +97,39 @@ record Ahead (b : List ℕ) (c : Cursor) (k : ℕ) : Type 0 where
   order : c .at ≤ k
   inside : k ≤ length b
 
+AheadBy : List ℕ → Cursor → Samples → Type 0
+AheadBy b c (fault k) = Ahead b c k
+AheadBy b c (samples ts vs) = Unit {0}
+
+Obeyed : List ℕ → Parsed → Type 0
+Obeyed b (faulty k) = (k ≤ length b) × Run (take k b)
+Obeyed b (says x) = Unit {0}
+
+Late : ℕ → Samples → Type 0
+Late n (fault k) = n ≤ k
+Late n (samples ts vs) = Unit {0}
+
+late-onto : (n : ℕ) (c : Cursor) (s : Samples) → Late n s → Late n (onto c s)
+unfolding Late
+late-onto n c (fault k) h = h
+late-onto n c (samples ts vs) h = tt
+
+Past : ℕ → Parsed → Type 0
+Past n (faulty k) = n ≤ k
+Past n (says x) = Unit {0}
+
+past-none : (p : Parsed) → Past 0 p
+unfolding Past
+past-none (faulty k) = omega arith
+past-none (says x) = tt
+
+past-attach : (n : ℕ) (r : Ratio) (c : Cursor) (s : Samples) → Late n s → Past n (attach r (onto c s))
+unfolding Late Past
+past-attach n r c (fault k) h = h
+past-attach n r c (samples ts vs) h = tt
+
 module _ {b : List ℕ} (by : Bytes b) where
-  AheadBy : Cursor → Samples → Type 0
-  AheadBy c (fault k) = Ahead b c k
-  AheadBy c (samples ts vs) = Unit {0}
+  -- ---- the steps before a fault obey the rules
 
   ahead-here : (c : Cursor) (k : ℕ) → c .count ≤ 4096 → Faults b c k → Ahead b c k
   unfolding stepsOnto
@@ -191,7 +145,7 @@ module _ {b : List ℕ} (by : Bytes b) where
     inside = f .inside;
   }
 
-  ahead-more : (c d : Cursor) → c .at ≤ length b → Stepped b c d → (s : Samples) → AheadBy d s → AheadBy c (onto d s)
+  ahead-more : (c d : Cursor) → c .at ≤ length b → Stepped b c d → (s : Samples) → AheadBy b d s → AheadBy b c (onto d s)
   unfolding AheadBy stepsOnto
   ahead-more c d h s (samples ts vs) a = tt
   ahead-more c d h s (fault k) a =
@@ -210,33 +164,29 @@ module _ {b : List ℕ} (by : Bytes b) where
         inside = a .inside;
       }
 
-  ahead : (n : ℕ) (c : Cursor) → c .at ≤ length b → c .count ≤ 4096 → AheadBy c (steps b n c)
+  ahead : (n : ℕ) (c : Cursor) → c .at ≤ length b → c .count ≤ 4096 → AheadBy b c (steps b n c)
   unfolding steps AheadBy
   ahead zero c h i = ahead-here c (c .at) i (faults-here b c (c .at) h refl)
   ahead (suc n) c h i = go (λ d. ahead n d) (stepOf b c) refl
     where
-      go : ((d : Cursor) → d .at ≤ length b → d .count ≤ 4096 → AheadBy d (steps b n d)) → (s : Step) → stepOf b c ≡ s → AheadBy c (follow s (λ d. steps b n d))
+      go : ((d : Cursor) → d .at ≤ length b → d .count ≤ 4096 → AheadBy b d (steps b n d)) → (s : Step) → stepOf b c ≡ s → AheadBy b c (follow s (λ d. steps b n d))
       go ih (Sample d) e = let s = stepped b c d by e in ahead-more c d h s (steps b n d) (ih d (s .inside) (omega arith))
       go ih Ended e = tt
       go ih (Fault k) e = ahead-here c k i (faults b c k h by e)
 
   -- ---- the commands before a fault obey the rules
 
-  Obeyed : Parsed → Type 0
-  Obeyed (faulty k) = (k ≤ length b) × Run (take k b)
-  Obeyed (says x) = Unit {0}
-
-  obeyed-none : Obeyed (faulty 0)
+  obeyed-none : Obeyed b (faulty 0)
   unfolding Obeyed
   obeyed-none = (omega arith, none refl)
 
   module _ (r : Ratio) (held : Held r) (v : Starts b (Tolerance r)) where
-    obeyed-tolerance : Obeyed (faulty 9)
+    obeyed-tolerance : Obeyed b (faulty 9)
     unfolding Obeyed
     obeyed-tolerance = (v .whole, toleranceOnly r held (front b 9 _ (v .whole) (v .bytes ∙ command-append (Tolerance r) (drop 9 b))))
 
     module _ (t l : ℕ) (w : Starts (drop 9 b) (First t l)) where
-      obeyed-ahead : (k : ℕ) → Ahead b (start t l) k → Obeyed (faulty k)
+      obeyed-ahead : (k : ℕ) → Ahead b (start t l) k → Obeyed b (faulty k)
       unfolding Obeyed
       obeyed-ahead k a =
           let o = w .operands in
@@ -250,12 +200,12 @@ module _ {b : List ℕ} (by : Bytes b) where
             }),
           )
 
-      obeyed-steps : (s : Samples) → AheadBy (start t l) s → Obeyed (attach r (onto (start t l) s))
+      obeyed-steps : (s : Samples) → AheadBy b (start t l) s → Obeyed b (attach r (onto (start t l) s))
       unfolding AheadBy Obeyed
       obeyed-steps (fault k) a = obeyed-ahead k a
       obeyed-steps (samples ts vs) a = tt
 
-    obeyed-first : (m : Command) → Read (drop 9 b) m → Obeyed (began b (sampleHeader r m))
+    obeyed-first : (m : Command) → Read (drop 9 b) m → Obeyed b (began b (sampleHeader r m))
     obeyed-first (First t l) w = obeyed-steps t l w (steps b 4096 (start t l)) (ahead 4096 (start t l) (omega (arith, length-drop 9 b)) (omega arith))
     obeyed-first (Tolerance q) w = obeyed-tolerance
     obeyed-first (Short a d) w = obeyed-tolerance
@@ -263,10 +213,10 @@ module _ {b : List ℕ} (by : Bytes b) where
     obeyed-first (End m) w = obeyed-tolerance
     obeyed-first Invalid w = obeyed-tolerance
 
-  obeyed : (m : Command) → Read b m → Obeyed (began b (toleranceHeader m (commandOf (drop 9 b))))
+  obeyed : (m : Command) → Read b m → Obeyed b (began b (toleranceHeader m (commandOf (drop 9 b))))
   obeyed (Tolerance r) v = go (isHeld r) refl
     where
-      go : (a : Bool) → isHeld r ≡ a → Obeyed (began b (choose a (sampleHeader r (commandOf (drop 9 b))) (NoHeader 0)))
+      go : (a : Bool) → isHeld r ≡ a → Obeyed b (began b (choose a (sampleHeader r (commandOf (drop 9 b))) (NoHeader 0)))
       go true e = obeyed-first r (is-held-true r e) v (commandOf (drop 9 b)) (read (bytes-drop 9 by))
       go false e = obeyed-none
   obeyed (First t l) v = obeyed-none
@@ -277,26 +227,17 @@ module _ {b : List ℕ} (by : Bytes b) where
 
   -- ---- no fault lies within a run of commands that obey them
 
-  Late : ℕ → Samples → Type 0
-  Late n (fault k) = n ≤ k
-  Late n (samples ts vs) = Unit {0}
-
-  late-onto : (n : ℕ) (c : Cursor) (s : Samples) → Late n s → Late n (onto c s)
-  unfolding Late
-  late-onto n c (fault k) h = h
-  late-onto n c (samples ts vs) h = tt
-
   late-from : (n m : ℕ) (c : Cursor) → c .at ≤ length b → c .count ≤ 4096 → n ≤ c .at → Late n (steps b m c)
   unfolding AheadBy Late
   late-from n m c i j h = go (steps b m c) (ahead m c i j)
     where
-      go : (s : Samples) → AheadBy c s → Late n s
+      go : (s : Samples) → AheadBy b c s → Late n s
       go (fault k) a = omega arith
       go (samples ts vs) a = tt
 
   module _ (n : ℕ) (h : n ≤ length b) where
     late-end : (m : ℕ) (c : Cursor) (e : List ℕ) → c .at ≤ length b → c .count ≤ 4096 → EndOrNone (c .count) e → drop (c .at) b ≡ e ++ drop n b → Late n (steps b (suc m) c)
-    unfolding EndOrNone Late steps
+    unfolding Late steps
     late-end m c e i j (inl z) f =
         let g : drop (c .at) b ≡ drop n b = rw z at f in
         late-from n (suc m) c i j (omega (arith, ap length g, length-drop (c .at) b, length-drop n b))
@@ -308,20 +249,6 @@ module _ {b : List ℕ} (by : Bytes b) where
         go : (y : Bool) → n ≤ c .at + 3 → Late n (follow (choose y Ended (Fault (c .at + 3))) (λ d. steps b m d))
         go true k = tt
         go false k = k
-
-  Past : ℕ → Parsed → Type 0
-  Past n (faulty k) = n ≤ k
-  Past n (says x) = Unit {0}
-
-  past-none : (p : Parsed) → Past 0 p
-  unfolding Past
-  past-none (faulty k) = omega arith
-  past-none (says x) = tt
-
-  past-attach : (n : ℕ) (r : Ratio) (c : Cursor) (s : Samples) → Late n s → Past n (attach r (onto c s))
-  unfolding Late Past
-  past-attach n r c (fault k) h = h
-  past-attach n r c (samples ts vs) h = tt
 
   module _ (r : Ratio) (held : Held r) (xs : List ℕ) (e : b ≡ commandOnto (Tolerance r) xs) where
     parse-tolerance : parse b ≡ began b (sampleHeader r (commandOf (drop 9 b)))
@@ -371,7 +298,7 @@ module _ {b : List ℕ} (by : Bytes b) where
   fault-at : {k : ℕ} → parse b ≡ faulty k → FaultAt b k
   unfolding parse Obeyed Past
   fault-at e =
-      let o = subst Obeyed e (obeyed (commandOf b) (read by)) in
+      let o = subst (Obeyed b) e (obeyed (commandOf b) (read by)) in
       record {
         inside = o .0;
         run = o .1;

@@ -5,5 +5,6 @@ pub mod RuleLaws
 pub mod ParseEncode
 pub mod EncodeParse
 pub mod SameLaws
+pub mod RunLaws
 pub mod FaultLaws
 pub mod Examples

@@ -3,7 +3,7 @@
 -- the end of the bytes where a command is missing.
 --   Run       bytes are whole commands that obey the rules, in order
 --   FaultAt   the fault of the bytes b lies at byte k
--- Laws are in FaultLaws; examples are in proofs/Examples. Assumes nothing.
+-- Laws are in RunLaws and FaultLaws; examples are in proofs/Examples. Assumes nothing.
 use mathlib.Core.Path.{_≡_}
 use mathlib.Core.List.{List, [], _++_}
 use Prim.Native.Nat.{ℕ, _≤_}
@@ -14,13 +14,14 @@ use Rattle.format.specs.Command.{commandOnto}
 use Rattle.format.specs.Format.{Content, Legal, encode}
 use Rattle.format.specs.declared.Command.the-variants.{Tolerance, End}
 
--- none; a tolerance; all but the end of a record that can be said, of any number of samples; such a record
+-- none; a tolerance; the record of a legal content without its end command; such a record
 pub data Run (s : List ℕ) : Type 0 where
   none : s ≡ [] → Run s
   toleranceOnly : (r : Ratio) → Held r → s ≡ commandOnto (Tolerance r) [] → Run s
   unended : (x : Content) → Legal x → s ++ commandOnto (End (length (x .ticks))) [] ≡ encode x → Run s
   complete : (x : Content) → Legal x → s ≡ encode x → Run s
 
+-- the first k bytes are a run, no more of the first bytes are one, and b is no record
 pub record FaultAt (b : List ℕ) (k : ℕ) : Type 0 where
   pub inside : k ≤ length b
   pub run : Run (take k b)
