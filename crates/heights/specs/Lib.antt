@@ -1,2 +1,3 @@
 -- The definitions of the crate `heights`.
 pub mod Heights
+pub mod Windows

@@ -1,0 +1,114 @@
+-- Means, areas and baseline heights over a window of ticks, read off the lines of a list (specs/Heights).
+--   Line                  a height at each tick a/d
+--   nothing               the fraction 0
+--   added, multiplied     the sum of two fractions; m/n times a fraction
+--   multiple              m/n times the criterion p/q
+--   Window                the n whole ticks a, a+1, .. lie between the first and the last
+--   sumAt, meanAt         the sum and the mean of a line at the n whole ticks a, a+1, ..
+--   clipped               a tick, or the nearer end of a stretch of ticks that it is not in
+--   trapezoid             the area under a straight line from a height to a height over w/d ticks
+--   areaUnder             the area under the line of a link from the tick a/d to the tick b/d
+--   areaFrom, areaOf      the area under the lines of the list i ∷ s, or of any list, from the tick a/d to the tick b/d
+--   meanOver              the mean of a list's lines from the tick a/d to the tick b/d: their area over its ticks
+--   heightOver            how far the greatest value of a list's samples is above a mean
+--   Excess                a fraction is at most p/q above another
+--   HeightNear            a height that stands for another is at most p/q too large and at most 2p/q too small
+--   WindowBudget          what holds of a list that stands for its trace at p/q, over any window
+-- Laws are in FractionLaws, AreaLaws and WindowLaws. Assumes nothing.
+use mathlib.Core.List.{List, [], _∷_}
+use Prim.Native.Nat.{ℕ, zero, suc, _+_, _-_, _*_, _≤_, _<_, min, max}
+use lib.IntN.{ℤ, pos, _+ℤ_, _-ℤ_, _*ℤ_}
+use lib.ListN.{length}
+use lib.Signed.{_≤ℤ_}
+use Rattle.trace.specs.declared.Criterion.{Criterion}
+use Rattle.trace.specs.Trace.{tick}
+use Rattle.heights.specs.Heights.{Fraction, linkAt, lineAt, traceAt, allOf, OnTrace, Near, peak}
+
+abbrev pub Line : Type 0
+Line = ℕ → ℕ → Fraction
+
+-- ---- fractions
+
+abbrev pub nothing : Fraction
+nothing = record { num = pos 0; den = 1 }
+
+-- x + y
+unfoldable pub added : Fraction → Fraction → Fraction
+added x y = record { num = x .num *ℤ pos (y .den) +ℤ y .num *ℤ pos (x .den); den = x .den * y .den }
+
+-- x m/n
+unfoldable pub multiplied : Fraction → ℕ → ℕ → Fraction
+multiplied x m n = record { num = x .num *ℤ pos m; den = x .den * n }
+
+-- m/n times p/q
+abbrev pub multiple : Criterion → ℕ → ℕ → Criterion
+multiple c m n = record { p = c .p * m; q = c .q * n }
+
+-- x - y ≤ p/q, times both denominators and q
+pub record Excess (c : Criterion) (x y : Fraction) : Type 0 where
+  pub left : 1 ≤ x .den
+  pub right : 1 ≤ y .den
+  pub above : ((x .num *ℤ pos (y .den) -ℤ y .num *ℤ pos (x .den)) *ℤ pos (c .q)) ≤ℤ pos (c .p * (x .den * y .den))
+
+-- ---- whole ticks
+
+pub record Window (ts : List ℕ) (a n : ℕ) : Type 0 where
+  pub some : 1 ≤ n
+  pub from : tick ts 0 ≤ a
+  pub to : a + n ≤ tick ts (length ts - 1) + 1
+
+unfoldable pub sumAt : Line → ℕ → ℕ → Fraction
+sumAt f a zero = nothing
+sumAt f a (suc n) = added (f a 1) (sumAt f (suc a) n)
+
+abbrev pub meanAt : Line → ℕ → ℕ → Fraction
+meanAt f a n = multiplied (sumAt f a n) 1 n
+
+-- ---- areas
+
+unfoldable pub clipped : ℕ → ℕ → ℕ → ℕ
+clipped from to a = max from (min a to)
+
+-- (x + y)/2 times w/d
+abbrev pub trapezoid : Fraction → Fraction → ℕ → ℕ → Fraction
+trapezoid x y w d = multiplied (added x y) w (2 * d)
+
+unfoldable pub areaUnder : List ℕ → List ℤ → ℕ → ℕ → ℕ → ℕ → ℕ → Fraction
+areaUnder ts vs i j a b d = trapezoid (linkAt ts vs i j a d) (linkAt ts vs i j b d) (b - a) d
+
+-- of each link the part inside the stretch
+unfoldable pub areaFrom : List ℕ → List ℤ → ℕ → List ℕ → ℕ → ℕ → ℕ → Fraction
+areaFrom ts vs i [] a b d = nothing
+areaFrom ts vs i (j ∷ s) a b d = added
+    (areaUnder ts vs i j (clipped (d * tick ts i) (d * tick ts j) a) (clipped (d * tick ts i) (d * tick ts j) b) d)
+    (areaFrom ts vs j s a b d)
+
+abbrev pub areaOf : List ℕ → List ℤ → List ℕ → ℕ → ℕ → ℕ → Fraction
+areaOf ts vs [] a b d = nothing
+areaOf ts vs (i ∷ s) a b d = areaFrom ts vs i s a b d
+
+abbrev pub meanOver : List ℕ → List ℤ → List ℕ → ℕ → ℕ → ℕ → Fraction
+meanOver ts vs l a b d = multiplied (areaOf ts vs l a b d) d (b - a)
+
+-- ---- baseline heights
+
+unfoldable pub heightOver : List ℤ → List ℕ → Fraction → Fraction
+heightOver vs l m = record { num = peak vs l *ℤ pos (m .den) -ℤ m .num; den = m .den }
+
+pub record HeightNear (c : Criterion) (x y : Fraction) : Type 0 where
+  pub large : Excess c x y
+  pub small : Excess (multiple c 2 1) y x
+
+-- ---- the budget
+
+pub record WindowBudget (ts : List ℕ) (vs : List ℤ) (c : Criterion) (l : List ℕ) : Type 0 where
+  -- the mean at whole ticks is within p/q
+  pub mean-at : (a n : ℕ) → Window ts a n → Near c (meanAt (lineAt ts vs l) a n) (meanAt (traceAt ts vs) a n)
+  -- an area is within p/q times its ticks
+  pub area : (a b d : ℕ) → OnTrace ts a d → OnTrace ts b d → a ≤ b → Near (multiple c (b - a) d) (areaOf ts vs l a b d) (areaOf ts vs (allOf ts) a b d)
+  -- so the mean over a stretch of ticks is within p/q
+  pub mean-over : (a b d : ℕ) → OnTrace ts a d → OnTrace ts b d → a < b → Near c (meanOver ts vs l a b d) (meanOver ts vs (allOf ts) a b d)
+  -- the greatest value minus either mean is at most p/q too large and at most 2p/q too small
+  pub height-at : (a n : ℕ) → Window ts a n → HeightNear c (heightOver vs l (meanAt (lineAt ts vs l) a n)) (heightOver vs (allOf ts) (meanAt (traceAt ts vs) a n))
+  pub height-over : (a b d : ℕ) → OnTrace ts a d → OnTrace ts b d → a < b
+      → HeightNear c (heightOver vs l (meanOver ts vs l a b d)) (heightOver vs (allOf ts) (meanOver ts vs (allOf ts) a b d))
