@@ -9,7 +9,7 @@ use Rattle.kept.specs.Kept.{AllValid}
 use Rattle.trace.specs.declared.Criterion.{Criterion}
 use Rattle.trace.specs.Link.{deviation, within, allFrom, valid}
 use Rattle.heights.specs.Heights.{Fraction, linkAt, lineFrom, lineAt, samplesAfter, everySample, traceAt, Equals, joined, peak, trough, height}
-use Rattle.heights.specs.Windows.{added, multiplied, sumAt, meanAt, clipped, areaUnder, areaFrom, areaOf, meanOver, heightOver}
+use Rattle.heights.specs.Windows.{added, multiplied, wholeLess, sumAt, meanAt, clipped, areaUnder, areaFrom, areaOf, meanOver, heightOver}
 
 abbrev five : List ℕ
 five = 0 ∷ 1 ∷ 2 ∷ 3 ∷ 4 ∷ []
@@ -108,12 +108,12 @@ step-part = record { positive = omega arith; is = refl }
 
 step-height : Equals (heightOver step (0 ∷ 5 ∷ 6 ∷ []) (meanAt (lineAt seven step (0 ∷ 5 ∷ 6 ∷ [])) 1 4)) (pos 9)
     × Equals (heightOver step (everySample 6) (meanAt (traceAt seven step) 1 4)) (pos 7)
-unfolding samplesAfter lineFrom linkAt joined added multiplied sumAt heightOver
+unfolding samplesAfter lineFrom linkAt joined added multiplied sumAt wholeLess
 step-height = both (omega arith) refl refl
 
 step-height-over : Equals (heightOver step (0 ∷ 5 ∷ 6 ∷ []) (meanOver seven step (0 ∷ 5 ∷ 6 ∷ []) 1 4 1)) (pos 9)
     × Equals (heightOver step (everySample 6) (meanOver seven step (everySample 6) 1 4 1)) (pos 7)
-unfolding samplesAfter linkAt joined added multiplied clipped areaUnder areaFrom heightOver
+unfolding samplesAfter linkAt joined added multiplied clipped areaUnder areaFrom wholeLess
 step-height-over = both (omega arith) refl refl
 
 -- ---- values 0 -2 -2 -2 -2 0 2 0, list 0 7, at tolerance 2: the greatest value minus the mean of the window 1 .. 4 is 4 too small, twice the tolerance
@@ -130,10 +130,10 @@ dip-within = (refl, tt)
 
 dip-height : Equals (heightOver dip (0 ∷ 7 ∷ []) (meanAt (lineAt eight dip (0 ∷ 7 ∷ [])) 1 4)) (pos 0)
     × Equals (heightOver dip (everySample 7) (meanAt (traceAt eight dip) 1 4)) (pos 4)
-unfolding samplesAfter lineFrom linkAt joined added multiplied sumAt heightOver
+unfolding samplesAfter lineFrom linkAt joined added multiplied sumAt wholeLess
 dip-height = both (omega arith) refl refl
 
 dip-height-over : Equals (heightOver dip (0 ∷ 7 ∷ []) (meanOver eight dip (0 ∷ 7 ∷ []) 1 4 1)) (pos 0)
     × Equals (heightOver dip (everySample 7) (meanOver eight dip (everySample 7) 1 4 1)) (pos 4)
-unfolding samplesAfter linkAt joined added multiplied clipped areaUnder areaFrom heightOver
+unfolding samplesAfter linkAt joined added multiplied clipped areaUnder areaFrom wholeLess
 dip-height-over = both (omega arith) refl refl

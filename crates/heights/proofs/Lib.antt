@@ -2,8 +2,10 @@
 pub mod Order
 pub mod Entries
 pub mod LineLaws
+pub mod FractionLaws
 pub mod NearLaws
 pub mod ExtremeLaws
 pub mod BudgetLaws
+pub mod WindowLaws
 pub mod SelectedLaws
 pub mod Examples

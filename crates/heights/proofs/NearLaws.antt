@@ -18,13 +18,14 @@ use Rattle.trace.specs.Trace.{tick, Rising, Trace}
 use Rattle.trace.specs.Link.{Band, Valid, valid}
 use Rattle.trace.proofs.Line.{Above, Below}
 use Rattle.trace.proofs.Ticks.{not-earlier}
-use Rattle.trace.proofs.Difference.{Diff, same, less, times, parts, size-at-most}
+use Rattle.trace.proofs.Difference.{Diff, same, less, times, size-at-most}
 use Rattle.trace.proofs.Deviation.{line}
 use Rattle.trace.proofs.Offsets.{offsetBase, offsetOf, offset-of-diff, High, Low}
 use Rattle.trace.proofs.Validity.{valid-band, true-valid}
 use Rattle.trace.proofs.Half.{band-high, band-low}
 use Rattle.heights.specs.Heights.{Fraction, linkAt, lineFrom, lineAt, samplesAfter, everySample, traceAt, OnTrace, Near}
 use Rattle.heights.proofs.Entries.{every-kept, every-links}
+use Rattle.heights.proofs.FractionLaws.{near-refl}
 use Rattle.heights.proofs.LineLaws.{Located, kept-located, link-den, link-num, link-positive}
 
 -- ---- over levels
@@ -65,15 +66,6 @@ near-levels {c} {x} {y} base {m} {n} ex ey hx hy up down = record {
   right = ey;
   apart = size-at-most (same (less (times hx (y .den)) (times hy (x .den))) (m * y .den) (n * x .den) (omega arith)) (c .q) (c .p * (x .den * y .den)) .1 (up, down);
 }
-
-near-refl : (c : Criterion) (x : Fraction) → 1 ≤ x .den → Near c x x
-near-refl c x e =
-    let d = parts (x .num) .2 in
-    record {
-      left = e;
-      right = e;
-      apart = size-at-most (same (less (times d (x .den)) (times d (x .den))) 0 0 (omega arith)) (c .q) (c .p * (x .den * x .den)) .1 (omega arith);
-    }
 
 -- ---- a valid link
 

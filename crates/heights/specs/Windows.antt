@@ -2,6 +2,7 @@
 --   Line                  a height at each tick a/d
 --   nothing               the fraction 0
 --   added, multiplied     the sum of two fractions; m/n times a fraction
+--   wholeLess             a whole number minus a fraction
 --   multiple              m/n times the criterion p/q
 --   Window                the n whole ticks a, a+1, .. lie between the first and the last
 --   sumAt, meanAt         the sum and the mean of a line at the n whole ticks a, a+1, ..
@@ -39,6 +40,10 @@ added x y = record { num = x .num *ℤ pos (y .den) +ℤ y .num *ℤ pos (x .den
 -- x m/n
 unfoldable pub multiplied : Fraction → ℕ → ℕ → Fraction
 multiplied x m n = record { num = x .num *ℤ pos m; den = x .den * n }
+
+-- v - x
+unfoldable pub wholeLess : ℤ → Fraction → Fraction
+wholeLess v x = record { num = v *ℤ pos (x .den) -ℤ x .num; den = x .den }
 
 -- m/n times p/q
 abbrev pub multiple : Criterion → ℕ → ℕ → Criterion
@@ -92,8 +97,8 @@ meanOver ts vs l a b d = multiplied (areaOf ts vs l a b d) d (b - a)
 
 -- ---- baseline heights
 
-unfoldable pub heightOver : List ℤ → List ℕ → Fraction → Fraction
-heightOver vs l m = record { num = peak vs l *ℤ pos (m .den) -ℤ m .num; den = m .den }
+abbrev pub heightOver : List ℤ → List ℕ → Fraction → Fraction
+heightOver vs l m = wholeLess (peak vs l) m
 
 pub record HeightNear (c : Criterion) (x y : Fraction) : Type 0 where
   pub large : Excess c x y

@@ -1,0 +1,163 @@
+-- Fractions that differ by at most p/q: their sums, their multiples, and what lies between. Each law is shown of one side, over differences
+-- of naturals (trace: proofs/Difference), and holds of both.
+-- Assumes nothing.
+use mathlib.Core.Path.{_≡_}
+use Prim.Native.Nat.{ℕ, _+_, _*_, _≤_, _<_}
+use native.Mathlib.Nat.{mul-comm, mul-le-mul-right, le-of-mul-le-mul-right, mul-pos}
+use native.Mathlib.Omega.{arith}
+use lib.IntN.{ℤ, pos, _-ℤ_, _*ℤ_, +ℤ-comm}
+use lib.Signed.{_≤ℤ_}
+use Rattle.trace.specs.declared.Criterion.{Criterion}
+use Rattle.trace.proofs.Difference.{Diff, plus, times, less, parts, same, at-most, size-at-most, wider}
+use Rattle.heights.specs.Heights.{Fraction, Near}
+use Rattle.heights.specs.Windows.{added, multiplied, wholeLess, multiple, Excess}
+
+-- ---- over levels
+
+-- (a - b)/e is at most p above (m - n)/f
+abbrev Over : ℕ → ℕ → ℕ → ℕ → ℕ → ℕ → ℕ → Type 0
+Over a b e m n f p = a * f + n * e ≤ b * f + m * e + p * (e * f)
+
+-- with (r - s)/g added to either
+over-left : (a b e m n f r s g p : ℕ) → Over a b e m n f p → Over (a * g + r * e) (b * g + s * e) (e * g) (m * g + r * f) (n * g + s * f) (f * g) p
+over-left a b e m n f r s g p k = omega (arith, mul-le-mul-right (g * g) k)
+
+over-trans : (a b e m n f r s g o p : ℕ) → 0 < f → Over a b e m n f o → Over m n f r s g p → Over a b e r s g (o + p)
+over-trans a b e m n f r s g o p some k l = le-of-mul-le-mul-right {k = f} (omega (arith, mul-le-mul-right g k, mul-le-mul-right e l)) some
+
+over-multiplied : (a b e m n f p u v : ℕ) → Over a b e m n f p → Over (a * u * v) (b * u * v) (e * v) (m * u * v) (n * u * v) (f * v) (p * u)
+over-multiplied a b e m n f p u v k = omega (arith, mul-le-mul-right (u * (v * v)) k)
+
+-- (a - b)/e and (m - n)/f taken from u - v
+over-flipped : (a b e m n f u v p : ℕ) → Over m n f a b e p → Over (u * e + b) (v * e + a) e (u * f + n) (v * f + m) f p
+over-flipped a b e m n f u v p k = omega arith
+
+-- (m - n)/f taken from r - s and from u - v
+over-raised : (m n f r s u v p : ℕ) → r + v ≤ s + u + p → Over (r * f + n) (s * f + m) f (u * f + n) (v * f + m) f p
+over-raised m n f r s u v p k = omega (arith, mul-le-mul-right (f * f) k)
+
+-- numerators times q
+sum-by : (a g r e q : ℕ) → (a * g + r * e) * q ≡ a * q * g + r * q * e
+sum-by a g r e q = omega arith
+
+product-by : (a u q v : ℕ) → a * u * (q * v) ≡ a * q * u * v
+product-by a u q v = omega arith
+
+rest-by : (u e b q : ℕ) → (u * e + b) * q ≡ u * q * e + b * q
+rest-by u e b q = omega arith
+
+-- ---- at most p/q above
+
+module _ {c : Criterion} {x y : Fraction} {a b m n : ℕ} (dx : Diff (x .num) a b) (dy : Diff (y .num) m n) where
+  excess-over : Excess c x y → Over (a * c .q) (b * c .q) (x .den) (m * c .q) (n * c .q) (y .den) (c .p)
+  excess-over h = omega (arith, at-most (times (less (times dx (y .den)) (times dy (x .den))) (c .q)) (c .p * (x .den * y .den)) .0 (h .above))
+
+  over-excess : 1 ≤ x .den → 1 ≤ y .den → Over (a * c .q) (b * c .q) (x .den) (m * c .q) (n * c .q) (y .den) (c .p) → Excess c x y
+  over-excess ex ey h = record {
+    left = ex;
+    right = ey;
+    above = at-most (times (less (times dx (y .den)) (times dy (x .den))) (c .q)) (c .p * (x .den * y .den)) .1 (omega arith);
+  }
+
+pub excess-wider : {c d : Criterion} {x y : Fraction} → 1 ≤ c .q → c .p * d .q ≤ d .p * c .q → Excess c x y → Excess d x y
+excess-wider {c} {d} {x} {y} some e h = record {
+  left = h .left;
+  right = h .right;
+  above = wider (x .num *ℤ pos (y .den) -ℤ y .num *ℤ pos (x .den)) (c .q) (c .p * (x .den * y .den)) (d .q) (d .p * (x .den * y .den)) some
+      (omega (arith, mul-le-mul-right (x .den * y .den) e)) (h .above);
+}
+
+excess-multiplied : {c : Criterion} {x y : Fraction} (m n : ℕ) → 1 ≤ n → Excess c x y → Excess (multiple c m n) (multiplied x m n) (multiplied y m n)
+unfolding multiplied
+excess-multiplied {c} {x} {y} m n some h =
+    let dx = parts (x .num) .2 in
+    let dy = parts (y .num) .2 in
+    over-excess (times dx m) (times dy m) (mul-pos (h .left) some) (mul-pos (h .right) some)
+    (rw (product-by (parts (x .num) .0) m (c .q) n, product-by (parts (x .num) .1) m (c .q) n, product-by (parts (y .num) .0) m (c .q) n, product-by (parts (y .num) .1) m (c .q) n)
+    (over-multiplied _ _ _ _ _ _ (c .p) m n (excess-over dx dy h)))
+
+module _ {o p q : ℕ} where
+  pub excess-trans : {x y z : Fraction} → Excess (record { p = o; q = q }) x y → Excess (record { p = p; q = q }) y z → Excess (record { p = o + p; q = q }) x z
+  excess-trans {x} {y} {z} h k =
+      let dx = parts (x .num) .2 in
+      let dy = parts (y .num) .2 in
+      let dz = parts (z .num) .2 in
+      over-excess dx dz (h .left) (k .right) (over-trans _ _ _ _ _ _ _ _ _ o p (h .right) (excess-over dx dy h) (excess-over dy dz k))
+
+pub added-comm : (x y : Fraction) → added x y ≡ added y x
+unfolding added
+added-comm x y = rw (+ℤ-comm (x .num *ℤ pos (y .den)) (y .num *ℤ pos (x .den)), mul-comm (x .den) (y .den))
+
+excess-left : {c : Criterion} {x y : Fraction} (z : Fraction) → 1 ≤ z .den → Excess c x y → Excess c (added x z) (added y z)
+unfolding added
+excess-left {c} {x} {y} z some h =
+    let dx = parts (x .num) in
+    let dy = parts (y .num) in
+    let dz = parts (z .num) in
+    over-excess (plus (times (dx .2) (z .den)) (times (dz .2) (x .den))) (plus (times (dy .2) (z .den)) (times (dz .2) (y .den))) (mul-pos (h .left) some) (mul-pos (h .right) some)
+    (rw (sum-by (dx .0) (z .den) (dz .0) (x .den) (c .q), sum-by (dx .1) (z .den) (dz .1) (x .den) (c .q), sum-by (dy .0) (z .den) (dz .0) (y .den) (c .q), sum-by (dy .1) (z .den) (dz .1) (y .den) (c .q))
+    (over-left _ _ _ _ _ _ _ _ _ (c .p) (excess-over (dx .2) (dy .2) h)))
+
+module _ {o p q : ℕ} where
+  excess-added : {x y z w : Fraction} → Excess (record { p = o; q = q }) x y → Excess (record { p = p; q = q }) z w → Excess (record { p = o + p; q = q }) (added x z) (added y w)
+  excess-added {y = y} {z} {w} h k = excess-trans (excess-left z (k .left) h) (rw (added-comm y z, added-comm y w) (excess-left y (h .right) k))
+
+pub excess-flipped : {c : Criterion} {x y : Fraction} (v : ℤ) → Excess c y x → Excess c (wholeLess v x) (wholeLess v y)
+unfolding wholeLess
+excess-flipped {c} {x} {y} v h =
+    let dx = parts (x .num) in
+    let dy = parts (y .num) in
+    let dv = parts v in
+    over-excess (less (times (dv .2) (x .den)) (dx .2)) (less (times (dv .2) (y .den)) (dy .2)) (h .right) (h .left)
+    (rw (rest-by (dv .0) (x .den) (dx .1) (c .q), rest-by (dv .1) (x .den) (dx .0) (c .q), rest-by (dv .0) (y .den) (dy .1) (c .q), rest-by (dv .1) (y .den) (dy .0) (c .q))
+    (over-flipped _ _ _ _ _ _ _ _ (c .p) (excess-over (dy .2) (dx .2) h)))
+
+pub excess-raised : {c : Criterion} (v w : ℤ) (x : Fraction) → 1 ≤ x .den → ((v -ℤ w) *ℤ pos (c .q)) ≤ℤ pos (c .p) → Excess c (wholeLess v x) (wholeLess w x)
+unfolding wholeLess
+excess-raised {c} v w x some h =
+    let dx = parts (x .num) in
+    let dv = parts v in
+    let dw = parts w in
+    over-excess (less (times (dv .2) (x .den)) (dx .2)) (less (times (dw .2) (x .den)) (dx .2)) some some
+    (rw (rest-by (dv .0) (x .den) (dx .1) (c .q), rest-by (dv .1) (x .den) (dx .0) (c .q), rest-by (dw .0) (x .den) (dx .1) (c .q), rest-by (dw .1) (x .den) (dx .0) (c .q))
+    (over-raised _ _ _ _ _ _ _ (c .p) (omega (arith, at-most (times (less (dv .2) (dw .2)) (c .q)) (c .p) .0 h))))
+
+-- ---- near: at most p/q above, either way round
+
+pub near-refl : (c : Criterion) (x : Fraction) → 1 ≤ x .den → Near c x x
+near-refl c x e =
+    let d = parts (x .num) .2 in
+    record {
+      left = e;
+      right = e;
+      apart = size-at-most (same (less (times d (x .den)) (times d (x .den))) 0 0 (omega arith)) (c .q) (c .p * (x .den * x .den)) .1 (omega arith);
+    }
+
+module _ {c : Criterion} {x y : Fraction} where
+  pub near-excess : Near c x y → Excess c x y × Excess c y x
+  near-excess h =
+      let dx = parts (x .num) .2 in
+      let dy = parts (y .num) .2 in
+      let both = size-at-most (less (times dx (y .den)) (times dy (x .den))) (c .q) (c .p * (x .den * y .den)) .0 (h .apart) in
+      (over-excess dx dy (h .left) (h .right) (omega (arith, both .0)), over-excess dy dx (h .right) (h .left) (omega (arith, both .1)))
+
+  pub excess-near : Excess c x y → Excess c y x → Near c x y
+  excess-near h k =
+      let dx = parts (x .num) .2 in
+      let dy = parts (y .num) .2 in
+      record {
+        left = h .left;
+        right = h .right;
+        apart = size-at-most (less (times dx (y .den)) (times dy (x .den))) (c .q) (c .p * (x .den * y .den)) .1
+            (omega (arith, excess-over dx dy h), omega (arith, excess-over dy dx k));
+      }
+
+pub near-wider : {c d : Criterion} {x y : Fraction} → 1 ≤ c .q → c .p * d .q ≤ d .p * c .q → Near c x y → Near d x y
+near-wider some e h = excess-near (excess-wider some e (near-excess h .0)) (excess-wider some e (near-excess h .1))
+
+pub near-multiplied : {c : Criterion} {x y : Fraction} (m n : ℕ) → 1 ≤ n → Near c x y → Near (multiple c m n) (multiplied x m n) (multiplied y m n)
+near-multiplied m n some h = excess-near (excess-multiplied m n some (near-excess h .0)) (excess-multiplied m n some (near-excess h .1))
+
+module _ {o p q : ℕ} where
+  pub near-added : {x y z w : Fraction} → Near (record { p = o; q = q }) x y → Near (record { p = p; q = q }) z w → Near (record { p = o + p; q = q }) (added x z) (added y w)
+  near-added h k = excess-near (excess-added (near-excess h .0) (near-excess k .0)) (excess-added (near-excess h .1) (near-excess k .1))
