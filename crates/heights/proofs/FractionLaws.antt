@@ -3,12 +3,12 @@
 -- Assumes nothing.
 use mathlib.Core.Path.{_≡_}
 use Prim.Native.Nat.{ℕ, _+_, _*_, _≤_, _<_}
-use native.Mathlib.Nat.{mul-comm, mul-le-mul-right, le-of-mul-le-mul-right, mul-pos}
+use native.Mathlib.Nat.{zero-add, add-comm, mul-comm, mul-assoc, mul-le-mul-right, le-of-mul-le-mul-right, mul-pos}
 use native.Mathlib.Omega.{arith}
-use lib.IntN.{ℤ, pos, _-ℤ_, _*ℤ_, +ℤ-comm}
+use lib.IntN.{ℤ, pos, _+ℤ_, _-ℤ_, _*ℤ_, +ℤ-comm}
 use lib.Signed.{_≤ℤ_}
 use Rattle.trace.specs.declared.Criterion.{Criterion}
-use Rattle.trace.proofs.Difference.{Diff, plus, times, less, parts, same, at-most, size-at-most, wider}
+use Rattle.trace.proofs.Difference.{Diff, plus, times, less, parts, same, natural, alike, at-most, size-at-most, wider}
 use Rattle.heights.specs.Heights.{Fraction, Near}
 use Rattle.heights.specs.Windows.{added, multiplied, wholeLess, multiple, Excess}
 
@@ -152,6 +152,9 @@ module _ {c : Criterion} {x y : Fraction} where
             (omega (arith, excess-over dx dy h), omega (arith, excess-over dy dx k));
       }
 
+pub near-sym : {c : Criterion} {x y : Fraction} → Near c x y → Near c y x
+near-sym h = excess-near (near-excess h .1) (near-excess h .0)
+
 pub near-wider : {c d : Criterion} {x y : Fraction} → 1 ≤ c .q → c .p * d .q ≤ d .p * c .q → Near c x y → Near d x y
 near-wider some e h = excess-near (excess-wider some e (near-excess h .0)) (excess-wider some e (near-excess h .1))
 
@@ -161,3 +164,50 @@ near-multiplied m n some h = excess-near (excess-multiplied m n some (near-exces
 module _ {o p q : ℕ} where
   pub near-added : {x y z w : Fraction} → Near (record { p = o; q = q }) x y → Near (record { p = p; q = q }) z w → Near (record { p = o + p; q = q }) (added x z) (added y w)
   near-added h k = excess-near (excess-added (near-excess h .0) (near-excess k .0)) (excess-added (near-excess h .1) (near-excess k .1))
+
+  pub near-trans : {x y z : Fraction} → Near (record { p = o; q = q }) x y → Near (record { p = p; q = q }) y z → Near (record { p = o + p; q = q }) x z
+  near-trans h k = excess-near (excess-trans (near-excess h .0) (near-excess k .0)) (rw (add-comm o p) (excess-trans (near-excess k .1) (near-excess h .1)))
+
+pub near-left : {c : Criterion} {x y : Fraction} (z : Fraction) → 1 ≤ z .den → Near c x y → Near c (added x z) (added y z)
+near-left z some h = excess-near (excess-left z some (near-excess h .0)) (excess-left z some (near-excess h .1))
+
+-- ---- the same fraction: near at 0
+
+abbrev pub Same : Fraction → Fraction → Type 0
+Same = Near (record { p = 0; q = 1 })
+
+pub near-same : {c : Criterion} {x y z : Fraction} → Same x y → Near c y z → Near c x z
+near-same {c} h k = rw (zero-add (c .p)) at (near-trans {o = 0} {q = c .q} (near-wider (omega arith) (omega arith) h) k)
+
+pub same-sum : (m n : ℤ) (e : ℕ) → 1 ≤ e → Same (record { num = m +ℤ n; den = e }) (added (record { num = m; den = e }) (record { num = n; den = e }))
+unfolding added
+same-sum m n e some =
+    let dm = parts m .2 in
+    let dn = parts n .2 in
+    record {
+      left = some;
+      right = mul-pos some some;
+      apart = size-at-most (same (less (times (plus dm dn) (e * e)) (times (plus (times dm e) (times dn e)) e)) 0 0 (omega arith)) 1 _ .1 (omega arith);
+    }
+
+-- nothing added
+pub same-none : (x y : Fraction) → 1 ≤ x .den → 1 ≤ y .den → x .num ≡ pos 0 → Same y (added x y)
+unfolding added
+same-none x y ex ey none =
+    let dy = parts (y .num) .2 in
+    rw none
+    (record {
+      left = ey;
+      right = mul-pos ex ey;
+      apart = size-at-most (same (less (times dy (x .den * y .den)) (times (plus (times (natural 0) (y .den)) (times dy (x .den))) (y .den))) 0 0 (omega arith)) 1 _ .1 (omega arith);
+    })
+
+pub added-assoc : (x y z : Fraction) → added (added x y) z ≡ added x (added y z)
+unfolding added
+added-assoc x y z =
+    let dx = parts (x .num) .2 in
+    let dy = parts (y .num) .2 in
+    let dz = parts (z .num) .2 in
+    let num = alike (plus (times (plus (times dx (y .den)) (times dy (x .den))) (z .den)) (times dz (x .den * y .den)))
+    (plus (times dx (y .den * z .den)) (times (plus (times dy (z .den)) (times dz (y .den))) (x .den))) (omega arith) in
+    rw (num, mul-assoc (x .den) (y .den) (z .den))

@@ -4,6 +4,7 @@ pub mod Entries
 pub mod LineLaws
 pub mod FractionLaws
 pub mod NearLaws
+pub mod AreaLaws
 pub mod ExtremeLaws
 pub mod BudgetLaws
 pub mod WindowLaws

@@ -40,7 +40,7 @@ module _ (c e f g h t y z p q : ℕ) {r : ℕ} (er : r ≡ y + z) (straight : g 
   mean-below k l = rw er (omega (arith, ap (λ (n : ℕ). n * q) straight, mul-le-mul-right z k, mul-le-mul-right y l))
 
 -- a line's heights at three places lie on a line
-straight-line : (a b x y z w : ℕ) {u s v r : ℕ} → u ≡ x + y → s ≡ z + w → v ≡ y + z + w → r ≡ x + y + z
+pub straight-line : (a b x y z w : ℕ) {u s v r : ℕ} → u ≡ x + y → s ≡ z + w → v ≡ y + z + w → r ≡ x + y + z
     → line a b u s * (y + z) ≡ line a b x v * z + line a b r w * y
 straight-line a b x y z w eu es ev er = rw (eu, es, ev, er) (omega arith)
 
@@ -81,7 +81,7 @@ module _ {ts : List ℕ} (rising : Rising ts) (vs : List ℤ) (c : Criterion) {i
   sample-low = band-low rising vs inside band
 
   -- so its line is within p/q of that of two neighbours in it, between them
-  link-near : (a d k : ℕ) → 1 ≤ d → i ≤ k → suc k ≤ j → d * tick ts k ≤ a → a ≤ d * tick ts (suc k) → Near c (linkAt ts vs i j a d) (linkAt ts vs k (suc k) a d)
+  pub link-near : (a d k : ℕ) → 1 ≤ d → i ≤ k → suc k ≤ j → d * tick ts k ≤ a → a ≤ d * tick ts (suc k) → Near c (linkAt ts vs i j a d) (linkAt ts vs k (suc k) a d)
   link-near a d k some ik kj from to =
       let ti : tick ts i ≤ tick ts k = not-earlier rising ik (omega arith) in
       let tj : tick ts (suc k) ≤ tick ts j = not-earlier rising kj inside in
