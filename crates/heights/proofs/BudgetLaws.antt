@@ -1,4 +1,4 @@
--- What a kept list within p/q tells of its trace: the error budget of its lines, its greatest and its least value, and its heights.
+-- What a kept list within p/q tells of its trace: the error budget of its lines, its greatest and its least value, its heights and its windows.
 -- Assumes nothing.
 use mathlib.Core.Path.{subst}
 use mathlib.Core.List.{List}
@@ -13,11 +13,13 @@ use Rattle.trace.specs.declared.Criterion.{Criterion}
 use Rattle.trace.specs.Trace.{tick, value, Trace}
 use Rattle.trace.specs.Link.{valid}
 use Rattle.trace.proofs.Difference.{times, at-most, size-at-most, less, parts}
-use Rattle.heights.specs.Heights.{Fraction, lineAt, traceAt, allOf, Near, Equals, Between, peak, trough, ErrorBudget}
+use Rattle.heights.specs.Heights.{Fraction, lineAt, traceAt, allOf, Near, Equals, Between, peak, trough}
+use Rattle.heights.specs.Budget.{ErrorBudget}
 use Rattle.heights.proofs.Order.{order}
 use Rattle.heights.proofs.Entries.{Entry, kept-entry, every-kept, every-entry}
 use Rattle.heights.proofs.NearLaws.{line-near}
 use Rattle.heights.proofs.ExtremeLaws.{Sampled, peak-bound, trough-bound, peak-sampled, trough-sampled, line-through, sample-on, line-extremes}
+use Rattle.heights.proofs.WindowLaws.{window-budget}
 
 -- ---- bounds
 
@@ -122,4 +124,5 @@ module _ {ts : List ℕ} {vs : List ℤ} (c : Criterion) {l : List ℕ} (t : Tra
     trough-near = trough-near;
     height-high = heights-high (peak vs l) (peak vs (allOf ts)) (trough vs l) (trough vs (allOf ts)) peak-high trough-low;
     height-near = heights-near (peak vs l) (peak vs (allOf ts)) (trough vs l) (trough vs (allOf ts)) (c .p) (c .q) peak-near trough-near;
+    windows = window-budget c some t kept within peak-high peak-near;
   }

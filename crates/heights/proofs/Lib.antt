@@ -6,7 +6,7 @@ pub mod FractionLaws
 pub mod NearLaws
 pub mod AreaLaws
 pub mod ExtremeLaws
-pub mod BudgetLaws
 pub mod WindowLaws
+pub mod BudgetLaws
 pub mod SelectedLaws
 pub mod Examples

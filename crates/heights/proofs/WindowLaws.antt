@@ -8,13 +8,18 @@ use native.Mathlib.Omega.{arith}
 use lib.IntN.{ℤ, pos, _-ℤ_, _*ℤ_}
 use lib.ListN.{length}
 use lib.Signed.{_≤ℤ_}
+use Rattle.kept.specs.Kept.{KeptList, AllValid}
 use Rattle.trace.specs.declared.Criterion.{Criterion}
-use Rattle.trace.specs.Trace.{tick}
+use Rattle.trace.specs.Trace.{Trace}
+use Rattle.trace.specs.Link.{valid}
 use Rattle.trace.proofs.Difference.{times, less, parts, at-most}
-use Rattle.heights.specs.Heights.{Fraction, OnTrace, Near}
-use Rattle.heights.specs.Windows.{Line, added, wholeLess, Excess, Window, sumAt, meanAt, HeightNear}
+use Rattle.heights.specs.Heights.{Fraction, lineAt, traceAt, allOf, OnTrace, Near, peak}
+use Rattle.heights.specs.Windows.{Line, wholeLess, Window, sumAt, meanAt, meanOver, HeightNear}
+use Rattle.heights.specs.Budget.{WindowBudget}
 use Rattle.heights.proofs.Order.{order}
 use Rattle.heights.proofs.FractionLaws.{excess-trans, excess-flipped, excess-raised, near-excess, near-refl, near-added, near-multiplied, near-wider}
+use Rattle.heights.proofs.NearLaws.{line-near}
+use Rattle.heights.proofs.AreaLaws.{area-near}
 
 -- ---- whole ticks
 
@@ -52,3 +57,25 @@ module _ {c : Criterion} (h k : ℤ) {x y : Fraction} (near : Near c x y) (high 
         large = rw none at (excess-trans (excess-flipped h (sides .1)) (excess-raised h k y (near .right) at-most-none));
         small = rw (two, one) (excess-trans (excess-raised k h y (near .right) low) (excess-flipped h (sides .0)));
       }
+
+-- ---- the budget
+
+by-ticks : (p q w d : ℕ) → p * w * d * q ≤ p * (q * d * w)
+by-ticks p q w d = omega arith
+
+module _ {ts : List ℕ} {vs : List ℤ} (c : Criterion) {l : List ℕ} (some : 1 ≤ c .q) (t : Trace ts vs) (kept : KeptList (length ts - 1) l) (within : AllValid (valid ts vs c) l) where
+  means-at : (a n : ℕ) → Window ts a n → Near c (meanAt (lineAt ts vs l) a n) (meanAt (traceAt ts vs) a n)
+  means-at a n w = mean-near c (lineAt ts vs l) (traceAt ts vs) a n some (w .some) (λ k u v. line-near c t kept within k 1 (window-on w k u v))
+
+  means-over : (a b d : ℕ) → OnTrace ts a d → OnTrace ts b d → a < b → Near c (meanOver ts vs l a b d) (meanOver ts vs (allOf ts) a b d)
+  means-over a b d oa ob ab =
+      near-wider (mul-pos (mul-pos some (oa .positive)) (omega arith)) (by-ticks (c .p) (c .q) (b - a) d) (near-multiplied d (b - a) (omega arith) (area-near c some t kept within a b d oa ob (omega arith)))
+
+  pub window-budget : peak vs l ≤ℤ peak vs (allOf ts) → ((peak vs (allOf ts) -ℤ peak vs l) *ℤ pos (c .q)) ≤ℤ pos (c .p) → WindowBudget ts vs c l
+  window-budget high low = record {
+    mean-at = means-at;
+    area = area-near c some t kept within;
+    mean-over = means-over;
+    height-at = λ a n w. height-near (peak vs l) (peak vs (allOf ts)) (means-at a n w) high low;
+    height-over = λ a b d oa ob ab. height-near (peak vs l) (peak vs (allOf ts)) (means-over a b d oa ob ab) high low;
+  }

@@ -12,7 +12,6 @@
 --   joined, ofSamples     the values of the samples i ∷ s, or of any list, joined by a function of two
 --   peak, trough, height  the greatest and the least value of a list's samples, and their difference
 --   Attained, Extremes    a list's lines have a value at some sample; peak and trough are the greatest and the least value on them
---   ErrorBudget           what holds of a list that stands for its trace at p/q
 -- A fraction with the denominator 0 is none: Near, Equals and Between ask for more. Laws are in proofs/. Assumes nothing.
 use mathlib.Core.Path.{_≡_}
 use mathlib.Core.Bool.{cond}
@@ -123,20 +122,3 @@ pub record Extremes (ts : List ℕ) (vs : List ℤ) (l : List ℕ) : Type 0 wher
   pub between : (a d : ℕ) → OnTrace ts a d → Between (trough vs l) (peak vs l) (lineAt ts vs l a d)
   pub highest : Attained ts vs l (peak vs l)
   pub lowest : Attained ts vs l (trough vs l)
-
-pub record ErrorBudget (ts : List ℕ) (vs : List ℤ) (c : Criterion) (l : List ℕ) : Type 0 where
-  -- p/q is a fraction
-  pub positive : 1 ≤ c .q
-  -- the lines are within p/q of the trace's own at every tick
-  pub near : (a d : ℕ) → OnTrace ts a d → Near c (lineAt ts vs l a d) (traceAt ts vs a d)
-  pub extremes : Extremes ts vs l
-  pub trace-extremes : Extremes ts vs (allOf ts)
-  -- the greatest value is never too large, and at most p/q too small
-  pub peak-high : peak vs l ≤ℤ peak vs (allOf ts)
-  pub peak-near : ((peak vs (allOf ts) -ℤ peak vs l) *ℤ pos (c .q)) ≤ℤ pos (c .p)
-  -- the least is never too small, and at most p/q too large
-  pub trough-low : trough vs (allOf ts) ≤ℤ trough vs l
-  pub trough-near : ((trough vs l -ℤ trough vs (allOf ts)) *ℤ pos (c .q)) ≤ℤ pos (c .p)
-  -- so a height is never too large, and at most 2p/q too small
-  pub height-high : height vs l ≤ℤ height vs (allOf ts)
-  pub height-near : ((height vs (allOf ts) -ℤ height vs l) *ℤ pos (c .q)) ≤ℤ pos (2 * c .p)

@@ -1,3 +1,4 @@
 -- The definitions of the crate `heights`.
 pub mod Heights
 pub mod Windows
+pub mod Budget

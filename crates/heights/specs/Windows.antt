@@ -14,7 +14,6 @@
 --   heightOver            how far the greatest value of a list's samples is above a mean
 --   Excess                a fraction is at most p/q above another
 --   HeightNear            a height that stands for another is at most p/q too large and at most 2p/q too small
---   WindowBudget          what holds of a list that stands for its trace at p/q, over any window
 -- Laws are in FractionLaws, AreaLaws and WindowLaws. Assumes nothing.
 use mathlib.Core.List.{List, [], _∷_}
 use Prim.Native.Nat.{ℕ, zero, suc, _+_, _-_, _*_, _≤_, _<_, min, max}
@@ -103,17 +102,3 @@ heightOver vs l m = wholeLess (peak vs l) m
 pub record HeightNear (c : Criterion) (x y : Fraction) : Type 0 where
   pub large : Excess c x y
   pub small : Excess (multiple c 2 1) y x
-
--- ---- the budget
-
-pub record WindowBudget (ts : List ℕ) (vs : List ℤ) (c : Criterion) (l : List ℕ) : Type 0 where
-  -- the mean at whole ticks is within p/q
-  pub mean-at : (a n : ℕ) → Window ts a n → Near c (meanAt (lineAt ts vs l) a n) (meanAt (traceAt ts vs) a n)
-  -- an area is within p/q times its ticks
-  pub area : (a b d : ℕ) → OnTrace ts a d → OnTrace ts b d → a ≤ b → Near (multiple c (b - a) d) (areaOf ts vs l a b d) (areaOf ts vs (allOf ts) a b d)
-  -- so the mean over a stretch of ticks is within p/q
-  pub mean-over : (a b d : ℕ) → OnTrace ts a d → OnTrace ts b d → a < b → Near c (meanOver ts vs l a b d) (meanOver ts vs (allOf ts) a b d)
-  -- the greatest value minus either mean is at most p/q too large and at most 2p/q too small
-  pub height-at : (a n : ℕ) → Window ts a n → HeightNear c (heightOver vs l (meanAt (lineAt ts vs l) a n)) (heightOver vs (allOf ts) (meanAt (traceAt ts vs) a n))
-  pub height-over : (a b d : ℕ) → OnTrace ts a d → OnTrace ts b d → a < b
-      → HeightNear c (heightOver vs l (meanOver ts vs l a b d)) (heightOver vs (allOf ts) (meanOver ts vs (allOf ts) a b d))

@@ -1,4 +1,4 @@
--- The error budget (heights: specs/Heights) of every list that a call writes or passes, from the call's contract alone.
+-- The error budget (heights: specs/Budget) of every list that a call writes or passes, from the call's contract alone.
 -- What a call wrote is read from its output: the first n entries, n being the number that it returned.
 -- Assumes nothing.
 use mathlib.Core.Path.{_≡_, refl}
@@ -15,7 +15,7 @@ use Rattle.tolerance.specs.declared.Tolerance.{Tolerance}
 use Rattle.trace.specs.declared.Criterion.{Criterion}
 use Rattle.trace.specs.Trace.{Trace}
 use Rattle.trace.specs.Link.{valid, criterion}
-use Rattle.heights.specs.Heights.{ErrorBudget}
+use Rattle.heights.specs.Budget.{ErrorBudget}
 use Rattle.heights.proofs.BudgetLaws.{error-budget}
 use Rattle.engine.specs.declared.Reduced.the-variants.{Kept}
 use Rattle.reduction.specs.declared.Galloped.{Galloped}

@@ -1,0 +1,42 @@
+-- The error budget: what a list that stands for its trace at p/q tells of it (specs/Heights, specs/Windows).
+--   WindowBudget    means, areas, and the greatest value minus a mean, over any window of ticks
+--   ErrorBudget     the lines, their greatest and least value, heights, and windows
+-- Laws are in BudgetLaws and WindowLaws. Assumes nothing.
+use mathlib.Core.List.{List}
+use Prim.Native.Nat.{ℕ, _-_, _*_, _≤_, _<_}
+use lib.IntN.{ℤ, pos, _-ℤ_, _*ℤ_}
+use lib.Signed.{_≤ℤ_}
+use Rattle.trace.specs.declared.Criterion.{Criterion}
+use Rattle.heights.specs.Heights.{lineAt, traceAt, allOf, OnTrace, Near, peak, trough, height, Extremes}
+use Rattle.heights.specs.Windows.{multiple, Window, meanAt, areaOf, meanOver, heightOver, HeightNear}
+
+pub record WindowBudget (ts : List ℕ) (vs : List ℤ) (c : Criterion) (l : List ℕ) : Type 0 where
+  -- the mean at whole ticks is within p/q
+  pub mean-at : (a n : ℕ) → Window ts a n → Near c (meanAt (lineAt ts vs l) a n) (meanAt (traceAt ts vs) a n)
+  -- an area is within p/q times its ticks
+  pub area : (a b d : ℕ) → OnTrace ts a d → OnTrace ts b d → a ≤ b → Near (multiple c (b - a) d) (areaOf ts vs l a b d) (areaOf ts vs (allOf ts) a b d)
+  -- so the mean over a stretch of ticks is within p/q
+  pub mean-over : (a b d : ℕ) → OnTrace ts a d → OnTrace ts b d → a < b → Near c (meanOver ts vs l a b d) (meanOver ts vs (allOf ts) a b d)
+  -- the greatest value minus either mean is at most p/q too large and at most 2p/q too small
+  pub height-at : (a n : ℕ) → Window ts a n → HeightNear c (heightOver vs l (meanAt (lineAt ts vs l) a n)) (heightOver vs (allOf ts) (meanAt (traceAt ts vs) a n))
+  pub height-over : (a b d : ℕ) → OnTrace ts a d → OnTrace ts b d → a < b
+      → HeightNear c (heightOver vs l (meanOver ts vs l a b d)) (heightOver vs (allOf ts) (meanOver ts vs (allOf ts) a b d))
+
+pub record ErrorBudget (ts : List ℕ) (vs : List ℤ) (c : Criterion) (l : List ℕ) : Type 0 where
+  -- p/q is a fraction
+  pub positive : 1 ≤ c .q
+  -- the lines are within p/q of the trace's own at every tick
+  pub near : (a d : ℕ) → OnTrace ts a d → Near c (lineAt ts vs l a d) (traceAt ts vs a d)
+  pub extremes : Extremes ts vs l
+  pub trace-extremes : Extremes ts vs (allOf ts)
+  -- the greatest value is never too large, and at most p/q too small
+  pub peak-high : peak vs l ≤ℤ peak vs (allOf ts)
+  pub peak-near : ((peak vs (allOf ts) -ℤ peak vs l) *ℤ pos (c .q)) ≤ℤ pos (c .p)
+  -- the least is never too small, and at most p/q too large
+  pub trough-low : trough vs (allOf ts) ≤ℤ trough vs l
+  pub trough-near : ((trough vs l -ℤ trough vs (allOf ts)) *ℤ pos (c .q)) ≤ℤ pos (c .p)
+  -- so a height is never too large, and at most 2p/q too small
+  pub height-high : height vs l ≤ℤ height vs (allOf ts)
+  pub height-near : ((height vs (allOf ts) -ℤ height vs l) *ℤ pos (c .q)) ≤ℤ pos (2 * c .p)
+  -- means, areas and heights over a mean
+  pub windows : WindowBudget ts vs c l
