@@ -1,7 +1,7 @@
 -- Areas under the lines of a list: a link's area is parted at any tick, and so a kept list within p/q has, over any stretch of ticks, an
 -- area within p/q times its ticks of the trace's own: from each sample to the next both lines are straight, and near at both ends.
 -- Assumes nothing.
-use mathlib.Core.Path.{_≡_, refl, ap, _∙_}
+use mathlib.Core.Path.{_≡_, refl, ap}
 use mathlib.Core.Bool.{true}
 use mathlib.Core.List.{List, [], _∷_}
 use Prim.Native.Nat.{ℕ, zero, suc, _+_, _-_, _*_, _≤_, _<_}
@@ -20,9 +20,9 @@ use Rattle.trace.proofs.Validity.{true-valid}
 use Rattle.trace.proofs.Difference.{plus, times, parts, natural, alike}
 use Rattle.trace.proofs.Offsets.{offsetOf, offset-of-diff}
 use Rattle.heights.specs.Heights.{Fraction, linkAt, samplesAfter, allOf, OnTrace, Near}
-use Rattle.heights.specs.Windows.{added, multiplied, multiple, clipped, areaUnder, areaFrom, areaOf}
-use Rattle.heights.proofs.FractionLaws.{near-refl, near-added, near-multiplied, near-wider, near-left, near-sym, Same, near-same, same-sum, same-none, added-comm, added-assoc}
-use Rattle.heights.proofs.LineLaws.{link-num, link-positive}
+use Rattle.heights.specs.Windows.{nothing, added, multiplied, multiple, clipped, areaUnder, areaFrom, areaOf}
+use Rattle.heights.proofs.FractionLaws.{near-refl, near-added, near-multiplied, near-wider, near-left, near-sym, Same, near-same, same-sum, same-none, added-comm, added-assoc, added-swap}
+use Rattle.heights.proofs.LineLaws.{link-num}
 use Rattle.heights.proofs.NearLaws.{straight-line, link-near}
 
 -- ---- clipping
@@ -109,6 +109,28 @@ module _ (ts : List ℕ) (vs : List ℤ) (i j d : ℕ) (some : 1 ≤ d) (rises :
         ]
       ]
 
+-- ---- the area under a list
+
+module _ {ts : List ℕ} (rising : Rising ts) (vs : List ℤ) (a m b d : ℕ) (some : 1 ≤ d) (am : a ≤ m) (mb : m ≤ b) where
+  from-parts : (s : List ℕ) (i : ℕ) → LinksFrom _<_ i s → final i s < length ts
+      → Same (areaFrom ts vs i s a b d) (added (areaFrom ts vs i s a m d) (areaFrom ts vs i s m b d))
+  unfolding areaFrom
+  from-parts [] i r inside = same-none nothing nothing (omega arith) (omega arith) refl
+  from-parts (j ∷ s) i r inside =
+      let rises = later rising j (r .0) (omega (arith, rise-le j s (r .1))) in
+      let from = d * tick ts i in
+      let to = d * tick ts j in
+      let upward : from ≤ to = mul-le-mul-left d (omega arith) in
+      rw added-swap (near-added
+      (under-parts ts vs i j d some rises (clipped from to a) (clipped from to m) (clipped from to b) (clipped-inside from to a upward .0) (clipped-order from to am) (clipped-order from to mb) (clipped-inside from to b upward .1))
+      (from-parts s j (r .1) inside))
+
+-- the area of a stretch is the sum of those of its parts
+pub area-parts : {ts : List ℕ} {vs : List ℤ} {l : List ℕ} → Trace ts vs → KeptList (length ts - 1) l → (a m b d : ℕ) → 1 ≤ d → a ≤ m → m ≤ b
+    → Same (areaOf ts vs l a b d) (added (areaOf ts vs l a m d) (areaOf ts vs l m b d))
+area-parts {l = []} t k a m b d some am mb = absurd (k .spans)
+area-parts {vs = vs} {l = i ∷ s} t k a m b d some am mb = from-parts (t .rising) vs a m b d some am mb s i (k .rises) (omega (arith, k .spans .1, t .some))
+
 -- ---- a valid link beside the steps of the trace
 
 -- the ticks of a stretch that lie between samples k and l, and the area under the link i to j over these
@@ -124,8 +146,8 @@ none-more p t r = let none : t - t ≡ 0 = omega arith in rw none (omega arith)
 product-parts : (p u v r : ℕ) → p * (u + v) + r ≡ p * u + (p * v + r)
 product-parts p u v r = omega arith
 
-mean-twice : (p w q d : ℕ) → (p + p) * w * (q * d) ≤ p * w * (q * (2 * d))
-mean-twice p w q d = omega arith
+halved : (p w q d : ℕ) → (p + p) * w * (q * d) ≤ p * w * (q * (2 * d))
+halved p w q d = omega arith
 
 module _ {ts : List ℕ} (rising : Rising ts) (vs : List ℤ) (c : Criterion) (someq : 1 ≤ c .q) (a b d : ℕ) (some : 1 ≤ d) (ab : a ≤ b) where
   in-order : {k l : ℕ} → k ≤ l → l < length ts → d * tick ts k ≤ d * tick ts l
@@ -144,7 +166,7 @@ module _ {ts : List ℕ} (rising : Rising ts) (vs : List ℤ) (c : Criterion) (s
         let rises = in-order {k = k} {l = suc k} (omega arith) (omega arith) in
         let at : (n : ℕ) → Near c (linkAt ts vs i j (clipped (d * tick ts k) (d * tick ts (suc k)) n) d) (linkAt ts vs k (suc k) (clipped (d * tick ts k) (d * tick ts (suc k)) n) d)
         = λ n. link-near rising vs c inside v _ d k some ik kj (clipped-inside _ _ n rises .0) (clipped-inside _ _ n rises .1) in
-        near-wider (mul-pos someq (omega arith)) (mean-twice (c .p) _ (c .q) d) (near-multiplied (ticksBetween ts a b d k (suc k)) (2 * d) (omega arith) (near-added (at a) (at b)))
+        near-wider (mul-pos someq (omega arith)) (halved (c .p) _ (c .q) d) (near-multiplied (ticksBetween ts a b d k (suc k)) (2 * d) (omega arith) (near-added (at a) (at b)))
 
     -- the link from sample k on, and what follows it, beside the steps from k on
     steps-near : (n r : ℕ) (rest : Fraction) → Near (record { p = r; q = c .q * d }) rest (areaFrom ts vs j (samplesAfter j n) a b d)

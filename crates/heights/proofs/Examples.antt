@@ -9,13 +9,16 @@ use Rattle.kept.specs.Kept.{AllValid}
 use Rattle.trace.specs.declared.Criterion.{Criterion}
 use Rattle.trace.specs.Link.{deviation, within, allFrom, valid}
 use Rattle.heights.specs.Heights.{Fraction, linkAt, lineFrom, lineAt, samplesAfter, everySample, traceAt, Equals, joined, peak, trough, height}
-use Rattle.heights.specs.Windows.{added, multiplied, wholeLess, sumAt, meanAt, clipped, areaUnder, areaFrom, areaOf, meanOver, heightOver}
+use Rattle.heights.specs.Windows.{added, multiplied, wholeLess, sumAt, meanAt, clipped, areaUnder, areaFrom, areaOf, meanOver, baselineHeight}
 
 abbrev five : List ℕ
 five = 0 ∷ 1 ∷ 2 ∷ 3 ∷ 4 ∷ []
 
 abbrev over : ℤ → ℕ → Fraction
 over n d = record { num = n; den = d }
+
+computed : {x y : Fraction} {v w : ℤ} → (1 ≤ x .den) × (1 ≤ y .den) → x .num ≡ v *ℤ pos (x .den) → y .num ≡ w *ℤ pos (y .den) → Equals x v × Equals y w
+computed h e f = (record { positive = h .0; is = e }, record { positive = h .1; is = f })
 
 -- ---- values 0 3 0 3 0: the minimum's list at tolerance 2 is 0 3 4
 
@@ -68,53 +71,48 @@ one-sample : traceAt (7 ∷ []) (negsuc 4 ∷ []) 7 1 ≡ over (negsuc 4) 1
 unfolding samplesAfter lineFrom
 one-sample = refl
 
--- ---- windows
-
-both : {x y : Fraction} {v w : ℤ} → (1 ≤ x .den) × (1 ≤ y .den) → x .num ≡ v *ℤ pos (x .den) → y .num ≡ w *ℤ pos (y .den) → Equals x v × Equals y w
-both h e f = (record { positive = h .0; is = e }, record { positive = h .1; is = f })
-
 -- ---- values 0 2 2 2 2 0 9, list 0 5 6, at tolerance 2: of the window 1 .. 4 the mean is 2 too small, the area 2 for each tick, and the
 -- greatest value minus the mean 2 too large
 
 abbrev seven : List ℕ
 seven = 0 ∷ 1 ∷ 2 ∷ 3 ∷ 4 ∷ 5 ∷ 6 ∷ []
 
-abbrev step : List ℤ
-step = pos 0 ∷ pos 2 ∷ pos 2 ∷ pos 2 ∷ pos 2 ∷ pos 0 ∷ pos 9 ∷ []
+abbrev plateau : List ℤ
+plateau = pos 0 ∷ pos 2 ∷ pos 2 ∷ pos 2 ∷ pos 2 ∷ pos 0 ∷ pos 9 ∷ []
 
 abbrev two : Criterion
 two = record { p = 2; q = 1 }
 
-step-within : AllValid (valid seven step two) (0 ∷ 5 ∷ 6 ∷ [])
+plateau-within : AllValid (valid seven plateau two) (0 ∷ 5 ∷ 6 ∷ [])
 unfolding valid allFrom within deviation
-step-within = (refl, (refl, tt))
+plateau-within = (refl, (refl, tt))
 
-step-mean : Equals (meanAt (lineAt seven step (0 ∷ 5 ∷ 6 ∷ [])) 1 4) (pos 0) × Equals (meanAt (traceAt seven step) 1 4) (pos 2)
+plateau-mean : Equals (meanAt (lineAt seven plateau (0 ∷ 5 ∷ 6 ∷ [])) 1 4) (pos 0) × Equals (meanAt (traceAt seven plateau) 1 4) (pos 2)
 unfolding samplesAfter lineFrom linkAt added multiplied sumAt
-step-mean = both (omega arith) refl refl
+plateau-mean = computed (omega arith) refl refl
 
-step-area : Equals (areaOf seven step (0 ∷ 5 ∷ 6 ∷ []) 1 4 1) (pos 0) × Equals (areaOf seven step (everySample 6) 1 4 1) (pos 6)
+plateau-area : Equals (areaOf seven plateau (0 ∷ 5 ∷ 6 ∷ []) 1 4 1) (pos 0) × Equals (areaOf seven plateau (everySample 6) 1 4 1) (pos 6)
 unfolding samplesAfter linkAt added multiplied clipped areaUnder areaFrom
-step-area = both (omega arith) refl refl
+plateau-area = computed (omega arith) refl refl
 
-step-mean-over : Equals (meanOver seven step (0 ∷ 5 ∷ 6 ∷ []) 1 4 1) (pos 0) × Equals (meanOver seven step (everySample 6) 1 4 1) (pos 2)
+plateau-mean-over : Equals (meanOver seven plateau (0 ∷ 5 ∷ 6 ∷ []) 1 4 1) (pos 0) × Equals (meanOver seven plateau (everySample 6) 1 4 1) (pos 2)
 unfolding samplesAfter linkAt added multiplied clipped areaUnder areaFrom
-step-mean-over = both (omega arith) refl refl
+plateau-mean-over = computed (omega arith) refl refl
 
 -- between fractional ends, from tick 1/2 to tick 9/2, the area under the trace's own lines is 15/2
-step-part : Equals (multiplied (areaOf seven step (everySample 6) 1 9 2) 2 1) (pos 15)
+plateau-part : Equals (multiplied (areaOf seven plateau (everySample 6) 1 9 2) 2 1) (pos 15)
 unfolding samplesAfter linkAt added multiplied clipped areaUnder areaFrom
-step-part = record { positive = omega arith; is = refl }
+plateau-part = record { positive = omega arith; is = refl }
 
-step-height : Equals (heightOver step (0 ∷ 5 ∷ 6 ∷ []) (meanAt (lineAt seven step (0 ∷ 5 ∷ 6 ∷ [])) 1 4)) (pos 9)
-    × Equals (heightOver step (everySample 6) (meanAt (traceAt seven step) 1 4)) (pos 7)
+plateau-baseline : Equals (baselineHeight plateau (0 ∷ 5 ∷ 6 ∷ []) (meanAt (lineAt seven plateau (0 ∷ 5 ∷ 6 ∷ [])) 1 4)) (pos 9)
+    × Equals (baselineHeight plateau (everySample 6) (meanAt (traceAt seven plateau) 1 4)) (pos 7)
 unfolding samplesAfter lineFrom linkAt joined added multiplied sumAt wholeLess
-step-height = both (omega arith) refl refl
+plateau-baseline = computed (omega arith) refl refl
 
-step-height-over : Equals (heightOver step (0 ∷ 5 ∷ 6 ∷ []) (meanOver seven step (0 ∷ 5 ∷ 6 ∷ []) 1 4 1)) (pos 9)
-    × Equals (heightOver step (everySample 6) (meanOver seven step (everySample 6) 1 4 1)) (pos 7)
+plateau-baseline-over : Equals (baselineHeight plateau (0 ∷ 5 ∷ 6 ∷ []) (meanOver seven plateau (0 ∷ 5 ∷ 6 ∷ []) 1 4 1)) (pos 9)
+    × Equals (baselineHeight plateau (everySample 6) (meanOver seven plateau (everySample 6) 1 4 1)) (pos 7)
 unfolding samplesAfter linkAt joined added multiplied clipped areaUnder areaFrom wholeLess
-step-height-over = both (omega arith) refl refl
+plateau-baseline-over = computed (omega arith) refl refl
 
 -- ---- values 0 -2 -2 -2 -2 0 2 0, list 0 7, at tolerance 2: the greatest value minus the mean of the window 1 .. 4 is 4 too small, twice the tolerance
 
@@ -128,12 +126,12 @@ dip-within : AllValid (valid eight dip two) (0 ∷ 7 ∷ [])
 unfolding valid allFrom within deviation
 dip-within = (refl, tt)
 
-dip-height : Equals (heightOver dip (0 ∷ 7 ∷ []) (meanAt (lineAt eight dip (0 ∷ 7 ∷ [])) 1 4)) (pos 0)
-    × Equals (heightOver dip (everySample 7) (meanAt (traceAt eight dip) 1 4)) (pos 4)
+dip-baseline : Equals (baselineHeight dip (0 ∷ 7 ∷ []) (meanAt (lineAt eight dip (0 ∷ 7 ∷ [])) 1 4)) (pos 0)
+    × Equals (baselineHeight dip (everySample 7) (meanAt (traceAt eight dip) 1 4)) (pos 4)
 unfolding samplesAfter lineFrom linkAt joined added multiplied sumAt wholeLess
-dip-height = both (omega arith) refl refl
+dip-baseline = computed (omega arith) refl refl
 
-dip-height-over : Equals (heightOver dip (0 ∷ 7 ∷ []) (meanOver eight dip (0 ∷ 7 ∷ []) 1 4 1)) (pos 0)
-    × Equals (heightOver dip (everySample 7) (meanOver eight dip (everySample 7) 1 4 1)) (pos 4)
+dip-baseline-over : Equals (baselineHeight dip (0 ∷ 7 ∷ []) (meanOver eight dip (0 ∷ 7 ∷ []) 1 4 1)) (pos 0)
+    × Equals (baselineHeight dip (everySample 7) (meanOver eight dip (everySample 7) 1 4 1)) (pos 4)
 unfolding samplesAfter linkAt joined added multiplied clipped areaUnder areaFrom wholeLess
-dip-height-over = both (omega arith) refl refl
+dip-baseline-over = computed (omega arith) refl refl

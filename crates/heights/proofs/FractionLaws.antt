@@ -9,7 +9,7 @@ use lib.IntN.{ℤ, pos, _+ℤ_, _-ℤ_, _*ℤ_, +ℤ-comm}
 use lib.Signed.{_≤ℤ_}
 use Rattle.trace.specs.declared.Criterion.{Criterion}
 use Rattle.trace.proofs.Difference.{Diff, plus, times, less, parts, same, natural, alike, at-most, size-at-most, wider}
-use Rattle.heights.specs.Heights.{Fraction, Near}
+use Rattle.heights.specs.Heights.{Fraction, Near, Equals}
 use Rattle.heights.specs.Windows.{added, multiplied, wholeLess, multiple, Excess}
 
 -- ---- over levels
@@ -122,6 +122,18 @@ excess-raised {c} v w x some h =
     (rw (rest-by (dv .0) (x .den) (dx .1) (c .q), rest-by (dv .1) (x .den) (dx .0) (c .q), rest-by (dw .0) (x .den) (dx .1) (c .q), rest-by (dw .1) (x .den) (dx .0) (c .q))
     (over-raised _ _ _ _ _ _ _ (c .p) (omega (arith, at-most (times (less (dv .2) (dw .2)) (c .q)) (c .p) .0 h))))
 
+-- ---- whole numbers
+
+pub equals-added : {x y : Fraction} {v w : ℤ} → Equals x v → Equals y w → Equals (added x y) (v +ℤ w)
+unfolding added
+equals-added {x} {y} {v} {w} h k =
+    let dv = parts v .2 in
+    let dw = parts w .2 in
+    record {
+      positive = mul-pos (h .positive) (k .positive);
+      is = rw (h .is, k .is) (alike (plus (times (times dv (x .den)) (y .den)) (times (times dw (y .den)) (x .den))) (times (plus dv dw) (x .den * y .den)) (omega arith));
+    }
+
 -- ---- near: at most p/q above, either way round
 
 pub near-refl : (c : Criterion) (x : Fraction) → 1 ≤ x .den → Near c x x
@@ -211,3 +223,6 @@ added-assoc x y z =
     let num = alike (plus (times (plus (times dx (y .den)) (times dy (x .den))) (z .den)) (times dz (x .den * y .den)))
     (plus (times dx (y .den * z .den)) (times (plus (times dy (z .den)) (times dz (y .den))) (x .den))) (omega arith) in
     rw (num, mul-assoc (x .den) (y .den) (z .den))
+
+pub added-swap : (w x y z : Fraction) → added (added w x) (added y z) ≡ added (added w y) (added x z)
+added-swap w x y z = rw (added-assoc w x (added y z), ← (added-assoc x y z), added-comm x y, added-assoc y x z, ← (added-assoc w y (added x z)))

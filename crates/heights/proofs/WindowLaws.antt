@@ -1,6 +1,6 @@
 -- What a kept list within p/q tells of its trace over any window: means, areas, and the greatest value minus a mean.
 -- Assumes nothing.
-use mathlib.Core.Path.{_≡_}
+use mathlib.Core.Path.{_≡_, refl}
 use mathlib.Core.List.{List}
 use Prim.Native.Nat.{ℕ, zero, suc, _+_, _-_, _*_, _≤_, _<_}
 use native.Mathlib.Nat.{mul-le-mul-right, mul-pos}
@@ -10,16 +10,18 @@ use lib.ListN.{length}
 use lib.Signed.{_≤ℤ_}
 use Rattle.kept.specs.Kept.{KeptList, AllValid}
 use Rattle.trace.specs.declared.Criterion.{Criterion}
-use Rattle.trace.specs.Trace.{Trace}
+use Rattle.trace.specs.Trace.{tick, Trace}
 use Rattle.trace.specs.Link.{valid}
 use Rattle.trace.proofs.Difference.{times, less, parts, at-most}
-use Rattle.heights.specs.Heights.{Fraction, lineAt, traceAt, allOf, OnTrace, Near, peak}
-use Rattle.heights.specs.Windows.{Line, wholeLess, Window, sumAt, meanAt, meanOver, HeightNear}
+use Rattle.heights.specs.Heights.{Fraction, lineAt, traceAt, allOf, OnTrace, Near, Equals, peak}
+use Rattle.heights.specs.Windows.{Line, wholeLess, Window, sumAt, meanAt, valueSum, meanOver, BaselineNear}
 use Rattle.heights.specs.Budget.{WindowBudget}
 use Rattle.heights.proofs.Order.{order}
-use Rattle.heights.proofs.FractionLaws.{excess-trans, excess-flipped, excess-raised, near-excess, near-refl, near-added, near-multiplied, near-wider}
+use Rattle.heights.proofs.FractionLaws.{equals-added, excess-trans, excess-flipped, excess-raised, near-excess, near-refl, near-added, near-multiplied, near-wider}
+use Rattle.heights.proofs.Entries.{every-kept, every-entry}
 use Rattle.heights.proofs.NearLaws.{line-near}
 use Rattle.heights.proofs.AreaLaws.{area-near}
+use Rattle.heights.proofs.ExtremeLaws.{line-through}
 
 -- ---- whole ticks
 
@@ -37,6 +39,16 @@ module _ (c : Criterion) (f g : Line) where
 window-on : {ts : List ℕ} {a n : ℕ} → Window ts a n → (k : ℕ) → a ≤ k → k < a + n → OnTrace ts k 1
 window-on w k u v = record { positive = omega arith; from = omega (arith, w .from); to = omega (arith, w .to) }
 
+-- where the samples k, k+1, .. stand at the ticks a, a+1, .., the trace's own lines there have the sum of their values
+pub samples-sum : {ts : List ℕ} {vs : List ℤ} → Trace ts vs → (n k a : ℕ) → k + n ≤ length ts → ((m : ℕ) → m < n → tick ts (k + m) ≡ a + m) → Equals (sumAt (traceAt ts vs) a n) (valueSum vs k n)
+unfolding sumAt valueSum
+samples-sum t zero k a inside h = record { positive = omega arith; is = refl }
+samples-sum {ts} {vs} t (suc n) k a inside h =
+    let at : (i m b : ℕ) → i ≡ k + m → b ≡ a + m → m < suc n → tick ts i ≡ b = λ i m b ei eb u. rw (ei, eb) (h m u) in
+    let here = line-through t (allOf ts) (every-kept (length ts - 1)) k (every-entry (length ts - 1) k (omega arith)) in
+    equals-added (rw (at k 0 a (omega arith) (omega arith) (omega arith)) at here)
+    (samples-sum t n (suc k) (suc a) (omega arith) (λ m u. at (suc k + m) (suc m) (suc a + m) (omega arith) (omega arith) (omega arith)))
+
 -- ---- the greatest value minus a mean
 
 -- h and k are the greatest values, x and y the means
@@ -47,15 +59,15 @@ module _ {c : Criterion} (h k : ℤ) {x y : Fraction} (near : Near c x y) (high 
       let dk = parts k .2 in
       at-most (times (less dh dk) (c .q)) 0 .1 (omega (arith, mul-le-mul-right (c .q) (order dh dk .0 high)))
 
-  height-near : HeightNear c (wholeLess h x) (wholeLess k y)
-  height-near =
+  baseline-near : BaselineNear c (wholeLess h x) (wholeLess k y)
+  baseline-near =
       let sides = near-excess near in
       let none : c .p + 0 ≡ c .p = omega arith in
-      let two : c .p * 2 ≡ c .p + c .p = omega arith in
+      let double : c .p * 2 ≡ c .p + c .p = omega arith in
       let one : c .q * 1 ≡ c .q = omega arith in
       record {
         large = rw none at (excess-trans (excess-flipped h (sides .1)) (excess-raised h k y (near .right) at-most-none));
-        small = rw (two, one) (excess-trans (excess-raised k h y (near .right) low) (excess-flipped h (sides .0)));
+        small = rw (double, one) (excess-trans (excess-raised k h y (near .right) low) (excess-flipped h (sides .0)));
       }
 
 -- ---- the budget
@@ -76,6 +88,6 @@ module _ {ts : List ℕ} {vs : List ℤ} (c : Criterion) {l : List ℕ} (some : 
     mean-at = means-at;
     area = area-near c some t kept within;
     mean-over = means-over;
-    height-at = λ a n w. height-near (peak vs l) (peak vs (allOf ts)) (means-at a n w) high low;
-    height-over = λ a b d oa ob ab. height-near (peak vs l) (peak vs (allOf ts)) (means-over a b d oa ob ab) high low;
+    baseline-at = λ a n w. baseline-near (peak vs l) (peak vs (allOf ts)) (means-at a n w) high low;
+    baseline-over = λ a b d oa ob ab. baseline-near (peak vs l) (peak vs (allOf ts)) (means-over a b d oa ob ab) high low;
   }

@@ -8,7 +8,7 @@ use lib.IntN.{ℤ, pos, _-ℤ_, _*ℤ_}
 use lib.Signed.{_≤ℤ_}
 use Rattle.trace.specs.declared.Criterion.{Criterion}
 use Rattle.heights.specs.Heights.{lineAt, traceAt, allOf, OnTrace, Near, peak, trough, height, Extremes}
-use Rattle.heights.specs.Windows.{multiple, Window, meanAt, areaOf, meanOver, heightOver, HeightNear}
+use Rattle.heights.specs.Windows.{multiple, Window, meanAt, areaOf, meanOver, baselineHeight, BaselineNear}
 
 pub record WindowBudget (ts : List ℕ) (vs : List ℤ) (c : Criterion) (l : List ℕ) : Type 0 where
   -- the mean at whole ticks is within p/q
@@ -18,9 +18,9 @@ pub record WindowBudget (ts : List ℕ) (vs : List ℤ) (c : Criterion) (l : Lis
   -- so the mean over a stretch of ticks is within p/q
   pub mean-over : (a b d : ℕ) → OnTrace ts a d → OnTrace ts b d → a < b → Near c (meanOver ts vs l a b d) (meanOver ts vs (allOf ts) a b d)
   -- the greatest value minus either mean is at most p/q too large and at most 2p/q too small
-  pub height-at : (a n : ℕ) → Window ts a n → HeightNear c (heightOver vs l (meanAt (lineAt ts vs l) a n)) (heightOver vs (allOf ts) (meanAt (traceAt ts vs) a n))
-  pub height-over : (a b d : ℕ) → OnTrace ts a d → OnTrace ts b d → a < b
-      → HeightNear c (heightOver vs l (meanOver ts vs l a b d)) (heightOver vs (allOf ts) (meanOver ts vs (allOf ts) a b d))
+  pub baseline-at : (a n : ℕ) → Window ts a n → BaselineNear c (baselineHeight vs l (meanAt (lineAt ts vs l) a n)) (baselineHeight vs (allOf ts) (meanAt (traceAt ts vs) a n))
+  pub baseline-over : (a b d : ℕ) → OnTrace ts a d → OnTrace ts b d → a < b
+      → BaselineNear c (baselineHeight vs l (meanOver ts vs l a b d)) (baselineHeight vs (allOf ts) (meanOver ts vs (allOf ts) a b d))
 
 pub record ErrorBudget (ts : List ℕ) (vs : List ℤ) (c : Criterion) (l : List ℕ) : Type 0 where
   -- p/q is a fraction
@@ -38,5 +38,5 @@ pub record ErrorBudget (ts : List ℕ) (vs : List ℤ) (c : Criterion) (l : List
   -- so a height is never too large, and at most 2p/q too small
   pub height-high : height vs l ≤ℤ height vs (allOf ts)
   pub height-near : ((height vs (allOf ts) -ℤ height vs l) *ℤ pos (c .q)) ≤ℤ pos (2 * c .p)
-  -- means, areas and heights over a mean
+  -- means, areas and baseline heights
   pub windows : WindowBudget ts vs c l

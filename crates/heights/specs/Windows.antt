@@ -6,23 +6,24 @@
 --   multiple              m/n times the criterion p/q
 --   Window                the n whole ticks a, a+1, .. lie between the first and the last
 --   sumAt, meanAt         the sum and the mean of a line at the n whole ticks a, a+1, ..
+--   valueSum              the sum of the values of the n samples k, k+1, ..
 --   clipped               a tick, or the nearer end of a stretch of ticks that it is not in
 --   trapezoid             the area under a straight line from a height to a height over w/d ticks
 --   areaUnder             the area under the line of a link from the tick a/d to the tick b/d
 --   areaFrom, areaOf      the area under the lines of the list i ∷ s, or of any list, from the tick a/d to the tick b/d
 --   meanOver              the mean of a list's lines from the tick a/d to the tick b/d: their area over its ticks
---   heightOver            how far the greatest value of a list's samples is above a mean
+--   baselineHeight        the greatest value of a list's samples minus a mean
 --   Excess                a fraction is at most p/q above another
---   HeightNear            a height that stands for another is at most p/q too large and at most 2p/q too small
+--   BaselineNear          a baseline height that stands for another is at most p/q too large and at most 2p/q too small
 -- Laws are in FractionLaws, AreaLaws and WindowLaws. Assumes nothing.
 use mathlib.Core.List.{List, [], _∷_}
-use Prim.Native.Nat.{ℕ, zero, suc, _+_, _-_, _*_, _≤_, _<_, min, max}
+use Prim.Native.Nat.{ℕ, zero, suc, _+_, _-_, _*_, _≤_, min, max}
 use lib.IntN.{ℤ, pos, _+ℤ_, _-ℤ_, _*ℤ_}
 use lib.ListN.{length}
 use lib.Signed.{_≤ℤ_}
 use Rattle.trace.specs.declared.Criterion.{Criterion}
-use Rattle.trace.specs.Trace.{tick}
-use Rattle.heights.specs.Heights.{Fraction, linkAt, lineAt, traceAt, allOf, OnTrace, Near, peak}
+use Rattle.trace.specs.Trace.{tick, value}
+use Rattle.heights.specs.Heights.{Fraction, linkAt, peak}
 
 abbrev pub Line : Type 0
 Line = ℕ → ℕ → Fraction
@@ -68,6 +69,10 @@ sumAt f a (suc n) = added (f a 1) (sumAt f (suc a) n)
 abbrev pub meanAt : Line → ℕ → ℕ → Fraction
 meanAt f a n = multiplied (sumAt f a n) 1 n
 
+unfoldable pub valueSum : List ℤ → ℕ → ℕ → ℤ
+valueSum vs k zero = pos 0
+valueSum vs k (suc n) = value vs k +ℤ valueSum vs (suc k) n
+
 -- ---- areas
 
 unfoldable pub clipped : ℕ → ℕ → ℕ → ℕ
@@ -96,9 +101,9 @@ meanOver ts vs l a b d = multiplied (areaOf ts vs l a b d) d (b - a)
 
 -- ---- baseline heights
 
-abbrev pub heightOver : List ℤ → List ℕ → Fraction → Fraction
-heightOver vs l m = wholeLess (peak vs l) m
+abbrev pub baselineHeight : List ℤ → List ℕ → Fraction → Fraction
+baselineHeight vs l m = wholeLess (peak vs l) m
 
-pub record HeightNear (c : Criterion) (x y : Fraction) : Type 0 where
+pub record BaselineNear (c : Criterion) (x y : Fraction) : Type 0 where
   pub large : Excess c x y
   pub small : Excess (multiple c 2 1) y x
