@@ -124,5 +124,5 @@ module _ {ts : List ℕ} {vs : List ℤ} (c : Criterion) {l : List ℕ} (t : Tra
     trough-near = trough-near;
     height-high = heights-high (peak vs l) (peak vs (allOf ts)) (trough vs l) (trough vs (allOf ts)) peak-high trough-low;
     height-near = heights-near (peak vs l) (peak vs (allOf ts)) (trough vs l) (trough vs (allOf ts)) (c .p) (c .q) peak-near trough-near;
-    windows = window-budget c some t kept within peak-high peak-near;
+    windows = window-budget c some t kept within peak-high peak-near trough-low trough-near;
   }

@@ -9,7 +9,7 @@ use Rattle.kept.specs.Kept.{AllValid}
 use Rattle.trace.specs.declared.Criterion.{Criterion}
 use Rattle.trace.specs.Link.{deviation, within, allFrom, valid}
 use Rattle.heights.specs.Heights.{Fraction, linkAt, lineFrom, lineAt, samplesAfter, everySample, traceAt, Equals, joined, peak, trough, height}
-use Rattle.heights.specs.Windows.{added, multiplied, wholeLess, sumAt, meanAt, clipped, areaUnder, areaFrom, areaOf, meanOver, baselineHeight}
+use Rattle.heights.specs.Windows.{added, multiplied, sumAt, meanAt, clipped, areaUnder, areaFrom, areaOf, meanOver, baselineHeight}
 
 abbrev five : List ℕ
 five = 0 ∷ 1 ∷ 2 ∷ 3 ∷ 4 ∷ []
@@ -106,12 +106,12 @@ plateau-part = record { positive = omega arith; is = refl }
 
 plateau-baseline : Equals (baselineHeight plateau (0 ∷ 5 ∷ 6 ∷ []) (meanAt (lineAt seven plateau (0 ∷ 5 ∷ 6 ∷ [])) 1 4)) (pos 9)
     × Equals (baselineHeight plateau (everySample 6) (meanAt (traceAt seven plateau) 1 4)) (pos 7)
-unfolding samplesAfter lineFrom linkAt joined added multiplied sumAt wholeLess
+unfolding samplesAfter lineFrom linkAt joined added multiplied sumAt
 plateau-baseline = computed (omega arith) refl refl
 
 plateau-baseline-over : Equals (baselineHeight plateau (0 ∷ 5 ∷ 6 ∷ []) (meanOver seven plateau (0 ∷ 5 ∷ 6 ∷ []) 1 4 1)) (pos 9)
     × Equals (baselineHeight plateau (everySample 6) (meanOver seven plateau (everySample 6) 1 4 1)) (pos 7)
-unfolding samplesAfter linkAt joined added multiplied clipped areaUnder areaFrom wholeLess
+unfolding samplesAfter linkAt joined added multiplied clipped areaUnder areaFrom
 plateau-baseline-over = computed (omega arith) refl refl
 
 -- ---- values 0 -2 -2 -2 -2 0 2 0, list 0 7, at tolerance 2: the greatest value minus the mean of the window 1 .. 4 is 4 too small, twice the tolerance
@@ -128,10 +128,10 @@ dip-within = (refl, tt)
 
 dip-baseline : Equals (baselineHeight dip (0 ∷ 7 ∷ []) (meanAt (lineAt eight dip (0 ∷ 7 ∷ [])) 1 4)) (pos 0)
     × Equals (baselineHeight dip (everySample 7) (meanAt (traceAt eight dip) 1 4)) (pos 4)
-unfolding samplesAfter lineFrom linkAt joined added multiplied sumAt wholeLess
+unfolding samplesAfter lineFrom linkAt joined added multiplied sumAt
 dip-baseline = computed (omega arith) refl refl
 
 dip-baseline-over : Equals (baselineHeight dip (0 ∷ 7 ∷ []) (meanOver eight dip (0 ∷ 7 ∷ []) 1 4 1)) (pos 0)
     × Equals (baselineHeight dip (everySample 7) (meanOver eight dip (everySample 7) 1 4 1)) (pos 4)
-unfolding samplesAfter linkAt joined added multiplied clipped areaUnder areaFrom wholeLess
+unfolding samplesAfter linkAt joined added multiplied clipped areaUnder areaFrom
 dip-baseline-over = computed (omega arith) refl refl

@@ -8,9 +8,9 @@ use native.Mathlib.Omega.{arith}
 use lib.IntN.{ℤ, pos, _+ℤ_, _-ℤ_, _*ℤ_, +ℤ-comm}
 use lib.Signed.{_≤ℤ_}
 use Rattle.trace.specs.declared.Criterion.{Criterion}
-use Rattle.trace.proofs.Difference.{Diff, plus, times, less, parts, same, natural, alike, at-most, size-at-most, wider}
+use Rattle.trace.proofs.Difference.{Diff, negated, plus, times, less, parts, same, natural, alike, at-most, size-at-most, wider}
 use Rattle.heights.specs.Heights.{Fraction, Near, Equals}
-use Rattle.heights.specs.Windows.{added, multiplied, wholeLess, multiple, Excess}
+use Rattle.heights.specs.Windows.{whole, added, multiplied, opposite, multiple, Excess}
 
 -- ---- over levels
 
@@ -28,23 +28,12 @@ over-trans a b e m n f r s g o p some k l = le-of-mul-le-mul-right {k = f} (omeg
 over-multiplied : (a b e m n f p u v : ℕ) → Over a b e m n f p → Over (a * u * v) (b * u * v) (e * v) (m * u * v) (n * u * v) (f * v) (p * u)
 over-multiplied a b e m n f p u v k = omega (arith, mul-le-mul-right (u * (v * v)) k)
 
--- (a - b)/e and (m - n)/f taken from u - v
-over-flipped : (a b e m n f u v p : ℕ) → Over m n f a b e p → Over (u * e + b) (v * e + a) e (u * f + n) (v * f + m) f p
-over-flipped a b e m n f u v p k = omega arith
-
--- (m - n)/f taken from r - s and from u - v
-over-raised : (m n f r s u v p : ℕ) → r + v ≤ s + u + p → Over (r * f + n) (s * f + m) f (u * f + n) (v * f + m) f p
-over-raised m n f r s u v p k = omega (arith, mul-le-mul-right (f * f) k)
-
 -- numerators times q
 sum-by : (a g r e q : ℕ) → (a * g + r * e) * q ≡ a * q * g + r * q * e
 sum-by a g r e q = omega arith
 
 product-by : (a u q v : ℕ) → a * u * (q * v) ≡ a * q * u * v
 product-by a u q v = omega arith
-
-rest-by : (u e b q : ℕ) → (u * e + b) * q ≡ u * q * e + b * q
-rest-by u e b q = omega arith
 
 -- ---- at most p/q above
 
@@ -99,28 +88,20 @@ excess-left {c} {x} {y} z some h =
     (over-left _ _ _ _ _ _ _ _ _ (c .p) (excess-over (dx .2) (dy .2) h)))
 
 module _ {o p q : ℕ} where
-  excess-added : {x y z w : Fraction} → Excess (record { p = o; q = q }) x y → Excess (record { p = p; q = q }) z w → Excess (record { p = o + p; q = q }) (added x z) (added y w)
+  pub excess-added : {x y z w : Fraction} → Excess (record { p = o; q = q }) x y → Excess (record { p = p; q = q }) z w → Excess (record { p = o + p; q = q }) (added x z) (added y w)
   excess-added {y = y} {z} {w} h k = excess-trans (excess-left z (k .left) h) (rw (added-comm y z, added-comm y w) (excess-left y (h .right) k))
 
-pub excess-flipped : {c : Criterion} {x y : Fraction} (v : ℤ) → Excess c y x → Excess c (wholeLess v x) (wholeLess v y)
-unfolding wholeLess
-excess-flipped {c} {x} {y} v h =
-    let dx = parts (x .num) in
-    let dy = parts (y .num) in
-    let dv = parts v in
-    over-excess (less (times (dv .2) (x .den)) (dx .2)) (less (times (dv .2) (y .den)) (dy .2)) (h .right) (h .left)
-    (rw (rest-by (dv .0) (x .den) (dx .1) (c .q), rest-by (dv .1) (x .den) (dx .0) (c .q), rest-by (dv .0) (y .den) (dy .1) (c .q), rest-by (dv .1) (y .den) (dy .0) (c .q))
-    (over-flipped _ _ _ _ _ _ _ _ (c .p) (excess-over (dy .2) (dx .2) h)))
+pub excess-opposite : {c : Criterion} {x y : Fraction} → Excess c y x → Excess c (opposite x) (opposite y)
+excess-opposite {x = x} {y} h =
+    let dx = parts (x .num) .2 in
+    let dy = parts (y .num) .2 in
+    over-excess (negated dx) (negated dy) (h .right) (h .left) (omega (arith, excess-over dy dx h))
 
-pub excess-raised : {c : Criterion} (v w : ℤ) (x : Fraction) → 1 ≤ x .den → ((v -ℤ w) *ℤ pos (c .q)) ≤ℤ pos (c .p) → Excess c (wholeLess v x) (wholeLess w x)
-unfolding wholeLess
-excess-raised {c} v w x some h =
-    let dx = parts (x .num) in
-    let dv = parts v in
-    let dw = parts w in
-    over-excess (less (times (dv .2) (x .den)) (dx .2)) (less (times (dw .2) (x .den)) (dx .2)) some some
-    (rw (rest-by (dv .0) (x .den) (dx .1) (c .q), rest-by (dv .1) (x .den) (dx .0) (c .q), rest-by (dw .0) (x .den) (dx .1) (c .q), rest-by (dw .1) (x .den) (dx .0) (c .q))
-    (over-raised _ _ _ _ _ _ _ (c .p) (omega (arith, at-most (times (less (dv .2) (dw .2)) (c .q)) (c .p) .0 h))))
+pub excess-whole : {c : Criterion} (v w : ℤ) → ((v -ℤ w) *ℤ pos (c .q)) ≤ℤ pos (c .p) → Excess c (whole v) (whole w)
+excess-whole {c} v w h =
+    let dv = parts v .2 in
+    let dw = parts w .2 in
+    over-excess dv dw (omega arith) (omega arith) (omega (arith, at-most (times (less dv dw) (c .q)) (c .p) .0 h))
 
 -- ---- whole numbers
 
@@ -166,6 +147,9 @@ module _ {c : Criterion} {x y : Fraction} where
 
 pub near-sym : {c : Criterion} {x y : Fraction} → Near c x y → Near c y x
 near-sym h = excess-near (near-excess h .1) (near-excess h .0)
+
+pub near-opposite : {c : Criterion} {x y : Fraction} → Near c x y → Near c (opposite x) (opposite y)
+near-opposite h = excess-near (excess-opposite (near-excess h .1)) (excess-opposite (near-excess h .0))
 
 pub near-wider : {c d : Criterion} {x y : Fraction} → 1 ≤ c .q → c .p * d .q ≤ d .p * c .q → Near c x y → Near d x y
 near-wider some e h = excess-near (excess-wider some e (near-excess h .0)) (excess-wider some e (near-excess h .1))

@@ -12,7 +12,7 @@ use Rattle.lists.proofs.SelectLaws.{select-length, select-at}
 use Rattle.kept.specs.Kept.{KeptList}
 use Rattle.trace.specs.Trace.{tick, value}
 use Rattle.heights.specs.Heights.{Fraction, linkAt, lineFrom, lineAt, samplesAfter, allOf, traceAt, higher, lower, joined, ofSamples, peak, trough, height}
-use Rattle.heights.specs.Windows.{Line, sumAt, meanAt, areaUnder, areaFrom, areaOf, meanOver, baselineHeight}
+use Rattle.heights.specs.Windows.{Line, sumAt, meanAt, areaUnder, areaFrom, areaOf, meanOver, baselineHeight, baselineDepth}
 
 -- the samples from k on of the trace us, ws are the samples of ts, vs that the list names
 abbrev Copies : List ℕ → List ℤ → List ℕ → List ℤ → ℕ → List ℕ → Type 0
@@ -80,6 +80,9 @@ module _ (ts : List ℕ) (vs : List ℤ) {last : ℕ} where
 
     pub selected-baseline : (m : Fraction) → baselineHeight (select (pos 0) vs l) (allOf (select 0 ts l)) m ≡ baselineHeight vs l m
     selected-baseline m = rw selected-peak
+
+    pub selected-depth : (m : Fraction) → baselineDepth (select (pos 0) vs l) (allOf (select 0 ts l)) m ≡ baselineDepth vs l m
+    selected-depth m = rw selected-trough
 
     pub selected-mean-at : (a n : ℕ) → meanAt (traceAt (select 0 ts l) (select (pos 0) vs l)) a n ≡ meanAt (lineAt ts vs l) a n
     selected-mean-at a n = rw (sum-cong _ (lineAt ts vs l) (selected-line l k) n a)

@@ -1,9 +1,9 @@
--- What a kept list within p/q tells of its trace over any window: means, areas, and the greatest value minus a mean.
+-- What a kept list within p/q tells of its trace over any window: means, areas, and a greatest or least value beside a mean.
 -- Assumes nothing.
 use mathlib.Core.Path.{_≡_, refl}
 use mathlib.Core.List.{List}
 use Prim.Native.Nat.{ℕ, zero, suc, _+_, _-_, _*_, _≤_, _<_}
-use native.Mathlib.Nat.{mul-le-mul-right, mul-pos}
+use native.Mathlib.Nat.{zero-add, mul-one, mul-le-mul-right, mul-pos}
 use native.Mathlib.Omega.{arith}
 use lib.IntN.{ℤ, pos, _-ℤ_, _*ℤ_}
 use lib.ListN.{length}
@@ -13,11 +13,11 @@ use Rattle.trace.specs.declared.Criterion.{Criterion}
 use Rattle.trace.specs.Trace.{tick, Trace}
 use Rattle.trace.specs.Link.{valid}
 use Rattle.trace.proofs.Difference.{times, less, parts, at-most}
-use Rattle.heights.specs.Heights.{Fraction, lineAt, traceAt, allOf, OnTrace, Near, Equals, peak}
-use Rattle.heights.specs.Windows.{Line, wholeLess, Window, sumAt, meanAt, valueSum, meanOver, BaselineNear}
-use Rattle.heights.specs.Budget.{WindowBudget}
+use Rattle.heights.specs.Heights.{Fraction, lineAt, traceAt, allOf, OnTrace, Near, Equals, peak, trough}
+use Rattle.heights.specs.Windows.{Line, added, Excess, Window, sumAt, meanAt, valueSum, meanOver, BaselineNear}
+use Rattle.heights.specs.Budget.{BaselineBudget, WindowBudget}
 use Rattle.heights.proofs.Order.{order}
-use Rattle.heights.proofs.FractionLaws.{equals-added, excess-trans, excess-flipped, excess-raised, near-excess, near-refl, near-added, near-multiplied, near-wider}
+use Rattle.heights.proofs.FractionLaws.{equals-added, excess-added, excess-opposite, excess-whole, near-excess, near-opposite, near-refl, near-added, near-multiplied, near-wider}
 use Rattle.heights.proofs.Entries.{every-kept, every-entry}
 use Rattle.heights.proofs.NearLaws.{line-near}
 use Rattle.heights.proofs.AreaLaws.{area-near}
@@ -49,26 +49,22 @@ samples-sum {ts} {vs} t (suc n) k a inside h =
     equals-added (rw (at k 0 a (omega arith) (omega arith) (omega arith)) at here)
     (samples-sum t n (suc k) (suc a) (omega arith) (λ m u. at (suc k + m) (suc m) (suc a + m) (omega arith) (omega arith) (omega arith)))
 
--- ---- the greatest value minus a mean
+-- ---- a greatest or least value beside a mean
 
--- h and k are the greatest values, x and y the means
-module _ {c : Criterion} (h k : ℤ) {x y : Fraction} (near : Near c x y) (high : h ≤ℤ k) (low : ((k -ℤ h) *ℤ pos (c .q)) ≤ℤ pos (c .p)) where
-  at-most-none : ((h -ℤ k) *ℤ pos (c .q)) ≤ℤ pos 0
-  at-most-none =
-      let dh = parts h .2 in
-      let dk = parts k .2 in
-      at-most (times (less dh dk) (c .q)) 0 .1 (omega (arith, mul-le-mul-right (c .q) (order dh dk .0 high)))
+-- u, x of the list and v, y of the trace: u is never above v and at most p/q below it, and x is within p/q of y
+baseline-near : {c : Criterion} {u v x y : Fraction} → Excess (record { p = 0; q = c .q }) u v → Excess c v u → Near c x y → BaselineNear c (added u x) (added v y)
+baseline-near {c} never most near =
+    let double : c .p * 2 ≡ c .p + c .p = omega arith in
+    record {
+      large = rw (zero-add (c .p)) at (excess-added never (near-excess near .0));
+      small = rw (double, mul-one (c .q)) (excess-added most (near-excess near .1));
+    }
 
-  baseline-near : BaselineNear c (wholeLess h x) (wholeLess k y)
-  baseline-near =
-      let sides = near-excess near in
-      let none : c .p + 0 ≡ c .p = omega arith in
-      let double : c .p * 2 ≡ c .p + c .p = omega arith in
-      let one : c .q * 1 ≡ c .q = omega arith in
-      record {
-        large = rw none at (excess-trans (excess-flipped h (sides .1)) (excess-raised h k y (near .right) at-most-none));
-        small = rw (double, one) (excess-trans (excess-raised k h y (near .right) low) (excess-flipped h (sides .0)));
-      }
+at-most-none : (v w : ℤ) (q : ℕ) → v ≤ℤ w → ((v -ℤ w) *ℤ pos q) ≤ℤ pos 0
+at-most-none v w q h =
+    let dv = parts v .2 in
+    let dw = parts w .2 in
+    at-most (times (less dv dw) q) 0 .1 (omega (arith, mul-le-mul-right q (order dv dw .0 h)))
 
 -- ---- the budget
 
@@ -83,11 +79,20 @@ module _ {ts : List ℕ} {vs : List ℤ} (c : Criterion) {l : List ℕ} (some : 
   means-over a b d oa ob ab =
       near-wider (mul-pos (mul-pos some (oa .positive)) (omega arith)) (by-ticks (c .p) (c .q) (b - a) d) (near-multiplied d (b - a) (omega arith) (area-near c some t kept within a b d oa ob (omega arith)))
 
-  pub window-budget : peak vs l ≤ℤ peak vs (allOf ts) → ((peak vs (allOf ts) -ℤ peak vs l) *ℤ pos (c .q)) ≤ℤ pos (c .p) → WindowBudget ts vs c l
-  window-budget high low = record {
-    mean-at = means-at;
-    area = area-near c some t kept within;
-    mean-over = means-over;
-    baseline-at = λ a n w. baseline-near (peak vs l) (peak vs (allOf ts)) (means-at a n w) high low;
-    baseline-over = λ a b d oa ob ab. baseline-near (peak vs l) (peak vs (allOf ts)) (means-over a b d oa ob ab) high low;
-  }
+  module _ (peak-high : peak vs l ≤ℤ peak vs (allOf ts)) (peak-near : ((peak vs (allOf ts) -ℤ peak vs l) *ℤ pos (c .q)) ≤ℤ pos (c .p))
+      (trough-low : trough vs (allOf ts) ≤ℤ trough vs l) (trough-near : ((trough vs l -ℤ trough vs (allOf ts)) *ℤ pos (c .q)) ≤ℤ pos (c .p)) where
+    baseline : {x y : Fraction} → Near c x y → BaselineBudget ts vs c l x y
+    baseline h = record {
+      over-mean = baseline-near (excess-whole _ _ (at-most-none _ _ (c .q) peak-high)) (excess-whole _ _ peak-near) (near-opposite h);
+      under-mean = baseline-near (excess-opposite (excess-whole (trough vs (allOf ts)) (trough vs l) (at-most-none _ _ (c .q) trough-low)))
+          (excess-opposite (excess-whole (trough vs l) (trough vs (allOf ts)) trough-near)) h;
+    }
+
+    pub window-budget : WindowBudget ts vs c l
+    window-budget = record {
+      mean-at = means-at;
+      area = area-near c some t kept within;
+      mean-over = means-over;
+      baseline-at = λ a n w. baseline (means-at a n w);
+      baseline-over = λ a b d oa ob ab. baseline (means-over a b d oa ob ab);
+    }

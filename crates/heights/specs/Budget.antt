@@ -1,14 +1,20 @@
 -- The error budget: what a list that stands for its trace at p/q tells of it (specs/Heights, specs/Windows).
---   WindowBudget    means, areas, and the greatest value minus a mean, over any window of ticks
---   ErrorBudget     the lines, their greatest and least value, heights, and windows
+--   BaselineBudget    the greatest value minus a mean, and the mean minus the least
+--   WindowBudget      means, areas and baselines over any window of ticks
+--   ErrorBudget       the lines, their greatest and least value, heights, and windows
 -- Laws are in BudgetLaws and WindowLaws. Assumes nothing.
 use mathlib.Core.List.{List}
 use Prim.Native.Nat.{ℕ, _-_, _*_, _≤_, _<_}
 use lib.IntN.{ℤ, pos, _-ℤ_, _*ℤ_}
 use lib.Signed.{_≤ℤ_}
 use Rattle.trace.specs.declared.Criterion.{Criterion}
-use Rattle.heights.specs.Heights.{lineAt, traceAt, allOf, OnTrace, Near, peak, trough, height, Extremes}
-use Rattle.heights.specs.Windows.{multiple, Window, meanAt, areaOf, meanOver, baselineHeight, BaselineNear}
+use Rattle.heights.specs.Heights.{Fraction, lineAt, traceAt, allOf, OnTrace, Near, peak, trough, height, Extremes}
+use Rattle.heights.specs.Windows.{multiple, Window, meanAt, areaOf, meanOver, baselineHeight, baselineDepth, BaselineNear}
+
+-- x is a mean of the list's lines, y that of the trace's own
+pub record BaselineBudget (ts : List ℕ) (vs : List ℤ) (c : Criterion) (l : List ℕ) (x y : Fraction) : Type 0 where
+  pub over-mean : BaselineNear c (baselineHeight vs l x) (baselineHeight vs (allOf ts) y)
+  pub under-mean : BaselineNear c (baselineDepth vs l x) (baselineDepth vs (allOf ts) y)
 
 pub record WindowBudget (ts : List ℕ) (vs : List ℤ) (c : Criterion) (l : List ℕ) : Type 0 where
   -- the mean at whole ticks is within p/q
@@ -17,10 +23,9 @@ pub record WindowBudget (ts : List ℕ) (vs : List ℤ) (c : Criterion) (l : Lis
   pub area : (a b d : ℕ) → OnTrace ts a d → OnTrace ts b d → a ≤ b → Near (multiple c (b - a) d) (areaOf ts vs l a b d) (areaOf ts vs (allOf ts) a b d)
   -- so the mean over a stretch of ticks is within p/q
   pub mean-over : (a b d : ℕ) → OnTrace ts a d → OnTrace ts b d → a < b → Near c (meanOver ts vs l a b d) (meanOver ts vs (allOf ts) a b d)
-  -- the greatest value minus either mean is at most p/q too large and at most 2p/q too small
-  pub baseline-at : (a n : ℕ) → Window ts a n → BaselineNear c (baselineHeight vs l (meanAt (lineAt ts vs l) a n)) (baselineHeight vs (allOf ts) (meanAt (traceAt ts vs) a n))
-  pub baseline-over : (a b d : ℕ) → OnTrace ts a d → OnTrace ts b d → a < b
-      → BaselineNear c (baselineHeight vs l (meanOver ts vs l a b d)) (baselineHeight vs (allOf ts) (meanOver ts vs (allOf ts) a b d))
+  -- so the greatest value minus either mean, and either mean minus the least, are at most p/q too large and at most 2p/q too small
+  pub baseline-at : (a n : ℕ) → Window ts a n → BaselineBudget ts vs c l (meanAt (lineAt ts vs l) a n) (meanAt (traceAt ts vs) a n)
+  pub baseline-over : (a b d : ℕ) → OnTrace ts a d → OnTrace ts b d → a < b → BaselineBudget ts vs c l (meanOver ts vs l a b d) (meanOver ts vs (allOf ts) a b d)
 
 pub record ErrorBudget (ts : List ℕ) (vs : List ℤ) (c : Criterion) (l : List ℕ) : Type 0 where
   -- p/q is a fraction
@@ -38,5 +43,5 @@ pub record ErrorBudget (ts : List ℕ) (vs : List ℤ) (c : Criterion) (l : List
   -- so a height is never too large, and at most 2p/q too small
   pub height-high : height vs l ≤ℤ height vs (allOf ts)
   pub height-near : ((height vs (allOf ts) -ℤ height vs l) *ℤ pos (c .q)) ≤ℤ pos (2 * c .p)
-  -- means, areas and baseline heights
+  -- means, areas and baselines
   pub windows : WindowBudget ts vs c l

@@ -1,8 +1,8 @@
 -- Means, areas and baseline heights over a window of ticks, read off the lines of a list (specs/Heights).
 --   Line                  a height at each tick a/d
---   nothing               the fraction 0
+--   whole, nothing        a whole number as a fraction; 0
 --   added, multiplied     the sum of two fractions; m/n times a fraction
---   wholeLess             a whole number minus a fraction
+--   opposite              a fraction times -1
 --   multiple              m/n times the criterion p/q
 --   Window                the n whole ticks a, a+1, .. lie between the first and the last
 --   sumAt, meanAt         the sum and the mean of a line at the n whole ticks a, a+1, ..
@@ -13,25 +13,29 @@
 --   areaFrom, areaOf      the area under the lines of the list i ∷ s, or of any list, from the tick a/d to the tick b/d
 --   meanOver              the mean of a list's lines from the tick a/d to the tick b/d: their area over its ticks
 --   baselineHeight        the greatest value of a list's samples minus a mean
+--   baselineDepth         a mean minus the least value of a list's samples
 --   Excess                a fraction is at most p/q above another
---   BaselineNear          a baseline height that stands for another is at most p/q too large and at most 2p/q too small
+--   BaselineNear          a height or depth that stands for another is at most p/q too large and at most 2p/q too small
 -- Laws are in FractionLaws, AreaLaws and WindowLaws. Assumes nothing.
 use mathlib.Core.List.{List, [], _∷_}
 use Prim.Native.Nat.{ℕ, zero, suc, _+_, _-_, _*_, _≤_, min, max}
-use lib.IntN.{ℤ, pos, _+ℤ_, _-ℤ_, _*ℤ_}
+use lib.IntN.{ℤ, pos, negℤ, _+ℤ_, _-ℤ_, _*ℤ_}
 use lib.ListN.{length}
 use lib.Signed.{_≤ℤ_}
 use Rattle.trace.specs.declared.Criterion.{Criterion}
 use Rattle.trace.specs.Trace.{tick, value}
-use Rattle.heights.specs.Heights.{Fraction, linkAt, peak}
+use Rattle.heights.specs.Heights.{Fraction, linkAt, peak, trough}
 
 abbrev pub Line : Type 0
 Line = ℕ → ℕ → Fraction
 
 -- ---- fractions
 
+abbrev pub whole : ℤ → Fraction
+whole v = record { num = v; den = 1 }
+
 abbrev pub nothing : Fraction
-nothing = record { num = pos 0; den = 1 }
+nothing = whole (pos 0)
 
 -- x + y
 unfoldable pub added : Fraction → Fraction → Fraction
@@ -41,9 +45,8 @@ added x y = record { num = x .num *ℤ pos (y .den) +ℤ y .num *ℤ pos (x .den
 unfoldable pub multiplied : Fraction → ℕ → ℕ → Fraction
 multiplied x m n = record { num = x .num *ℤ pos m; den = x .den * n }
 
--- v - x
-unfoldable pub wholeLess : ℤ → Fraction → Fraction
-wholeLess v x = record { num = v *ℤ pos (x .den) -ℤ x .num; den = x .den }
+abbrev pub opposite : Fraction → Fraction
+opposite x = record { num = negℤ (x .num); den = x .den }
 
 -- m/n times p/q
 abbrev pub multiple : Criterion → ℕ → ℕ → Criterion
@@ -101,8 +104,13 @@ meanOver ts vs l a b d = multiplied (areaOf ts vs l a b d) d (b - a)
 
 -- ---- baseline heights
 
+-- peak - m
 abbrev pub baselineHeight : List ℤ → List ℕ → Fraction → Fraction
-baselineHeight vs l m = wholeLess (peak vs l) m
+baselineHeight vs l m = added (whole (peak vs l)) (opposite m)
+
+-- m - trough
+abbrev pub baselineDepth : List ℤ → List ℕ → Fraction → Fraction
+baselineDepth vs l m = added (opposite (whole (trough vs l))) m
 
 pub record BaselineNear (c : Criterion) (x y : Fraction) : Type 0 where
   pub large : Excess c x y
