@@ -20,8 +20,8 @@ use Rattle.trace.proofs.Validity.{true-valid}
 use Rattle.trace.proofs.Difference.{plus, times, parts, natural, alike}
 use Rattle.trace.proofs.Offsets.{offsetOf, offset-of-diff}
 use Rattle.heights.specs.Heights.{Fraction, linkAt, samplesAfter, allOf, OnTrace, Near}
-use Rattle.heights.specs.Windows.{nothing, added, multiplied, multiple, clipped, areaUnder, areaFrom, areaOf}
-use Rattle.heights.proofs.FractionLaws.{near-refl, near-added, near-multiplied, near-wider, near-left, near-sym, Same, near-same, same-sum, same-none, added-comm, added-assoc, added-swap}
+use Rattle.heights.specs.Windows.{nothing, summed, multiplied, multiple, clipped, areaUnder, areaFrom, areaOf}
+use Rattle.heights.proofs.FractionLaws.{near-refl, near-summed, near-multiplied, near-wider, near-left, near-sym, Same, near-same, same-sum, same-none, summed-comm, summed-assoc, summed-swap}
 use Rattle.heights.proofs.LineLaws.{link-num}
 use Rattle.heights.proofs.NearLaws.{straight-line, link-near}
 
@@ -63,19 +63,19 @@ trapezoids g h k e f y z w ew straight = rw ew (omega (arith, ap (λ (n : ℕ). 
 
 module _ (ts : List ℕ) (vs : List ℤ) (i j d : ℕ) (some : 1 ≤ d) (rises : tick ts i < tick ts j) where
   under-positive : (a b : ℕ) → 1 ≤ areaUnder ts vs i j a b d .den
-  unfolding areaUnder multiplied added linkAt
+  unfolding areaUnder multiplied summed linkAt
   under-positive a b = mul-pos (mul-pos (mul-pos some (omega arith)) (mul-pos some (omega arith))) (omega arith)
 
   under-none : (a : ℕ) → areaUnder ts vs i j a a d .num ≡ pos 0
   unfolding areaUnder multiplied
   under-none a =
       let none : a - a ≡ 0 = omega arith in
-      rw none (alike (times (parts (added (linkAt ts vs i j a d) (linkAt ts vs i j a d) .num) .2) 0) (natural 0) (omega arith))
+      rw none (alike (times (parts (summed (linkAt ts vs i j a d) (linkAt ts vs i j a d) .num) .2) 0) (natural 0) (omega arith))
 
   -- parted at a tick
   under-parts : (a m b : ℕ) → d * tick ts i ≤ a → a ≤ m → m ≤ b → b ≤ d * tick ts j
-      → Same (areaUnder ts vs i j a b d) (added (areaUnder ts vs i j a m d) (areaUnder ts vs i j m b d))
-  unfolding areaUnder multiplied added linkAt
+      → Same (areaUnder ts vs i j a b d) (summed (areaUnder ts vs i j a m d) (areaUnder ts vs i j m b d))
+  unfolding areaUnder multiplied summed linkAt
   under-parts a m b from am mb to =
       let e = d * (tick ts j - tick ts i) in
       let g = link-num ts vs i j a d from (omega arith) (offset-of-diff vs i) (offset-of-diff vs j) in
@@ -90,14 +90,14 @@ module _ (ts : List ℕ) (vs : List ℤ) (i j d : ℕ) (some : 1 ≤ d) (rises :
   -- a stretch of the link, clipped to two parts of it
   clipped-parts : (from m to a b : ℕ) → d * tick ts i ≤ from → from ≤ m → m ≤ to → to ≤ d * tick ts j → a ≤ b
       → Same (areaUnder ts vs i j (clipped from to a) (clipped from to b) d)
-      (added (areaUnder ts vs i j (clipped from m a) (clipped from m b) d) (areaUnder ts vs i j (clipped m to a) (clipped m to b) d))
+      (summed (areaUnder ts vs i j (clipped from m a) (clipped from m b) d) (areaUnder ts vs i j (clipped m to a) (clipped m to b) d))
   clipped-parts from m to a b start fm mt end ab =
       let la = clipped-before from m to a fm mt in
       let ra = clipped-after from m to a fm mt in
       let lb = clipped-before from m to b fm mt in
       let rb = clipped-after from m to b fm mt in
       elim (decLe b m) [
-        | yes h ↦ rw (la (omega arith) .0, la (omega arith) .1, lb h .0, lb h .1, added-comm (areaUnder ts vs i j (clipped from to a) (clipped from to b) d) (areaUnder ts vs i j m m d))
+        | yes h ↦ rw (la (omega arith) .0, la (omega arith) .1, lb h .0, lb h .1, summed-comm (areaUnder ts vs i j (clipped from to a) (clipped from to b) d) (areaUnder ts vs i j m m d))
             (same-none _ _ (under-positive m m) (under-positive (clipped from to a) (clipped from to b)) (under-none m))
         | no h ↦ elim (decLe a m) [
           | yes g ↦ let ia = clipped-inside from m a fm in
@@ -113,7 +113,7 @@ module _ (ts : List ℕ) (vs : List ℤ) (i j d : ℕ) (some : 1 ≤ d) (rises :
 
 module _ {ts : List ℕ} (rising : Rising ts) (vs : List ℤ) (a m b d : ℕ) (some : 1 ≤ d) (am : a ≤ m) (mb : m ≤ b) where
   from-parts : (s : List ℕ) (i : ℕ) → LinksFrom _<_ i s → final i s < length ts
-      → Same (areaFrom ts vs i s a b d) (added (areaFrom ts vs i s a m d) (areaFrom ts vs i s m b d))
+      → Same (areaFrom ts vs i s a b d) (summed (areaFrom ts vs i s a m d) (areaFrom ts vs i s m b d))
   unfolding areaFrom
   from-parts [] i r inside = same-none nothing nothing (omega arith) (omega arith) refl
   from-parts (j ∷ s) i r inside =
@@ -121,13 +121,13 @@ module _ {ts : List ℕ} (rising : Rising ts) (vs : List ℤ) (a m b d : ℕ) (s
       let from = d * tick ts i in
       let to = d * tick ts j in
       let upward : from ≤ to = mul-le-mul-left d (omega arith) in
-      rw added-swap (near-added
+      rw summed-swap (near-summed
       (under-parts ts vs i j d some rises (clipped from to a) (clipped from to m) (clipped from to b) (clipped-inside from to a upward .0) (clipped-order from to am) (clipped-order from to mb) (clipped-inside from to b upward .1))
       (from-parts s j (r .1) inside))
 
 -- the area of a stretch is the sum of those of its parts
 pub area-parts : {ts : List ℕ} {vs : List ℤ} {l : List ℕ} → Trace ts vs → KeptList (length ts - 1) l → (a m b d : ℕ) → 1 ≤ d → a ≤ m → m ≤ b
-    → Same (areaOf ts vs l a b d) (added (areaOf ts vs l a m d) (areaOf ts vs l m b d))
+    → Same (areaOf ts vs l a b d) (summed (areaOf ts vs l a m d) (areaOf ts vs l m b d))
 area-parts {l = []} t k a m b d some am mb = absurd (k .spans)
 area-parts {vs = vs} {l = i ∷ s} t k a m b d some am mb = from-parts (t .rising) vs a m b d some am mb s i (k .rises) (omega (arith, k .spans .1, t .some))
 
@@ -166,12 +166,12 @@ module _ {ts : List ℕ} (rising : Rising ts) (vs : List ℤ) (c : Criterion) (s
         let rises = in-order {k = k} {l = suc k} (omega arith) (omega arith) in
         let at : (n : ℕ) → Near c (linkAt ts vs i j (clipped (d * tick ts k) (d * tick ts (suc k)) n) d) (linkAt ts vs k (suc k) (clipped (d * tick ts k) (d * tick ts (suc k)) n) d)
         = λ n. link-near rising vs c inside v _ d k some ik kj (clipped-inside _ _ n rises .0) (clipped-inside _ _ n rises .1) in
-        near-wider (mul-pos someq (omega arith)) (halved (c .p) _ (c .q) d) (near-multiplied (ticksBetween ts a b d k (suc k)) (2 * d) (omega arith) (near-added (at a) (at b)))
+        near-wider (mul-pos someq (omega arith)) (halved (c .p) _ (c .q) d) (near-multiplied (ticksBetween ts a b d k (suc k)) (2 * d) (omega arith) (near-summed (at a) (at b)))
 
     -- the link from sample k on, and what follows it, beside the steps from k on
     steps-near : (n r : ℕ) (rest : Fraction) → Near (record { p = r; q = c .q * d }) rest (areaFrom ts vs j (samplesAfter j n) a b d)
         → (m k : ℕ) → k + m ≡ j → i ≤ k
-        → Near (record { p = c .p * ticksBetween ts a b d k j + r; q = c .q * d }) (added (areaBetween ts vs a b d i j k j) rest) (areaFrom ts vs k (samplesAfter k (m + n)) a b d)
+        → Near (record { p = c .p * ticksBetween ts a b d k j + r; q = c .q * d }) (summed (areaBetween ts vs a b d i j k j) rest) (areaFrom ts vs k (samplesAfter k (m + n)) a b d)
     unfolding areaFrom samplesAfter
     steps-near n r rest h zero k e ik =
         let ek : k ≡ j = omega arith in
@@ -186,7 +186,7 @@ module _ {ts : List ℕ} (rising : Rising ts) (vs : List ℤ) (c : Criterion) (s
         = rw (ticks-parts k (suc k) j (omega arith) (omega arith) inside) (product-parts (c .p) _ _ r) in
         rw (es, ep)
         (near-same (near-left rest (h .left) (clipped-parts ts vs i j d some (later rising j forward inside) _ (d * tick ts (suc k)) _ a b (in-order ik (omega arith)) (in-order (omega arith) (omega arith)) (in-order (omega arith) inside) (omega arith) ab))
-        (rw added-assoc (near-added (step-near k ik (omega arith)) (steps-near n r rest h m (suc k) (omega arith) (omega arith)))))
+        (rw summed-assoc (near-summed (step-near k ik (omega arith)) (steps-near n r rest h m (suc k) (omega arith) (omega arith)))))
 
   -- ---- a list beside the steps of the trace
 

@@ -9,7 +9,7 @@ use Rattle.kept.specs.Kept.{AllValid}
 use Rattle.trace.specs.declared.Criterion.{Criterion}
 use Rattle.trace.specs.Link.{deviation, within, allFrom, valid}
 use Rattle.heights.specs.Heights.{Fraction, linkAt, lineFrom, lineAt, samplesAfter, everySample, traceAt, Equals, joined, peak, trough, height}
-use Rattle.heights.specs.Windows.{added, multiplied, sumAt, meanAt, clipped, areaUnder, areaFrom, areaOf, meanOver, baselineHeight}
+use Rattle.heights.specs.Windows.{summed, multiplied, sumAt, meanAt, clipped, areaUnder, areaFrom, areaOf, meanOver, baselineHeight}
 
 abbrev five : List ℕ
 five = 0 ∷ 1 ∷ 2 ∷ 3 ∷ 4 ∷ []
@@ -88,30 +88,30 @@ unfolding valid allFrom within deviation
 plateau-within = (refl, (refl, tt))
 
 plateau-mean : Equals (meanAt (lineAt seven plateau (0 ∷ 5 ∷ 6 ∷ [])) 1 4) (pos 0) × Equals (meanAt (traceAt seven plateau) 1 4) (pos 2)
-unfolding samplesAfter lineFrom linkAt added multiplied sumAt
+unfolding samplesAfter lineFrom linkAt summed multiplied sumAt
 plateau-mean = computed (omega arith) refl refl
 
 plateau-area : Equals (areaOf seven plateau (0 ∷ 5 ∷ 6 ∷ []) 1 4 1) (pos 0) × Equals (areaOf seven plateau (everySample 6) 1 4 1) (pos 6)
-unfolding samplesAfter linkAt added multiplied clipped areaUnder areaFrom
+unfolding samplesAfter linkAt summed multiplied clipped areaUnder areaFrom
 plateau-area = computed (omega arith) refl refl
 
 plateau-mean-over : Equals (meanOver seven plateau (0 ∷ 5 ∷ 6 ∷ []) 1 4 1) (pos 0) × Equals (meanOver seven plateau (everySample 6) 1 4 1) (pos 2)
-unfolding samplesAfter linkAt added multiplied clipped areaUnder areaFrom
+unfolding samplesAfter linkAt summed multiplied clipped areaUnder areaFrom
 plateau-mean-over = computed (omega arith) refl refl
 
 -- between fractional ends, from tick 1/2 to tick 9/2, the area under the trace's own lines is 15/2
 plateau-part : Equals (multiplied (areaOf seven plateau (everySample 6) 1 9 2) 2 1) (pos 15)
-unfolding samplesAfter linkAt added multiplied clipped areaUnder areaFrom
+unfolding samplesAfter linkAt summed multiplied clipped areaUnder areaFrom
 plateau-part = record { positive = omega arith; is = refl }
 
 plateau-baseline : Equals (baselineHeight plateau (0 ∷ 5 ∷ 6 ∷ []) (meanAt (lineAt seven plateau (0 ∷ 5 ∷ 6 ∷ [])) 1 4)) (pos 9)
     × Equals (baselineHeight plateau (everySample 6) (meanAt (traceAt seven plateau) 1 4)) (pos 7)
-unfolding samplesAfter lineFrom linkAt joined added multiplied sumAt
+unfolding samplesAfter lineFrom linkAt joined summed multiplied sumAt
 plateau-baseline = computed (omega arith) refl refl
 
 plateau-baseline-over : Equals (baselineHeight plateau (0 ∷ 5 ∷ 6 ∷ []) (meanOver seven plateau (0 ∷ 5 ∷ 6 ∷ []) 1 4 1)) (pos 9)
     × Equals (baselineHeight plateau (everySample 6) (meanOver seven plateau (everySample 6) 1 4 1)) (pos 7)
-unfolding samplesAfter linkAt joined added multiplied clipped areaUnder areaFrom
+unfolding samplesAfter linkAt joined summed multiplied clipped areaUnder areaFrom
 plateau-baseline-over = computed (omega arith) refl refl
 
 -- ---- values 0 -2 -2 -2 -2 0 2 0, list 0 7, at tolerance 2: the greatest value minus the mean of the window 1 .. 4 is 4 too small, twice the tolerance
@@ -128,10 +128,10 @@ dip-within = (refl, tt)
 
 dip-baseline : Equals (baselineHeight dip (0 ∷ 7 ∷ []) (meanAt (lineAt eight dip (0 ∷ 7 ∷ [])) 1 4)) (pos 0)
     × Equals (baselineHeight dip (everySample 7) (meanAt (traceAt eight dip) 1 4)) (pos 4)
-unfolding samplesAfter lineFrom linkAt joined added multiplied sumAt
+unfolding samplesAfter lineFrom linkAt joined summed multiplied sumAt
 dip-baseline = computed (omega arith) refl refl
 
 dip-baseline-over : Equals (baselineHeight dip (0 ∷ 7 ∷ []) (meanOver eight dip (0 ∷ 7 ∷ []) 1 4 1)) (pos 0)
     × Equals (baselineHeight dip (everySample 7) (meanOver eight dip (everySample 7) 1 4 1)) (pos 4)
-unfolding samplesAfter linkAt joined added multiplied clipped areaUnder areaFrom
+unfolding samplesAfter linkAt joined summed multiplied clipped areaUnder areaFrom
 dip-baseline-over = computed (omega arith) refl refl

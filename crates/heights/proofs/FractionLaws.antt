@@ -1,16 +1,16 @@
 -- Fractions that differ by at most p/q: their sums, their multiples, and what lies between. Each law is shown of one side, over differences
 -- of naturals (trace: proofs/Difference), and holds of both.
 -- Assumes nothing.
-use mathlib.Core.Path.{_≡_}
+use mathlib.Core.Path.{_≡_, refl}
 use Prim.Native.Nat.{ℕ, _+_, _*_, _≤_, _<_}
-use native.Mathlib.Nat.{zero-add, add-comm, mul-comm, mul-assoc, mul-le-mul-right, le-of-mul-le-mul-right, mul-pos}
+use native.Mathlib.Nat.{zero-add, add-zero, mul-comm, mul-assoc, mul-le-mul-right, le-of-mul-le-mul-right, mul-pos}
 use native.Mathlib.Omega.{arith}
 use lib.IntN.{ℤ, pos, _+ℤ_, _-ℤ_, _*ℤ_, +ℤ-comm}
 use lib.Signed.{_≤ℤ_}
 use Rattle.trace.specs.declared.Criterion.{Criterion}
 use Rattle.trace.proofs.Difference.{Diff, negated, plus, times, less, parts, same, natural, alike, at-most, size-at-most, wider}
 use Rattle.heights.specs.Heights.{Fraction, Near, Equals}
-use Rattle.heights.specs.Windows.{whole, added, multiplied, opposite, multiple, Excess}
+use Rattle.heights.specs.Windows.{whole, summed, multiplied, opposite, multiple, Excess}
 
 -- ---- over levels
 
@@ -34,6 +34,35 @@ sum-by a g r e q = omega arith
 
 product-by : (a u q v : ℕ) → a * u * (q * v) ≡ a * q * u * v
 product-by a u q v = omega arith
+
+-- ---- sums
+
+pub summed-comm : (x y : Fraction) → summed x y ≡ summed y x
+unfolding summed
+summed-comm x y = rw (+ℤ-comm (x .num *ℤ pos (y .den)) (y .num *ℤ pos (x .den)), mul-comm (x .den) (y .den))
+
+pub summed-assoc : (x y z : Fraction) → summed (summed x y) z ≡ summed x (summed y z)
+unfolding summed
+summed-assoc x y z =
+    let dx = parts (x .num) .2 in
+    let dy = parts (y .num) .2 in
+    let dz = parts (z .num) .2 in
+    let num = alike (plus (times (plus (times dx (y .den)) (times dy (x .den))) (z .den)) (times dz (x .den * y .den)))
+    (plus (times dx (y .den * z .den)) (times (plus (times dy (z .den)) (times dz (y .den))) (x .den))) (omega arith) in
+    rw (num, mul-assoc (x .den) (y .den) (z .den))
+
+pub summed-swap : (w x y z : Fraction) → summed (summed w x) (summed y z) ≡ summed (summed w y) (summed x z)
+summed-swap w x y z = rw (summed-assoc w x (summed y z), ← (summed-assoc x y z), summed-comm x y, summed-assoc y x z, ← (summed-assoc w y (summed x z)))
+
+pub equals-summed : {x y : Fraction} {v w : ℤ} → Equals x v → Equals y w → Equals (summed x y) (v +ℤ w)
+unfolding summed
+equals-summed {x} {y} {v} {w} h k =
+    let dv = parts v .2 in
+    let dw = parts w .2 in
+    record {
+      positive = mul-pos (h .positive) (k .positive);
+      is = rw (h .is, k .is) (alike (plus (times (times dv (x .den)) (y .den)) (times (times dw (y .den)) (x .den))) (times (plus dv dw) (x .den * y .den)) (omega arith));
+    }
 
 -- ---- at most p/q above
 
@@ -65,20 +94,8 @@ excess-multiplied {c} {x} {y} m n some h =
     (rw (product-by (parts (x .num) .0) m (c .q) n, product-by (parts (x .num) .1) m (c .q) n, product-by (parts (y .num) .0) m (c .q) n, product-by (parts (y .num) .1) m (c .q) n)
     (over-multiplied _ _ _ _ _ _ (c .p) m n (excess-over dx dy h)))
 
-module _ {o p q : ℕ} where
-  pub excess-trans : {x y z : Fraction} → Excess (record { p = o; q = q }) x y → Excess (record { p = p; q = q }) y z → Excess (record { p = o + p; q = q }) x z
-  excess-trans {x} {y} {z} h k =
-      let dx = parts (x .num) .2 in
-      let dy = parts (y .num) .2 in
-      let dz = parts (z .num) .2 in
-      over-excess dx dz (h .left) (k .right) (over-trans _ _ _ _ _ _ _ _ _ o p (h .right) (excess-over dx dy h) (excess-over dy dz k))
-
-pub added-comm : (x y : Fraction) → added x y ≡ added y x
-unfolding added
-added-comm x y = rw (+ℤ-comm (x .num *ℤ pos (y .den)) (y .num *ℤ pos (x .den)), mul-comm (x .den) (y .den))
-
-excess-left : {c : Criterion} {x y : Fraction} (z : Fraction) → 1 ≤ z .den → Excess c x y → Excess c (added x z) (added y z)
-unfolding added
+excess-left : {c : Criterion} {x y : Fraction} (z : Fraction) → 1 ≤ z .den → Excess c x y → Excess c (summed x z) (summed y z)
+unfolding summed
 excess-left {c} {x} {y} z some h =
     let dx = parts (x .num) in
     let dy = parts (y .num) in
@@ -88,8 +105,15 @@ excess-left {c} {x} {y} z some h =
     (over-left _ _ _ _ _ _ _ _ _ (c .p) (excess-over (dx .2) (dy .2) h)))
 
 module _ {o p q : ℕ} where
-  pub excess-added : {x y z w : Fraction} → Excess (record { p = o; q = q }) x y → Excess (record { p = p; q = q }) z w → Excess (record { p = o + p; q = q }) (added x z) (added y w)
-  excess-added {y = y} {z} {w} h k = excess-trans (excess-left z (k .left) h) (rw (added-comm y z, added-comm y w) (excess-left y (h .right) k))
+  pub excess-trans : {x y z : Fraction} → Excess (record { p = o; q = q }) x y → Excess (record { p = p; q = q }) y z → Excess (record { p = o + p; q = q }) x z
+  excess-trans {x} {y} {z} h k =
+      let dx = parts (x .num) .2 in
+      let dy = parts (y .num) .2 in
+      let dz = parts (z .num) .2 in
+      over-excess dx dz (h .left) (k .right) (over-trans _ _ _ _ _ _ _ _ _ o p (h .right) (excess-over dx dy h) (excess-over dy dz k))
+
+  pub excess-summed : {x y z w : Fraction} → Excess (record { p = o; q = q }) x y → Excess (record { p = p; q = q }) z w → Excess (record { p = o + p; q = q }) (summed x z) (summed y w)
+  excess-summed {y = y} {z} {w} h k = excess-trans (excess-left z (k .left) h) (rw (summed-comm y z, summed-comm y w) (excess-left y (h .right) k))
 
 pub excess-opposite : {c : Criterion} {x y : Fraction} → Excess c y x → Excess c (opposite x) (opposite y)
 excess-opposite {x = x} {y} h =
@@ -103,28 +127,15 @@ excess-whole {c} v w h =
     let dw = parts w .2 in
     over-excess dv dw (omega arith) (omega arith) (omega (arith, at-most (times (less dv dw) (c .q)) (c .p) .0 h))
 
--- ---- whole numbers
-
-pub equals-added : {x y : Fraction} {v w : ℤ} → Equals x v → Equals y w → Equals (added x y) (v +ℤ w)
-unfolding added
-equals-added {x} {y} {v} {w} h k =
-    let dv = parts v .2 in
-    let dw = parts w .2 in
-    record {
-      positive = mul-pos (h .positive) (k .positive);
-      is = rw (h .is, k .is) (alike (plus (times (times dv (x .den)) (y .den)) (times (times dw (y .den)) (x .den))) (times (plus dv dw) (x .den * y .den)) (omega arith));
-    }
-
 -- ---- near: at most p/q above, either way round
 
+near-equal : {c : Criterion} {x y : Fraction} → 1 ≤ x .den → 1 ≤ y .den → x .num *ℤ pos (y .den) ≡ y .num *ℤ pos (x .den) → Near c x y
+near-equal {c} {x} {y} ex ey e =
+    let d = parts (y .num *ℤ pos (x .den)) .2 in
+    record { left = ex; right = ey; apart = rw e (size-at-most (same (less d d) 0 0 (omega arith)) (c .q) _ .1 (omega arith)) }
+
 pub near-refl : (c : Criterion) (x : Fraction) → 1 ≤ x .den → Near c x x
-near-refl c x e =
-    let d = parts (x .num) .2 in
-    record {
-      left = e;
-      right = e;
-      apart = size-at-most (same (less (times d (x .den)) (times d (x .den))) 0 0 (omega arith)) (c .q) (c .p * (x .den * x .den)) .1 (omega arith);
-    }
+near-refl c x e = near-equal e e refl
 
 module _ {c : Criterion} {x y : Fraction} where
   pub near-excess : Near c x y → Excess c x y × Excess c y x
@@ -158,13 +169,10 @@ pub near-multiplied : {c : Criterion} {x y : Fraction} (m n : ℕ) → 1 ≤ n �
 near-multiplied m n some h = excess-near (excess-multiplied m n some (near-excess h .0)) (excess-multiplied m n some (near-excess h .1))
 
 module _ {o p q : ℕ} where
-  pub near-added : {x y z w : Fraction} → Near (record { p = o; q = q }) x y → Near (record { p = p; q = q }) z w → Near (record { p = o + p; q = q }) (added x z) (added y w)
-  near-added h k = excess-near (excess-added (near-excess h .0) (near-excess k .0)) (excess-added (near-excess h .1) (near-excess k .1))
+  pub near-summed : {x y z w : Fraction} → Near (record { p = o; q = q }) x y → Near (record { p = p; q = q }) z w → Near (record { p = o + p; q = q }) (summed x z) (summed y w)
+  near-summed h k = excess-near (excess-summed (near-excess h .0) (near-excess k .0)) (excess-summed (near-excess h .1) (near-excess k .1))
 
-  pub near-trans : {x y z : Fraction} → Near (record { p = o; q = q }) x y → Near (record { p = p; q = q }) y z → Near (record { p = o + p; q = q }) x z
-  near-trans h k = excess-near (excess-trans (near-excess h .0) (near-excess k .0)) (rw (add-comm o p) (excess-trans (near-excess k .1) (near-excess h .1)))
-
-pub near-left : {c : Criterion} {x y : Fraction} (z : Fraction) → 1 ≤ z .den → Near c x y → Near c (added x z) (added y z)
+pub near-left : {c : Criterion} {x y : Fraction} (z : Fraction) → 1 ≤ z .den → Near c x y → Near c (summed x z) (summed y z)
 near-left z some h = excess-near (excess-left z some (near-excess h .0)) (excess-left z some (near-excess h .1))
 
 -- ---- the same fraction: near at 0
@@ -173,40 +181,20 @@ abbrev pub Same : Fraction → Fraction → Type 0
 Same = Near (record { p = 0; q = 1 })
 
 pub near-same : {c : Criterion} {x y z : Fraction} → Same x y → Near c y z → Near c x z
-near-same {c} h k = rw (zero-add (c .p)) at (near-trans {o = 0} {q = c .q} (near-wider (omega arith) (omega arith) h) k)
+near-same {c} h k =
+    let zero : Near (record { p = 0; q = c .q }) _ _ = near-wider (omega arith) (omega arith) h in
+    excess-near (rw (zero-add (c .p)) at (excess-trans (near-excess zero .0) (near-excess k .0))) (rw (add-zero (c .p)) at (excess-trans (near-excess k .1) (near-excess zero .1)))
 
-pub same-sum : (m n : ℤ) (e : ℕ) → 1 ≤ e → Same (record { num = m +ℤ n; den = e }) (added (record { num = m; den = e }) (record { num = n; den = e }))
-unfolding added
+pub same-sum : (m n : ℤ) (e : ℕ) → 1 ≤ e → Same (record { num = m +ℤ n; den = e }) (summed (record { num = m; den = e }) (record { num = n; den = e }))
+unfolding summed
 same-sum m n e some =
     let dm = parts m .2 in
     let dn = parts n .2 in
-    record {
-      left = some;
-      right = mul-pos some some;
-      apart = size-at-most (same (less (times (plus dm dn) (e * e)) (times (plus (times dm e) (times dn e)) e)) 0 0 (omega arith)) 1 _ .1 (omega arith);
-    }
+    near-equal some (mul-pos some some) (alike (times (plus dm dn) (e * e)) (times (plus (times dm e) (times dn e)) e) (omega arith))
 
 -- nothing added
-pub same-none : (x y : Fraction) → 1 ≤ x .den → 1 ≤ y .den → x .num ≡ pos 0 → Same y (added x y)
-unfolding added
+pub same-none : (x y : Fraction) → 1 ≤ x .den → 1 ≤ y .den → x .num ≡ pos 0 → Same y (summed x y)
+unfolding summed
 same-none x y ex ey none =
     let dy = parts (y .num) .2 in
-    rw none
-    (record {
-      left = ey;
-      right = mul-pos ex ey;
-      apart = size-at-most (same (less (times dy (x .den * y .den)) (times (plus (times (natural 0) (y .den)) (times dy (x .den))) (y .den))) 0 0 (omega arith)) 1 _ .1 (omega arith);
-    })
-
-pub added-assoc : (x y z : Fraction) → added (added x y) z ≡ added x (added y z)
-unfolding added
-added-assoc x y z =
-    let dx = parts (x .num) .2 in
-    let dy = parts (y .num) .2 in
-    let dz = parts (z .num) .2 in
-    let num = alike (plus (times (plus (times dx (y .den)) (times dy (x .den))) (z .den)) (times dz (x .den * y .den)))
-    (plus (times dx (y .den * z .den)) (times (plus (times dy (z .den)) (times dz (y .den))) (x .den))) (omega arith) in
-    rw (num, mul-assoc (x .den) (y .den) (z .den))
-
-pub added-swap : (w x y z : Fraction) → added (added w x) (added y z) ≡ added (added w y) (added x z)
-added-swap w x y z = rw (added-assoc w x (added y z), ← (added-assoc x y z), added-comm x y, added-assoc y x z, ← (added-assoc w y (added x z)))
+    near-equal ey (mul-pos ex ey) (rw none (alike (times dy (x .den * y .den)) (times (plus (times (natural 0) (y .den)) (times dy (x .den))) (y .den)) (omega arith)))

@@ -5,8 +5,8 @@ pub mod LineLaws
 pub mod FractionLaws
 pub mod NearLaws
 pub mod AreaLaws
-pub mod ExtremeLaws
 pub mod WindowLaws
+pub mod ExtremeLaws
 pub mod BudgetLaws
 pub mod SelectedLaws
 pub mod Examples

@@ -14,10 +14,10 @@ use Rattle.trace.specs.Trace.{tick, Trace}
 use Rattle.trace.specs.Link.{valid}
 use Rattle.trace.proofs.Difference.{times, less, parts, at-most}
 use Rattle.heights.specs.Heights.{Fraction, lineAt, traceAt, allOf, OnTrace, Near, Equals, peak, trough}
-use Rattle.heights.specs.Windows.{Line, added, Excess, Window, sumAt, meanAt, valueSum, meanOver, BaselineNear}
+use Rattle.heights.specs.Windows.{Line, summed, Excess, Window, sumAt, meanAt, valueSum, meanOver, BaselineNear}
 use Rattle.heights.specs.Budget.{BaselineBudget, WindowBudget}
 use Rattle.heights.proofs.Order.{order}
-use Rattle.heights.proofs.FractionLaws.{equals-added, excess-added, excess-opposite, excess-whole, near-excess, near-opposite, near-refl, near-added, near-multiplied, near-wider}
+use Rattle.heights.proofs.FractionLaws.{equals-summed, excess-summed, excess-opposite, excess-whole, near-excess, near-opposite, near-refl, near-summed, near-multiplied, near-wider}
 use Rattle.heights.proofs.Entries.{every-kept, every-entry}
 use Rattle.heights.proofs.NearLaws.{line-near}
 use Rattle.heights.proofs.AreaLaws.{area-near}
@@ -31,7 +31,7 @@ module _ (c : Criterion) (f g : Line) where
   sum-near zero a h = near-refl _ _ (omega arith)
   sum-near (suc n) a h =
       let e : c .p * suc n ≡ c .p + c .p * n = omega arith in
-      rw e (near-added (h a (omega arith) (omega arith)) (sum-near n (suc a) (λ k u v. h k (omega arith) (omega arith))))
+      rw e (near-summed (h a (omega arith) (omega arith)) (sum-near n (suc a) (λ k u v. h k (omega arith) (omega arith))))
 
   mean-near : (a n : ℕ) → 1 ≤ c .q → 1 ≤ n → ((k : ℕ) → a ≤ k → k < a + n → Near c (f k 1) (g k 1)) → Near c (meanAt f a n) (meanAt g a n)
   mean-near a n some one h = near-wider (mul-pos some one) (omega arith) (near-multiplied 1 n one (sum-near n a h))
@@ -46,18 +46,18 @@ samples-sum t zero k a inside h = record { positive = omega arith; is = refl }
 samples-sum {ts} {vs} t (suc n) k a inside h =
     let at : (i m b : ℕ) → i ≡ k + m → b ≡ a + m → m < suc n → tick ts i ≡ b = λ i m b ei eb u. rw (ei, eb) (h m u) in
     let here = line-through t (allOf ts) (every-kept (length ts - 1)) k (every-entry (length ts - 1) k (omega arith)) in
-    equals-added (rw (at k 0 a (omega arith) (omega arith) (omega arith)) at here)
+    equals-summed (rw (at k 0 a (omega arith) (omega arith) (omega arith)) at here)
     (samples-sum t n (suc k) (suc a) (omega arith) (λ m u. at (suc k + m) (suc m) (suc a + m) (omega arith) (omega arith) (omega arith)))
 
 -- ---- a greatest or least value beside a mean
 
 -- u, x of the list and v, y of the trace: u is never above v and at most p/q below it, and x is within p/q of y
-baseline-near : {c : Criterion} {u v x y : Fraction} → Excess (record { p = 0; q = c .q }) u v → Excess c v u → Near c x y → BaselineNear c (added u x) (added v y)
+baseline-near : {c : Criterion} {u v x y : Fraction} → Excess (record { p = 0; q = c .q }) u v → Excess c v u → Near c x y → BaselineNear c (summed u x) (summed v y)
 baseline-near {c} never most near =
     let double : c .p * 2 ≡ c .p + c .p = omega arith in
     record {
-      large = rw (zero-add (c .p)) at (excess-added never (near-excess near .0));
-      small = rw (double, mul-one (c .q)) (excess-added most (near-excess near .1));
+      large = rw (zero-add (c .p)) at (excess-summed never (near-excess near .0));
+      small = rw (double, mul-one (c .q)) (excess-summed most (near-excess near .1));
     }
 
 at-most-none : (v w : ℤ) (q : ℕ) → v ≤ℤ w → ((v -ℤ w) *ℤ pos q) ≤ℤ pos 0

@@ -1,7 +1,7 @@
 -- Means, areas and baseline heights over a window of ticks, read off the lines of a list (specs/Heights).
 --   Line                  a height at each tick a/d
 --   whole, nothing        a whole number as a fraction; 0
---   added, multiplied     the sum of two fractions; m/n times a fraction
+--   summed, multiplied    the sum of two fractions; m/n times a fraction
 --   opposite              a fraction times -1
 --   multiple              m/n times the criterion p/q
 --   Window                the n whole ticks a, a+1, .. lie between the first and the last
@@ -38,8 +38,8 @@ abbrev pub nothing : Fraction
 nothing = whole (pos 0)
 
 -- x + y
-unfoldable pub added : Fraction → Fraction → Fraction
-added x y = record { num = x .num *ℤ pos (y .den) +ℤ y .num *ℤ pos (x .den); den = x .den * y .den }
+unfoldable pub summed : Fraction → Fraction → Fraction
+summed x y = record { num = x .num *ℤ pos (y .den) +ℤ y .num *ℤ pos (x .den); den = x .den * y .den }
 
 -- x m/n
 unfoldable pub multiplied : Fraction → ℕ → ℕ → Fraction
@@ -67,7 +67,7 @@ pub record Window (ts : List ℕ) (a n : ℕ) : Type 0 where
 
 unfoldable pub sumAt : Line → ℕ → ℕ → Fraction
 sumAt f a zero = nothing
-sumAt f a (suc n) = added (f a 1) (sumAt f (suc a) n)
+sumAt f a (suc n) = summed (f a 1) (sumAt f (suc a) n)
 
 abbrev pub meanAt : Line → ℕ → ℕ → Fraction
 meanAt f a n = multiplied (sumAt f a n) 1 n
@@ -83,7 +83,7 @@ clipped from to a = max from (min a to)
 
 -- (x + y)/2 times w/d
 abbrev pub trapezoid : Fraction → Fraction → ℕ → ℕ → Fraction
-trapezoid x y w d = multiplied (added x y) w (2 * d)
+trapezoid x y w d = multiplied (summed x y) w (2 * d)
 
 unfoldable pub areaUnder : List ℕ → List ℤ → ℕ → ℕ → ℕ → ℕ → ℕ → Fraction
 areaUnder ts vs i j a b d = trapezoid (linkAt ts vs i j a d) (linkAt ts vs i j b d) (b - a) d
@@ -91,7 +91,7 @@ areaUnder ts vs i j a b d = trapezoid (linkAt ts vs i j a d) (linkAt ts vs i j b
 -- of each link the part inside the stretch
 unfoldable pub areaFrom : List ℕ → List ℤ → ℕ → List ℕ → ℕ → ℕ → ℕ → Fraction
 areaFrom ts vs i [] a b d = nothing
-areaFrom ts vs i (j ∷ s) a b d = added
+areaFrom ts vs i (j ∷ s) a b d = summed
     (areaUnder ts vs i j (clipped (d * tick ts i) (d * tick ts j) a) (clipped (d * tick ts i) (d * tick ts j) b) d)
     (areaFrom ts vs j s a b d)
 
@@ -106,11 +106,11 @@ meanOver ts vs l a b d = multiplied (areaOf ts vs l a b d) d (b - a)
 
 -- peak - m
 abbrev pub baselineHeight : List ℤ → List ℕ → Fraction → Fraction
-baselineHeight vs l m = added (whole (peak vs l)) (opposite m)
+baselineHeight vs l m = summed (whole (peak vs l)) (opposite m)
 
 -- m - trough
 abbrev pub baselineDepth : List ℤ → List ℕ → Fraction → Fraction
-baselineDepth vs l m = added (opposite (whole (trough vs l))) m
+baselineDepth vs l m = summed (opposite (whole (trough vs l))) m
 
 pub record BaselineNear (c : Criterion) (x y : Fraction) : Type 0 where
   pub large : Excess c x y
