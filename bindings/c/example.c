@@ -4,10 +4,10 @@
 
 enum { SAMPLES = 14 };
 
-/* Says which call was refused, with the refusal's number and value; returns the exit status. */
+/* Says which call was refused and why; returns the exit status. */
 static int refused(const char *call, uint32_t number, uint64_t value) {
-  fprintf(stderr, "%s: refused %lu at %llu\n", call, (unsigned long)number,
-          (unsigned long long)value);
+  fprintf(stderr, "%s: refused as %lu at %llu: %s\n", call, (unsigned long)number,
+          (unsigned long long)value, kovrelna_cause(number));
   return 1;
 }
 
@@ -16,7 +16,7 @@ int main(void) {
   const int16_t values[SAMPLES] = {-1, 0, 1, 0, 40, 81, 119, 160, 131, 80, 50, 20, 9, 4};
   const kovrelna_tolerance tolerance = kovrelna_counts(2.5);
   uint16_t kept[SAMPLES];
-  uint8_t record[16 + 6 * SAMPLES];
+  uint8_t record[KOVRELNA_RECORD_BYTES(SAMPLES)];
   uint32_t read_ticks[SAMPLES];
   int16_t read_values[SAMPLES];
   kovrelna_answer walked, written;

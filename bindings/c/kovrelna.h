@@ -1,7 +1,8 @@
 /* Kovrelna: reduced traces. For C99, C++11 and later; link with libkovrelna.a or libkovrelna.so
  * (x86-64, System V ABI), as `pkg-config --cflags --libs kovrelna` says once they are installed.
  *
- * Contents, in order: refusals; tolerances; lists; reductions; range codes; records.
+ * Contents, in order: version and limits; refusals; tolerances; lists; reductions; range codes;
+ * records.
  *
  * A trace is two lists of equal length: ticks and values (ADC counts). It has 1 to 4,096 samples,
  * numbered from 0. Ticks rise strictly; the last minus the first is at most 1,048,575.
@@ -34,6 +35,20 @@
 extern "C" {
 #endif
 
+/* ---- Version and limits ---- */
+
+#define KOVRELNA_VERSION_MAJOR 0
+#define KOVRELNA_VERSION_MINOR 1
+#define KOVRELNA_VERSION_PATCH 0
+#define KOVRELNA_VERSION "0.1.0"
+
+/* The most samples of a trace, and of one for kovrelna_least. */
+#define KOVRELNA_SAMPLES_MAX 4096
+#define KOVRELNA_LEAST_SAMPLES_MAX 256
+/* The most bytes of a record of so many samples, from 1 on, and of any record: 24,589. */
+#define KOVRELNA_RECORD_BYTES(samples) (13 + 6 * (samples))
+#define KOVRELNA_RECORD_MAX KOVRELNA_RECORD_BYTES(KOVRELNA_SAMPLES_MAX)
+
 /* ---- Refusals ----
  *
  * Each answer has a number, 0 if the call succeeded, and a value. A call checks the rows that
@@ -64,6 +79,34 @@ enum kovrelna_refusal {
   /* The output is too short. Value: the entries or bytes needed. */
   KOVRELNA_REFUSED_ROOM = 10
 };
+
+/* The cause in words, for a message; "none" for a number that is no refusal's. */
+static inline const char *kovrelna_cause(uint32_t number) {
+  switch (number) {
+  case KOVRELNA_REFUSED_LENGTH:
+    return "no samples or codes, too many (for least, over 256), or list lengths differ";
+  case KOVRELNA_REFUSED_TICK:
+    return "a tick not above the one before";
+  case KOVRELNA_REFUSED_SPAN:
+    return "span over 1,048,575 ticks";
+  case KOVRELNA_REFUSED_TOLERANCE:
+    return "tolerance not allowed";
+  case KOVRELNA_REFUSED_ALLOWANCE:
+    return "allowance below 2 or above 4,096";
+  case KOVRELNA_REFUSED_LIST:
+    return "proposed list no kept list";
+  case KOVRELNA_REFUSED_LINK:
+    return "list to be written has an invalid link";
+  case KOVRELNA_REFUSED_RECORD:
+    return "record faulty";
+  case KOVRELNA_REFUSED_SECOND_RECORD:
+    return "second record of a comparison faulty";
+  case KOVRELNA_REFUSED_ROOM:
+    return "output too short";
+  default:
+    return "none";
+  }
+}
 
 /* number 0: value is what the call says. Otherwise: the refusal's number and value. */
 typedef struct kovrelna_answer {

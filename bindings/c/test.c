@@ -2,7 +2,7 @@
  * says what differs and returns 1.
  *
  * Contents, in order: lent lists and where they are placed; the table of calls; cases of each call;
- * empty lists; the longest trace.
+ * empty lists; the longest trace; the version and the causes in words.
  *
  * Each case is called once in every placement of its lists: against a page that cannot be read or
  * written, between guard bytes, and at exact size on the heap. Where the program is built with
@@ -629,9 +629,9 @@ static void least_errors(void) {
   const uint32_t even[] = {0, 1, 2, 3, 4}, beyond_span[] = {0, 1048576}, equal[] = {5, 5};
   const int16_t zigzag[] = {0, 3, 0, 3, 0}, two[] = {0, 0};
   const uint16_t all[] = {0, 1, 2, 3, 4}, ends[] = {0, 4}, late[] = {0, 3, 4}, one[] = {0},
-                 both[] = {0, 255};
-  static uint32_t ticks[257];
-  static const int16_t flat[257] = {0};
+                 both[] = {0, KOVRELNA_LEAST_SAMPLES_MAX - 1};
+  static uint32_t ticks[KOVRELNA_LEAST_SAMPLES_MAX + 1];
+  static const int16_t flat[KOVRELNA_LEAST_SAMPLES_MAX + 1] = {0};
   size_t k;
   for (k = 0; k < COUNT(ticks); k++) ticks[k] = (uint32_t)k;
 
@@ -644,10 +644,11 @@ static void least_errors(void) {
   }
   CLOSEST(uneven, step, 2, 3, 2, 3, pair);
   least(__LINE__, even, 1, zigzag, 1, 2, 1, 0, 1, 0, 1, one);
-  least(__LINE__, ticks, 256, flat, 256, 2, 256, 0, 2, 0, 1, both);
+  least(__LINE__, ticks, COUNT(ticks) - 1, flat, COUNT(flat) - 1, 2, COUNT(ticks) - 1, 0, 2, 0, 1,
+        both);
 
   NO_CLOSEST(ticks, flat, 0, 0, KOVRELNA_REFUSED_LENGTH, 0);
-  NO_CLOSEST(ticks, flat, 2, 257, KOVRELNA_REFUSED_LENGTH, 0);
+  NO_CLOSEST(ticks, flat, 2, COUNT(ticks), KOVRELNA_REFUSED_LENGTH, 0);
   NO_CLOSEST(even, two, 0, 5, KOVRELNA_REFUSED_LENGTH, 0);
   NO_CLOSEST(equal, two, 0, 0, KOVRELNA_REFUSED_TICK, 1);
   NO_CLOSEST(beyond_span, two, 0, 0, KOVRELNA_REFUSED_SPAN, 1);
@@ -659,8 +660,8 @@ static void least_errors(void) {
 }
 
 static void codes(void) {
-  static const uint8_t many[4097] = {0};
-  static const int16_t zeros[4096] = {0};
+  static const uint8_t many[KOVRELNA_SAMPLES_MAX + 1] = {0};
+  static const int16_t zeros[KOVRELNA_SAMPLES_MAX] = {0};
   uint8_t code;
   int e, m;
 
@@ -673,9 +674,9 @@ static void codes(void) {
       expand(__LINE__, &code, 1, 1, 0, 1, &value);
     }
   }
-  expand(__LINE__, many, 4096, 4096, 0, 4096, zeros);
-  expand(__LINE__, many, 4097, 4097, KOVRELNA_REFUSED_LENGTH, 0, NULL);
-  expand(__LINE__, many, 4097, 0, KOVRELNA_REFUSED_LENGTH, 0, NULL);
+  expand(__LINE__, many, COUNT(zeros), COUNT(zeros), 0, COUNT(zeros), zeros);
+  expand(__LINE__, many, COUNT(many), COUNT(many), KOVRELNA_REFUSED_LENGTH, 0, NULL);
+  expand(__LINE__, many, COUNT(many), 0, KOVRELNA_REFUSED_LENGTH, 0, NULL);
   expand(__LINE__, some_codes, 5, 4, KOVRELNA_REFUSED_ROOM, 5, NULL);
 }
 
@@ -788,7 +789,7 @@ static void empty_lists(void) {
 /* A trace of 4,096 samples of which all are kept, each at a long step, so that its record is the
  * longest there is. */
 static void longest(void) {
-  enum { SAMPLES = 4096, BYTES = 24589 };
+  enum { SAMPLES = KOVRELNA_SAMPLES_MAX, BYTES = KOVRELNA_RECORD_MAX };
   static uint32_t ticks[SAMPLES];
   static int16_t values[SAMPLES];
   static uint16_t all[SAMPLES];
@@ -816,6 +817,23 @@ static void longest(void) {
   SAME(record, BYTES, record, BYTES, 0, 1, 0);
 }
 
+/* The version's numbers are those of its text. Every cause has words of its own. */
+static void words(void) {
+  char version[40];
+  uint32_t number, other;
+  now_name = "version";
+  now_line = __LINE__;
+  snprintf(version, sizeof(version), "%d.%d.%d", KOVRELNA_VERSION_MAJOR, KOVRELNA_VERSION_MINOR,
+           KOVRELNA_VERSION_PATCH);
+  differ("its text", strcmp(version, KOVRELNA_VERSION) != 0, 0);
+  now_name = "cause";
+  differ("no refusal", strcmp(kovrelna_cause(0), "none") != 0, 0);
+  differ("no refusal", strcmp(kovrelna_cause(UINT32_MAX), "none") != 0, 0);
+  for (number = 0; number <= KOVRELNA_REFUSED_ROOM; number++)
+    for (other = 0; other < number; other++)
+      differ("the same words", strcmp(kovrelna_cause(number), kovrelna_cause(other)) == 0, 0);
+}
+
 int main(void) {
   signal(SIGSEGV, beyond);
   signal(SIGBUS, beyond);
@@ -828,6 +846,7 @@ int main(void) {
   records();
   empty_lists();
   longest();
+  words();
   if (failures != 0) return 1;
   puts("c: ok");
   return 0;
