@@ -26,8 +26,9 @@ Other elements and masked arrays raise TypeError; nothing is converted. Only a l
 range of whole numbers is copied into such a buffer; a number that does not fit raises OverflowError.
 
 An output is a buffer that the caller lends, or is made anew: an array of numpy if the ticks (the
-codes, the record) are one, otherwise an array.array. Of a lent output only the entries used change,
-and the call returns a view of these. It overlaps no other list; one that does raises ValueError.
+codes, the record) are one or if that is asked for (`expand`, `read`), otherwise an array.array. Of a
+lent output only the entries used change, and the call returns a view of these. It overlaps no other
+list; one that does raises ValueError.
 
 A call may run at the same time as others on any threads. Nothing else may write to a lent list
 before the call returns. minimum and least take up to 18 KiB of stack, every other call under 1 KiB.
@@ -41,18 +42,22 @@ Verdict(passed=False, link=0)
 >>> judge(ticks, values, [0, 1], Ratio(4, 6))
 Traceback (most recent call last):
     ...
-kovrelna.Refusal: refused as 6: no kept list: entry 2 is bad, or the list stops short there
+kovrelna.Refusal: refused as 6: no kept list: it ends with 1, not with the last sample, 2
 """
 
-import math
-import numbers
+from __future__ import annotations
+
 import operator
 from dataclasses import dataclass
 from fractions import Fraction
-from typing import Any, NamedTuple, Optional, Union
+from typing import Any, NamedTuple, Optional, SupportsIndex, Union, overload
 
-from . import _library
-from ._lists import BYTE, ENTRY, TICK, VALUE, Loan, new, used
+from . import _library, _tolerance
+from ._lists import BYTE, ENTRY, TICK, VALUE, Lent, Loan, Numbers, Output, new, used
+from ._tolerance import Counts, Noise, Ratio, Tolerance
+from ._words import words
+
+__version__ = "0.1.0"
 
 __all__ = [
     "Content",
@@ -75,13 +80,9 @@ __all__ = [
     "write",
 ]
 
-# The most samples that a trace has.
+# The most samples that a trace has, and one for `least`.
 _SAMPLES = 4096
-
-# A buffer, or a list, a tuple or a range of whole numbers.
-Lent = Any
-# A buffer that can be written.
-Output = Any
+_LEAST_SAMPLES = 256
 
 
 class Refusal(ValueError):
@@ -111,101 +112,23 @@ if it only stops short; 0 if it is empty |
     ...     print(refusal.number, refusal.value)
     ...     print(refusal)
     2 1
-    refused as 2: the tick of sample 1 is not above the one before
+    refused as 2: the tick of sample 1 is not above the one before: 5 after 5
     """
 
-    _WORDS = {
-        1: "no samples or codes, too many, or not as many values as ticks",
-        2: "the tick of sample {} is not above the one before",
-        3: "sample {} is over 1,048,575 ticks after the first",
-        4: "the tolerance is not allowed",
-        5: "the allowance is below 2 or above 4,096",
-        6: "no kept list: entry {} is bad, or the list stops short there",
-        7: "link {} is invalid",
-        8: "the record is faulty at byte {}",
-        9: "the second record is faulty at byte {}",
-        10: "the output is too short: {} entries or bytes are needed",
-    }
-
-    def __init__(self, number: int, value: int) -> None:
-        super().__init__(number, value)
+    def __init__(self, number: int, value: int, words: str) -> None:
+        super().__init__(number, value, words)
         self.number = number
         self.value = value
+        self.words = words
 
     def __str__(self) -> str:
-        return f"refused as {self.number}: {self._WORDS[self.number].format(self.value)}"
+        return f"refused as {self.number}: {self.words}"
 
 
-def _check(answer: Any) -> None:
+def _check(answer: Any, loan: Loan, **given: Any) -> None:
+    """Raises a refusal; `given` are other arguments of `words`."""
     if answer.number != 0:
-        raise Refusal(answer.number, answer.value)
-
-
-@dataclass(frozen=True)
-class Ratio:
-    """The tolerance p/q; `q` from 1 to 1,048,575, `p` from 0 to 65,535 times `q`."""
-
-    p: int
-    q: int
-
-
-@dataclass(frozen=True)
-class Counts:
-    """A tolerance from 0 to 65,535 of which 64 times is whole."""
-
-    counts: float
-
-
-@dataclass(frozen=True)
-class Noise:
-    """A channel's noise times the multiple wanted, exactly: the noise from 0 to 1,023 and 64 times
-    it whole, the multiple from 0 to 63 and 8 times it whole."""
-
-    noise: float
-    multiple: float
-
-
-# A whole number and a Fraction are ratios, a float is counts.
-Tolerance = Union[Ratio, Counts, Noise, int, Fraction, float]
-
-
-def _tolerance(tolerance: Tolerance) -> _library.Tolerance:
-    if isinstance(tolerance, Ratio):
-        return _ratio(tolerance.p, tolerance.q)
-    if isinstance(tolerance, Counts):
-        return _library.Tolerance(1, 0, 0, _float(tolerance.counts), 0.0)
-    if isinstance(tolerance, Noise):
-        noise, multiple = _float(tolerance.noise), _float(tolerance.multiple)
-        return _library.Tolerance(2, 0, 0, noise, multiple)
-    if isinstance(tolerance, numbers.Rational):
-        return _ratio(tolerance.numerator, tolerance.denominator)
-    if isinstance(tolerance, numbers.Real):
-        return _library.Tolerance(1, 0, 0, _float(tolerance), 0.0)
-    raise TypeError(
-        "tolerance must be Ratio, Counts, Noise, a whole number, a Fraction or a float, "
-        f"not {type(tolerance).__name__}"
-    )
-
-
-def _ratio(p: Any, q: Any) -> _library.Tolerance:
-    """A ratio that does not fit the library's fields is lent as 0/0, which is not allowed
-    either."""
-    p, q = operator.index(p), operator.index(q)
-    if not (0 <= p < 2**64 and 0 <= q < 2**64):
-        p, q = 0, 0
-    return _library.Tolerance(0, p, q, 0.0, 0.0)
-
-
-def _float(number: Any) -> float:
-    """The number as a float. One that no float equals is lent as NaN, which is not allowed either:
-    whatever is allowed is a float."""
-    if not isinstance(number, numbers.Real):
-        raise TypeError(f"a tolerance must be of real numbers, not {type(number).__name__}")
-    try:
-        nearest = float(number)
-    except OverflowError:
-        return math.nan
-    return nearest if nearest == number else math.nan
+        raise Refusal(answer.number, answer.value, words(answer.number, answer.value, loan, **given))
 
 
 def hold(tolerance: Tolerance) -> Fraction:
@@ -215,13 +138,14 @@ def hold(tolerance: Tolerance) -> Fraction:
     Fraction(51, 16)
     >>> hold(0.75)
     Fraction(3, 4)
-    >>> hold(Counts(float("nan")))
+    >>> hold(0.1)
     Traceback (most recent call last):
         ...
-    kovrelna.Refusal: refused as 4: the tolerance is not allowed
+    kovrelna.Refusal: refused as 4: the tolerance is not allowed: 0.1 is not a multiple of 1/64; \
+write Ratio(1, 10) or Fraction(1, 10)
     """
-    answer = _library.hold(_tolerance(tolerance))
-    _check(answer)
+    answer = _library.hold(_tolerance.lend(tolerance))
+    _check(answer, Loan(), tolerance=tolerance)
     return Fraction(answer.p, answer.q)
 
 
@@ -252,23 +176,35 @@ def judge(ticks: Lent, values: Lent, proposed: Lent, tolerance: Tolerance) -> Ve
             *loan.input("ticks", ticks, TICK),
             *loan.input("values", values, VALUE),
             *loan.input("proposed", proposed, ENTRY),
-            _tolerance(tolerance),
+            _tolerance.lend(tolerance),
         )
-    _check(answer)
+        _check(answer, loan, most=_SAMPLES, tolerance=tolerance)
     return Verdict(True, None) if answer.passed else Verdict(False, answer.value)
 
 
-def _reduce(call: Any, ticks: Lent, values: Lent, third: Any, out: Optional[Output]) -> Any:
-    """The answer of a call that keeps samples, and the kept list."""
+def _reduce(
+    call: Any, ticks: Lent, values: Lent, third: Any, out: Optional[Output], **given: Any
+) -> Any:
+    """The answer of a call that keeps samples, and the kept list. `given` is as for `_check`."""
     with Loan() as loan:
         trace = loan.input("ticks", ticks, TICK) + loan.input("values", values, VALUE)
         room = new(ENTRY, min(trace[1], _SAMPLES), ticks) if out is None else out
         answer = call(*trace, third, *loan.output("out", room, ENTRY))
-    _check(answer)
+        _check(answer, loan, **given)
     return answer, used(room, ENTRY, 0, answer.value, out is None)
 
 
-def walk(ticks: Lent, values: Lent, tolerance: Tolerance, out: Optional[Output] = None) -> Any:
+def _bounded(
+    call: Any, ticks: Lent, values: Lent, tolerance: Tolerance, out: Optional[Output]
+) -> Any:
+    """The same of a call that takes a tolerance."""
+    lent = _tolerance.lend(tolerance)
+    return _reduce(call, ticks, values, lent, out, most=_SAMPLES, tolerance=tolerance)
+
+
+def walk(
+    ticks: Lent, values: Lent, tolerance: Tolerance, out: Optional[Output] = None
+) -> Numbers:
     """From sample i, beginning with 0, tests the links to i+1, i+2, ... and keeps the sample before
     the first invalid one, or the last sample if none is invalid; goes on from there.
 
@@ -285,13 +221,13 @@ def walk(ticks: Lent, values: Lent, tolerance: Tolerance, out: Optional[Output] 
     >>> out
     array('H', [0, 2, 4, 9, 9, 9])
     """
-    return _reduce(_library.walk, ticks, values, _tolerance(tolerance), out)[1]
+    return _bounded(_library.walk, ticks, values, tolerance, out)[1]
 
 
 class Galloped(NamedTuple):
     """What `gallop` returns."""
 
-    kept: Any
+    kept: Numbers
     """The kept list."""
     probes: int
     """The probe total."""
@@ -312,30 +248,34 @@ def gallop(
     >>> gallop(range(5), [0, 2, 0, -2, 0], 2)
     Galloped(kept=array('H', [0, 4]), probes=5)
     """
-    answer, kept = _reduce(_library.gallop, ticks, values, _tolerance(tolerance), out)
+    answer, kept = _bounded(_library.gallop, ticks, values, tolerance, out)
     return Galloped(kept, answer.probes)
 
 
-def minimum(ticks: Lent, values: Lent, tolerance: Tolerance, out: Optional[Output] = None) -> Any:
+def minimum(
+    ticks: Lent, values: Lent, tolerance: Tolerance, out: Optional[Output] = None
+) -> Numbers:
     """The kept list of valid links with fewest samples. Of several, the one whose second sample is
     latest, then its third, and so on. The refusals are those of `walk`.
 
     >>> minimum(range(5), [0, 3, 0, 3, 0], 2)
     array('H', [0, 3, 4])
     """
-    return _reduce(_library.minimum, ticks, values, _tolerance(tolerance), out)[1]
+    return _bounded(_library.minimum, ticks, values, tolerance, out)[1]
 
 
 class Least(NamedTuple):
     """What `least` returns."""
 
-    kept: Any
+    kept: Numbers
     """The kept list."""
     error: Fraction
     """Its error: the least there is."""
 
 
-def least(ticks: Lent, values: Lent, allowance: int, out: Optional[Output] = None) -> Least:
+def least(
+    ticks: Lent, values: Lent, allowance: SupportsIndex, out: Optional[Output] = None
+) -> Least:
     """The least error over the kept lists of at most `allowance` samples, and the kept list that
     `minimum` finds at that error. Traces here have at most 256 samples.
 
@@ -344,36 +284,52 @@ def least(ticks: Lent, values: Lent, allowance: int, out: Optional[Output] = Non
     >>> least(range(5), [0, 3, 0, 3, 0], 3)
     Least(kept=array('H', [0, 3, 4]), error=Fraction(2, 1))
     """
-    allowance = operator.index(allowance)
+    samples = operator.index(allowance)
     # One that does not fit the library's number is lent as 0, which is not allowed either.
-    lent = allowance if 0 <= allowance < 2**64 else 0
-    answer, kept = _reduce(_library.least, ticks, values, lent, out)
+    lent = samples if 0 <= samples < 2**64 else 0
+    answer, kept = _reduce(
+        _library.least, ticks, values, lent, out, most=_LEAST_SAMPLES, allowance=allowance
+    )
     return Least(kept, Fraction(answer.p, answer.q))
 
 
-def expand(codes: Lent, out: Optional[Output] = None) -> Any:
+def expand(codes: Lent, out: Optional[Output] = None, *, numpy: bool = False) -> Numbers:
     """The value of each range code: a code is one byte, 32 e + m with m below 32, and its value is
-    2^e times (m + 32), minus 32. Every code is legal. Refusals: 1 if there are no codes or more
-    than 4,096; 10 with the number of values.
+    2^e times (m + 32), minus 32. Every code is legal. With `numpy=True` a new output is an array of
+    numpy, whatever the codes are. Refusals: 1 if there are no codes or more than 4,096; 10 with the
+    number of values.
 
     >>> expand(bytes([31, 32, 63, 64, 255]))
     array('h', [31, 32, 94, 96, 8032])
     """
     with Loan() as loan:
         lent = loan.input("codes", codes, BYTE)
-        room = new(VALUE, min(lent[1], _SAMPLES), codes) if out is None else out
+        room = new(VALUE, min(lent[1], _SAMPLES), codes, numpy) if out is None else out
         answer = _library.expand(*lent, *loan.output("out", room, VALUE))
-    _check(answer)
+        _check(answer, loan, most=_SAMPLES)
     return used(room, VALUE, 0, answer.value, out is None)
 
 
+@overload
+def write(
+    ticks: Lent, values: Lent, kept: Lent, tolerance: Tolerance, buffer: None = None
+) -> bytes: ...
+@overload
+def write(
+    ticks: Lent,
+    values: Lent,
+    kept: Lent,
+    tolerance: Tolerance,
+    buffer: Output,
+    place: SupportsIndex = 0,
+) -> Numbers: ...
 def write(
     ticks: Lent,
     values: Lent,
     kept: Lent,
     tolerance: Tolerance,
     buffer: Optional[Output] = None,
-    place: int = 0,
+    place: SupportsIndex = 0,
 ) -> Any:
     """The record of the kept samples and the tolerance: new bytes, or written into the buffer from
     the byte at `place` on, where the bytes before and after the record keep their values; then a
@@ -412,31 +368,36 @@ def write(
         trace = loan.input("ticks", ticks, TICK) + loan.input("values", values, VALUE)
         entries = loan.input("kept", kept, ENTRY)
         # The longest record of so many samples.
-        room = bytearray(13 + 6 * min(entries[1], _SAMPLES)) if buffer is None else buffer
-        lent = loan.output("buffer", room, BYTE)
+        new_record = bytearray(13 + 6 * min(entries[1], _SAMPLES) if buffer is None else 0)
+        lent = loan.output("buffer", new_record if buffer is None else buffer, BYTE)
         start = min(place, lent[1])
-        answer = _library.write(*trace, *entries, _tolerance(tolerance), *lent, start)
-    _check(answer)
+        answer = _library.write(*trace, *entries, _tolerance.lend(tolerance), *lent, start)
+        _check(answer, loan, most=_SAMPLES, tolerance=tolerance, place=place)
     if buffer is None:
-        return bytes(room[: answer.value])
+        return bytes(new_record[: answer.value])
     return used(buffer, BYTE, place, answer.value)
 
 
 class Content(NamedTuple):
     """What `read` returns."""
 
-    ticks: Any
+    ticks: Numbers
     """The ticks of the record's samples."""
-    values: Any
+    values: Numbers
     """Their values."""
     tolerance: Fraction
     """The record's tolerance."""
 
 
 def read(
-    record: Lent, ticks: Optional[Output] = None, values: Optional[Output] = None
+    record: Lent,
+    ticks: Optional[Output] = None,
+    values: Optional[Output] = None,
+    *,
+    numpy: bool = False,
 ) -> Content:
-    """What a record holds, as `write` describes it.
+    """What a record holds, as `write` describes it. With `numpy=True` new outputs are arrays of
+    numpy, whatever the record is: `read(record, numpy=True)`.
 
     Refusals: 8; 10 with the number of samples, as each output needs an entry for each. A fault lies
     at the first byte of the first command that breaks a rule or is cut off, at the first byte after
@@ -454,14 +415,14 @@ def read(
         lent = loan.input("record", record, BYTE)
         # A sample takes at least 3 bytes.
         samples = min(lent[1] // 3, _SAMPLES)
-        to_ticks = new(TICK, samples, record) if ticks is None else ticks
-        to_values = new(VALUE, samples, record) if values is None else values
+        to_ticks = new(TICK, samples, record, numpy) if ticks is None else ticks
+        to_values = new(VALUE, samples, record, numpy) if values is None else values
         answer = _library.read(
             *lent,
             *loan.output("ticks", to_ticks, TICK),
             *loan.output("values", to_values, VALUE),
         )
-    _check(answer)
+        _check(answer, loan)
     return Content(
         used(to_ticks, TICK, 0, answer.value, ticks is None),
         used(to_values, VALUE, 0, answer.value, values is None),
@@ -481,5 +442,5 @@ def same(first: Lent, second: Lent) -> bool:
         answer = _library.same(
             *loan.input("first", first, BYTE), *loan.input("second", second, BYTE)
         )
-    _check(answer)
+        _check(answer, loan)
     return bool(answer.passed)

@@ -6,6 +6,7 @@ Assumes that the library found is the one of that header.
 import ctypes
 import os
 from ctypes import Structure, c_double, c_size_t, c_uint32, c_uint64, c_void_p
+from typing import Any, Type
 
 NAME = "libkovrelna.so.0"
 
@@ -38,7 +39,7 @@ class Fractional(Structure):
     _fields_ = [("number", c_uint32), ("value", c_uint64), ("p", c_uint64), ("q", c_uint64)]
 
 
-def _load():
+def _load() -> ctypes.CDLL:
     """The library that KOVRELNA_LIBRARY names, else the one beside this file, else the one that the
     system's loader finds."""
     beside = os.path.join(os.path.dirname(os.path.abspath(__file__)), NAME)
@@ -56,7 +57,7 @@ _LIBRARY = _load()
 _LIST = (c_void_p, c_size_t)
 
 
-def _declare(name, answer, *parameters):
+def _declare(name: str, answer: Type[Structure], *parameters: Any) -> Any:
     try:
         call = getattr(_LIBRARY, f"kovrelna_{name}")
     except AttributeError as error:

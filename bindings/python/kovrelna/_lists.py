@@ -1,5 +1,7 @@
 """Lists as they are lent to a call and as they come back.
 
+- `Lent`, `Output`, `Numbers`: the types of a list that is lent, of one that is to be written, and of
+  one that comes back.
 - `Item`: what the elements of a list are; `TICK`, `VALUE`, `ENTRY`, `BYTE`.
 - `Loan`: the lists lent to one call, as addresses and lengths. Buffers are not copied.
 - `new`, `used`: a new output; the elements that a call has written.
@@ -9,9 +11,28 @@ Assumes CPython, whose buffers are reached through its C interface.
 
 import array
 import ctypes
+import importlib
 import operator
 import sys
-from typing import Any, List, NamedTuple, Optional, Tuple
+from typing import TYPE_CHECKING, Any, Dict, List, NamedTuple, Optional, Protocol, Sequence
+from typing import SupportsIndex, Tuple, Union
+
+if TYPE_CHECKING:
+    from _typeshed import ReadableBuffer, WriteableBuffer
+
+
+class Array(Protocol):
+    """What is known here of the type of numpy's arrays."""
+
+    @property
+    def __array_interface__(self) -> Dict[str, Any]: ...
+
+
+# A buffer, or a list, a tuple or a range of whole numbers; a buffer that can be written.
+Lent = Union[Sequence[SupportsIndex], "ReadableBuffer", Array]
+Output = Union["WriteableBuffer", Array]
+# What comes back: an array of numpy or of module array, or a memoryview.
+Numbers = Any
 
 
 class Item(NamedTuple):
@@ -24,8 +45,13 @@ class Item(NamedTuple):
 
     def __str__(self) -> str:
         kind = "unsigned" if self.least == 0 else "signed"
-        numpy = f"{'u' if self.least == 0 else ''}int{8 * self.size}"
-        return f"{kind} {8 * self.size}-bit integers (array type code {self.code!r}, numpy {numpy})"
+        names = f"array type code {self.code!r}, numpy {self.numpy}"
+        return f"{kind} {8 * self.size}-bit integers ({names})"
+
+    @property
+    def numpy(self) -> str:
+        """The name of numpy's type."""
+        return f"{'u' if self.least == 0 else ''}int{8 * self.size}"
 
     def fits(self, view: memoryview) -> bool:
         """Whether the elements of the buffer are such ones, in this machine's byte order."""
@@ -73,28 +99,33 @@ _release_buffer.argtypes = (ctypes.POINTER(_Buffer),)
 _release_buffer.restype = None
 
 
-class _Lent(NamedTuple):
+class Borrowed(NamedTuple):
+    """A list that is lent. The buffer of an empty one has no address."""
+
     name: str
+    item: Item
     view: memoryview
     buffer: _Buffer
     output: bool
 
-    def overlaps(self, other: "_Lent") -> bool:
+    def overlaps(self, other: "Borrowed") -> bool:
+        if not (self.buffer.buf and other.buffer.buf):
+            return False
         ends = [lent.buffer.buf + lent.buffer.len for lent in (self, other)]
-        return self.buffer.buf < ends[1] and other.buffer.buf < ends[0]
+        return bool(self.buffer.buf < ends[1] and other.buffer.buf < ends[0])
 
 
 class Loan:
     """The lists lent to one call. In a `with` statement: they cannot be resized until it ends."""
 
     def __init__(self) -> None:
-        self._lent: List[_Lent] = []
+        self.lists: List[Borrowed] = []
 
     def __enter__(self) -> "Loan":
         return self
 
     def __exit__(self, *exception: object) -> None:
-        for lent in self._lent:
+        for lent in self.lists:
             _release_buffer(ctypes.byref(lent.buffer))
             lent.view.release()
 
@@ -109,21 +140,26 @@ class Loan:
         """The address and the length of a buffer that can be written and overlaps no other list."""
         return self._lend(name, given, item, True)
 
+    def numbers(self, item: Item) -> memoryview:
+        """What the first list of such elements holds."""
+        view = next(lent.view for lent in self.lists if lent.item == item)
+        return view.cast("B").cast(item.code) if len(view) else view
+
     def _lend(self, name: str, given: Any, item: Item, output: bool) -> Tuple[Optional[int], int]:
-        view = _view(name, given, item, output)
-        if len(view) == 0:
-            view.release()
+        lent = Borrowed(name, item, _view(name, given, item, output), _Buffer(), output)
+        self.lists.append(lent)
+        if len(lent.view) == 0:
             return None, 0
-        buffer = _Buffer()
-        _get_buffer(view, ctypes.byref(buffer), _SIMPLE)
-        lent = _Lent(name, view, buffer, output)
-        self._lent.append(lent)
+        buffer = lent.buffer
+        _get_buffer(lent.view, ctypes.byref(buffer), _SIMPLE)
         if buffer.buf % item.size != 0:
-            raise ValueError(f"{name} must begin at a multiple of {item.size} bytes in memory")
-        for other in self._lent[:-1]:
+            copied = f"; write {name}.copy()" if _is_numpy(given) and not output else ""
+            start = f"{name} must begin at a multiple of {item.size} bytes in memory"
+            raise ValueError(start + copied)
+        for other in self.lists[:-1]:
             if (output or other.output) and lent.overlaps(other):
                 raise ValueError(f"{name} and {other.name} overlap in memory")
-        return buffer.buf, len(view)
+        return buffer.buf, len(lent.view)
 
 
 def _view(name: str, given: Any, item: Item, output: bool) -> memoryview:
@@ -148,10 +184,30 @@ def _view(name: str, given: Any, item: Item, output: bool) -> memoryview:
         else:
             return view
         view.release()
-    raise TypeError(f"{name} must be a {'writable ' if output else ''}buffer of {item}: {fault}")
+    message = f"{name} must be a {'writable ' if output else ''}buffer of {item}: {fault}"
+    raise TypeError(message if output else message + _instead(name, given, item))
 
 
-def _converted(name: str, given: Any, item: Item) -> array.array:
+def _instead(name: str, given: Any, item: Item) -> str:
+    """What to write instead of an input that is refused, if that is known."""
+    if isinstance(given, array.array):
+        return f"; write array.array({item.code!r}, {name})"
+    if hasattr(given, "to_numpy"):
+        return f"; write {name}.to_numpy(numpy.{item.numpy})"
+    if not _is_numpy(given) or hasattr(given, "mask"):
+        return ""
+    if given.ndim == 2:
+        return f"; write numpy.ascontiguousarray({name}[:, 0]) for its first column"
+    if given.ndim != 1 or given.dtype.kind not in "iufb":
+        return ""
+    if given.dtype == item.numpy:
+        return f"; write numpy.ascontiguousarray({name})"
+    whole = " whole and" if given.dtype.kind == "f" else ""
+    limits = f"if all are{whole} from {item.least} to {item.most}"
+    return f"; write {name}.astype(numpy.{item.numpy}), {limits}"
+
+
+def _converted(name: str, given: Any, item: Item) -> "array.array[int]":
     """A copy of the list. A number out of range, or what is no whole number, is named."""
     try:
         return array.array(item.code, map(operator.index, given))
@@ -174,18 +230,20 @@ def _is_numpy(given: Any) -> bool:
     return numpy is not None and isinstance(given, numpy.ndarray)
 
 
-def new(item: Item, length: int, like: Any) -> Any:
-    """An output of so many elements: an array of numpy if `like` is one, else one of array."""
-    if _is_numpy(like):
-        return sys.modules["numpy"].empty(length, item.code)
+def new(item: Item, length: int, like: Any, numpy: bool = False) -> Any:
+    """An output of so many elements: an array of numpy if that is wanted or `like` is one, else one
+    of array."""
+    if numpy or _is_numpy(like):
+        return importlib.import_module("numpy").empty(length, item.code)
     return array.array(item.code, bytes(length * item.size))
 
 
 def used(room: Any, item: Item, start: int, length: int, made: bool = False) -> Any:
-    """So many elements of an output, from `start` on: a view of them, or an array that was made for
-    the call, cut to them."""
+    """So many elements of an output, from `start` on: a view of them, or of an array that was made
+    for the call an array of these alone."""
     if _is_numpy(room):
-        return room[start : start + length]
+        part = room[start : start + length]
+        return part.copy() if made and length < len(room) else part
     if made:
         del room[length:]
         return room

@@ -16,6 +16,7 @@ import subprocess
 import sys
 import tempfile
 import threading
+import tracemalloc
 import types
 import unittest
 from fractions import Fraction
@@ -280,23 +281,85 @@ class Refusals(Case):
         self.refused(1, 0, kovrelna.expand, bytes(4097), array.array("h"))
 
     def test_words(self):
-        for number, value, words in [
-            (1, 0, "too many"),
-            (2, 21, "tick of sample 21 is not above"),
-            (3, 31, "sample 31 is over 1,048,575 ticks"),
-            (4, 0, "tolerance is not allowed"),
-            (5, 0, "allowance is below 2 or above 4,096"),
-            (6, 61, "entry 61 is bad"),
-            (7, 71, "link 71 is invalid"),
-            (8, 81, "record is faulty at byte 81"),
-            (9, 91, "second record is faulty at byte 91"),
-            (10, 101, "too short: 101 entries"),
+        flat, infinity = self.flat, float("inf")
+        none, nan = array.array("H"), float("nan")
+        limits = "p/q has q from 1 to 1,048,575 and p from 0 to 65,535 times q"
+        cases = [
+            (1, "no samples", kovrelna.walk, [], [], 1),
+            (1, "too many samples: at most 4,096 are allowed", kovrelna.walk, range(10**30), [], 1),
+            (1, "too many samples: at most 256 are allowed", kovrelna.least, range(257), flat, 2),
+            (1, "not as many values as ticks: 5 ticks and 4 values", kovrelna.judge, EVEN, flat[1:],
+            [0, 4], 1),
+            (1, "no codes", kovrelna.expand, b""),
+            (1, "too many codes: at most 4,096 are allowed", kovrelna.expand, bytes(4097)),
+            (2, "the tick of sample 2 is not above the one before: 4 after 5", kovrelna.gallop,
+            [0, 5, 4, 6, 7], flat, 1),
+            (2, "the tick of sample 1 is not above the one before: 7 after 7", kovrelna.walk,
+            memoryview((ctypes.c_uint32 * 2)(7, 7)), [0, 0], 1),
+            (3, "sample 4 is over 1,048,575 ticks after the first", kovrelna.minimum,
+            [0, 1, 2, 3, 1048576], flat, 1),
+            (5, "the allowance must be from 2 to 4,096, not 1", kovrelna.least, EVEN, flat, 1),
+            (7, "link 2, from sample 2 to sample 4, is invalid at this tolerance", kovrelna.write,
+            EVEN, ZIGZAG, [0, 1, 2, 4], 2),
+            (8, "the record is faulty at byte 16", kovrelna.read, RECORD[:18]),
+            (8, "the record is faulty at byte 0", kovrelna.same, b"", RECORD),
+            (9, "the second record is faulty at byte 22", kovrelna.same, RECORD, RECORD + b"E"),
+        ]
+        for tolerance, fault in [
+            (-1, f"{limits}, not -1/1"),
+            (Ratio(1, 0), f"{limits}, not 1/0"),
+            (10**5000, f"{limits}, not so long a number/1"),
+            (nan, "counts are from 0 to 65,535, not nan"),
+            (Counts(-infinity), "counts are from 0 to 65,535, not -inf"),
+            (0.1, "0.1 is not a multiple of 1/64; write Ratio(1, 10) or Fraction(1, 10)"),
+            (2.55, "2.55 is not a multiple of 1/64; write Ratio(51, 20) or Fraction(51, 20)"),
+            (Counts(Fraction(1, 10)), "1/10 is not a multiple of 1/64; write Ratio(1, 10) or "
+            "Fraction(1, 10)"),
+            (1 / 3, f"{1 / 3} is not a multiple of 1/64; write Ratio(p, q) or Fraction(p, q)"),
+            (Noise(1024, 2), "the noise is from 0 to 1,023, not 1024"),
+            (Noise(0.1, 2), "0.1 is not a multiple of 1/64"),
+            (Noise(1.5, 64), "the multiple is from 0 to 63, not 64"),
+            (Noise(1.5, 2.1), "2.1 is not a multiple of 1/8"),
         ]:
-            refusal = pickle.loads(pickle.dumps(Refusal(number, value)))
+            fault = f"the tolerance is not allowed: {fault}"
+            cases += [(4, fault, kovrelna.hold, tolerance)]
+            cases += [(4, fault, kovrelna.judge, EVEN, flat, [0, 4], tolerance)]
+        for kept, fault in [
+            ([], "it is empty"),
+            ([1, 4], "entry 0 is 1, and the first must be 0"),
+            ([65535], "entry 0 is 65535, and the first must be 0"),
+            ([0, 3, 2, 4], "entry 2 is 2, not above the entry before it, 3"),
+            ([0, 0], "entry 1 is 0, not above the entry before it, 0"),
+            ([0, 4, 4], "entry 2 is 4, not above the entry before it, 4"),
+            ([0, 2, 5], "entry 2 is 5, beyond the last sample, 4"),
+            ([0, 2, 3], "it ends with 3, not with the last sample, 4"),
+        ]:
+            for call in (kovrelna.judge, kovrelna.write):
+                cases += [(6, f"no kept list: {fault}", call, EVEN, flat, kept, 1)]
+        trace, values = ([0, 1, 3], [0, 1, 1], [0, 2], 1), array.array("h", [9] * 2)
+        for fault, call, *arguments in [
+            ("5 entries are needed, and out has 0", kovrelna.least, EVEN, flat, 2, none),
+            ("5 entries are needed, and out has 2", kovrelna.expand, bytes(5), values),
+            ("22 bytes are needed, and buffer has 21", kovrelna.write, *trace, bytearray(21)),
+            ("22 bytes are needed, and buffer has 18 from place 7 on", kovrelna.write, *trace,
+            bytearray(25), 7),
+            ("22 bytes are needed, and buffer has 0 from place 9 on", kovrelna.write, *trace,
+            bytearray(8), 9),
+            ("2 entries are needed, and ticks has 1", kovrelna.read, RECORD,
+            array.array("I", [9])),
+            ("2 entries are needed, and values has 1", kovrelna.read, RECORD,
+            array.array("I", [9] * 2), values[1:]),
+        ]:
+            cases += [(10, f"the output is too short: {fault}", call, *arguments)]
+        for number, words, call, *arguments in cases:
+            with self.assertRaises(Refusal) as caught:
+                call(*arguments)
+            self.assertEqual(str(caught.exception), f"refused as {number}: {words}")
+            refusal = pickle.loads(pickle.dumps(caught.exception))
             self.assertIsInstance(refusal, ValueError)
-            self.assertEqual((refusal.number, refusal.value), (number, value))
-            self.assertIn(f"refused as {number}: ", str(refusal))
-            self.assertIn(words, str(refusal))
+            self.assertEqual(str(refusal), f"refused as {number}: {words}")
+            self.assertEqual(refusal.number, number)
+        self.assertEqual({case[0] for case in cases}, set(range(1, 11)))
 
 
 class Longest(Case):
@@ -445,7 +508,7 @@ class Buffers(Case):
 
     def test_wrong_buffers(self):
         wrong = [
-            (array.array("d", [0, 1]), "format 'd' with 8 bytes"),
+            (array.array("d", [0, 1]), r"format 'd' with 8 bytes an item; write array.array\('I', ticks\)"),
             (array.array("f", [0, 1]), "format 'f' with 4 bytes"),
             (array.array("i", [0, 1]), "format 'i'"),
             (array.array("H", [0, 1]), "format 'H' with 2 bytes"),
@@ -472,6 +535,16 @@ class Buffers(Case):
         for record in (array.array("b", RECORD[:0]), array.array("H", RECORD), "54"):
             with self.assertRaisesRegex(TypeError, "must be a buffer of unsigned 8-bit"):
                 kovrelna.read(record)
+
+    def test_tables(self):
+        class Series:
+            """A column as pandas has it: no buffer."""
+
+            def to_numpy(self, kind):
+                return kind
+
+        with self.assertRaisesRegex(TypeError, r"; write values.to_numpy\(numpy.int16\)$"):
+            kovrelna.walk([0, 1], Series(), 1)
 
     def test_wrong_outputs(self):
         wrong = [
@@ -553,14 +626,22 @@ class NumpyArrays:
         with mock.patch.dict(sys.modules, numpy=self.module):
             answers = [kovrelna.walk(ticks, values, 1), kovrelna.minimum(ticks, values, 1)]
             answers += [kovrelna.gallop(ticks, values, 1).kept]
+            answers += [kovrelna.least(ticks, values, 2).kept]
             for kept in answers:
                 self.assertEqual(kept.tolist(), [0, 2])
             answers += kovrelna.read(record)[:2]
-            answers += [kovrelna.expand(record)]
-            self.assertEqual([len(answer) for answer in answers], [2, 2, 2, 2, 2, 22])
+            answers += kovrelna.read(RECORD, numpy=True)[:2]
+            answers += [kovrelna.expand(record), kovrelna.expand(RECORD, numpy=True)]
+            self.assertEqual([len(answer) for answer in answers], [2] * 8 + [22] * 2)
             self.assertNotIsInstance(kovrelna.walk(ticks.tolist(), values, 1), self.module.ndarray)
+            given = self.module.array([9] * 2, "I")
+            content = kovrelna.read(RECORD, given, numpy=True)
+            self.assertEqual((given.tolist(), content.values.tolist()), ([0, 3], [0, 1]))
         for answer in answers:
             self.assertIsInstance(answer, self.module.ndarray)
+            # It holds no more than what is used.
+            self.assertEqual(memoryview(answer.base if answer.base is not None else answer).nbytes,
+            memoryview(answer).nbytes)
 
     def test_outputs_are_lent(self):
         out = self.module.array([9] * 5, "H")
@@ -580,8 +661,15 @@ class StandIn(NumpyArrays, Case):
             if not isinstance(key, slice):
                 return super().__getitem__(key)
             start, stop, _ = key.indices(len(self))
-            part = StandIn.kind(self._type_, stop - start)
-            return part.from_buffer(self, start * ctypes.sizeof(self._type_))
+            kind = StandIn.kind(self._type_, stop - start)
+            part = kind.from_buffer(self, start * ctypes.sizeof(self._type_))
+            part.base = self
+            return part
+
+        base = None
+
+        def copy(self):
+            return StandIn.kind(self._type_, len(self))(*self)
 
         def tolist(self):
             return list(self)
@@ -617,6 +705,45 @@ class Numpy(NumpyArrays, Case):
         with self.assertRaisesRegex(TypeError, "read-only"):
             kovrelna.walk(ticks, values, 1, out)
 
+    def test_what_to_write_instead(self):
+        both = numpy.array([[0, 7], [1, 7], [3, 7]])
+        wide = numpy.arange(3)
+        limits = "if all are from 0 to 4294967295"
+        for ticks, words in [
+            (wide, f"write ticks.astype(numpy.uint32), {limits}"),
+            (both[:, 0], f"write ticks.astype(numpy.uint32), {limits}"),
+            (wide.astype(">u4"), f"write ticks.astype(numpy.uint32), {limits}"),
+            (wide.astype("f4"), "write ticks.astype(numpy.uint32), if all are whole and from 0 to "
+            "4294967295"),
+            (both.astype(numpy.uint32)[:, 0], "not contiguous; write numpy.ascontiguousarray(ticks)"),
+            (both.astype(numpy.uint32), "write numpy.ascontiguousarray(ticks[:, 0]) for its first column"),
+        ]:
+            with self.assertRaises(TypeError) as caught:
+                kovrelna.walk(ticks, [0, 1, 1], 1)
+            self.assertTrue(str(caught.exception).endswith(words), caught.exception)
+            asked = words[words.index("write ") + 6 :].split(", if")[0].split(" for")[0]
+            kept = kovrelna.walk(eval(asked), [0, 1, 1], 1) if ticks is not wide else [0, 2]
+            self.assertEqual(list(kept), [0, 2])
+        values = numpy.array([0, 1, 1], numpy.uint16)
+        words = r"write values.astype\(numpy.int16\), if all are from -32768 to 32767$"
+        with self.assertRaisesRegex(TypeError, words):
+            kovrelna.walk([0, 1, 3], values, 1)
+        unaligned = numpy.zeros(13, numpy.uint8)[1:].view(numpy.uint32)
+        with self.assertRaisesRegex(ValueError, r"; write ticks.copy\(\)$"):
+            kovrelna.walk(unaligned, [0, 1, 1], 1)
+        # A copy of an output would be filled in vain.
+        with self.assertRaisesRegex(TypeError, "bytes an item$"):
+            kovrelna.walk([0, 1, 3], [0, 1, 1], 1, numpy.zeros(3, int))
+
+    def test_little_is_held(self):
+        ticks, values = numpy.arange(4096, dtype=numpy.uint32), numpy.zeros(4096, numpy.int16)
+        tracemalloc.start()
+        held = [kovrelna.walk(ticks, values, 1) for _ in range(1000)]
+        size = tracemalloc.get_traced_memory()[0]
+        tracemalloc.stop()
+        self.assertEqual(held[0].tolist(), [0, 4095])
+        self.assertLess(size, 1000 * 500)
+
     def test_wrong_arrays(self):
         for kind in ("f8", "f4", "i4", "u2", "i8", "u8", ">u4", "datetime64[s]", object, "?"):
             with self.assertRaisesRegex(TypeError, "unsigned 32-bit"):
@@ -636,7 +763,7 @@ def answer(call, *arguments):
     try:
         return call(*arguments)
     except (Refusal, reference.Refused) as refused:
-        return "refused", refused.args
+        return "refused", refused.args[:2]
 
 
 class Reference(Case):

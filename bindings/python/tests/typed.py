@@ -1,0 +1,49 @@
+"""Calls as mypy sees them, with strict types: each line that it must refuse says why. Not run."""
+
+import array
+from fractions import Fraction
+from typing import Any, Dict
+
+import kovrelna
+from kovrelna import Counts, Noise, Ratio
+
+
+class Array:
+    """As numpy's arrays are typed."""
+
+    @property
+    def __array_interface__(self) -> Dict[str, Any]:
+        return {}
+
+
+ticks, values, kept = [0, 1, 3], (0, 1, 1), range(3)
+
+kovrelna.walk(ticks, values, 1)
+kovrelna.walk(array.array("I", ticks), memoryview(b""), Fraction(1, 10), array.array("H"))
+kovrelna.gallop(Array(), Array(), Counts(2.5), Array()).kept.tolist()
+kovrelna.minimum(range(3), b"", Noise(1.5, 2.125))
+kovrelna.judge(ticks, values, kept, Ratio(1, 10)).link
+kovrelna.least(ticks, values, 2).error.denominator
+kovrelna.expand(b"", numpy=True)
+kovrelna.write(ticks, values, kept, 0.5).hex()
+kovrelna.write(ticks, values, kept, 0.5, bytearray(40), 8)
+kovrelna.read(b"", numpy=True).tolerance.denominator
+kovrelna.same(b"", bytearray()) is True
+kovrelna.hold(1).numerator
+kovrelna.__version__.split(".")
+
+kovrelna.walk("junk", values, 1)  # type: ignore[arg-type]
+kovrelna.walk(ticks, {}, 1)  # type: ignore[arg-type]
+kovrelna.walk([0.5, 1.5, 2.5], values, 1)  # type: ignore[list-item]
+kovrelna.walk(ticks, values)  # type: ignore[call-arg]
+kovrelna.walk(ticks, values, "1/10")  # type: ignore[arg-type]
+kovrelna.walk(ticks, values, (1, 10))  # type: ignore[arg-type]
+kovrelna.walk(ticks, values, 1, [0, 0, 0])  # type: ignore[arg-type]
+kovrelna.gallop(ticks, values, 1).samples  # type: ignore[attr-defined]
+kovrelna.judge(ticks, values, None, 1)  # type: ignore[arg-type]
+kovrelna.least(ticks, values, 2.0)  # type: ignore[arg-type]
+kovrelna.expand("codes")  # type: ignore[arg-type]
+kovrelna.write(ticks, values, kept, 1, place=8)  # type: ignore[call-overload]
+kovrelna.read(7)  # type: ignore[arg-type]
+kovrelna.same(b"", None)  # type: ignore[arg-type]
+kovrelna.hold(None)  # type: ignore[arg-type]
