@@ -1,7 +1,9 @@
 # Kovrelna: build, install and test. Needs the Rattle toolchain (rt) and a C compiler; the command-line tool, evidence and the
 # tests also need cargo, the tests pkg-config and Python.
 VERSION = 0.1.0
+SOURCES := crates.txt $(shell find crates -name '*.rt' -o -name '*.antt')
 ARCHIVE = target/staticlib/libkovrelna.a
+REDUCE = target/bin/reduce
 SONAME = libkovrelna.so.$(firstword $(subst ., ,$(VERSION)))
 SHARED = target/shared/libkovrelna.so.$(VERSION)
 CARGO = cargo --quiet
@@ -18,14 +20,25 @@ INCLUDEDIR = $(PREFIX)/include
 PYTHONDIR = $(LIBDIR)/kovrelna-python
 PYTHON = python3
 
-# Refuses a place that pkg-config could not name: a relative one, or one with spaces.
+# Refuses a place that pkg-config could not name, before anything is proved: a relative one, or one with spaces.
 PLACES = PREFIX BINDIR LIBDIR INCLUDEDIR PYTHONDIR
 CHECK_PLACES = $(foreach place,$(PLACES),$(if $(and $(filter 1,$(words $($(place)))),$(filter /%,$($(place)))),,\
 $(error $(place) must be an absolute path without spaces, not '$($(place))')))
+ifneq ($(filter install install-cli install-python uninstall,$(MAKECMDGOALS)),)
+$(CHECK_PLACES)
+endif
 
-# Provers that run at once in the gate: one more than processors, since they run in groups, each of which waits for its slowest;
-# at most five, each of which may need a gigabyte.
-JOBS = $(shell n=$$(nproc); if [ "$$n" -gt 4 ]; then n=4; fi; expr "$$n" + 1)
+# Provers that run at once: one more than processors, since they run in groups, each of which waits for its slowest; at most
+# five, each of which may need a gigabyte.
+ifndef RT_JOBS
+RT_JOBS := $(shell n=$$(nproc); if [ "$$n" -gt 4 ]; then n=4; fi; expr "$$n" + 1)
+endif
+export RT_JOBS
+
+# Runs rt with these words. Prints a line for each crate once it is proved; where rt fails, all that it has said.
+RT = log=$$(mktemp); trap 'rm -f "$$log" "$$log.status"' EXIT; \
+{ rt $(1) 2>&1; echo $$? >"$$log.status"; } | tee "$$log" | sed -un '/^rt:/p'; \
+if [ "$$(cat "$$log.status")" -ne 0 ]; then cat "$$log"; exit 1; fi
 
 # The gate's run of evidence: about 6 seconds.
 GATE_EVIDENCE = --cases 30000 --seed 1
@@ -36,8 +49,12 @@ EVIDENCE = $(CARGO) run $(CARGO_FLAGS) --release --package kovrelna-evidence --
 # Prove the library and write the archive that programs link.
 lib: $(ARCHIVE)
 
-$(ARCHIVE): crates.txt $(shell find crates -name '*.rt' -o -name '*.antt')
-	@rt staticlib kovrelna
+$(ARCHIVE): $(SOURCES)
+	@$(call RT,staticlib kovrelna)
+	@touch $@
+
+$(REDUCE): $(SOURCES)
+	@$(call RT,check reduce)
 	@touch $@
 
 # The shared library, from the archive.
@@ -52,7 +69,6 @@ $(SHARED): $(ARCHIVE) bindings/c/kovrelna.map Makefile
 
 # Header, both libraries and the pkg-config file, below DESTDIR where that is given.
 install: $(SHARED)
-	@$(CHECK_PLACES)
 	@install -d "$(DESTDIR)$(INCLUDEDIR)" "$(DESTDIR)$(LIBDIR)/pkgconfig"
 	@install -m 644 bindings/c/kovrelna.h "$(DESTDIR)$(INCLUDEDIR)"
 	@install -m 644 $(ARCHIVE) "$(DESTDIR)$(LIBDIR)"
@@ -64,7 +80,6 @@ install: $(SHARED)
 	@chmod 644 "$(DESTDIR)$(LIBDIR)/pkgconfig/kovrelna.pc"
 
 uninstall:
-	@$(CHECK_PLACES)
 	@rm -f "$(DESTDIR)$(BINDIR)/kovrelna" "$(DESTDIR)$(INCLUDEDIR)/kovrelna.h" "$(DESTDIR)$(LIBDIR)/pkgconfig/kovrelna.pc"
 	@for name in a so $(patsubst libkovrelna.%,%,$(SONAME) $(notdir $(SHARED))); do \
 	rm -f "$(DESTDIR)$(LIBDIR)/libkovrelna.$$name"; done
@@ -76,13 +91,11 @@ cli: lib
 	@$(CARGO) build $(CARGO_FLAGS) --release --package kovrelna-cli
 
 install-cli: cli
-	@$(CHECK_PLACES)
 	@install -d "$(DESTDIR)$(BINDIR)"
 	@install -m 755 bindings/rust/target/release/kovrelna "$(DESTDIR)$(BINDIR)"
 
 # The Python module, with the shared library beside it.
 install-python: $(SHARED)
-	@$(CHECK_PLACES)
 	@install -d "$(DESTDIR)$(PYTHONDIR)/kovrelna"
 	@install -m 644 bindings/python/kovrelna/*.py bindings/python/kovrelna/py.typed "$(DESTDIR)$(PYTHONDIR)/kovrelna"
 	@install -m 755 $(SHARED) "$(DESTDIR)$(PYTHONDIR)/kovrelna/$(SONAME)"
@@ -94,27 +107,25 @@ evidence: lib
 	$(if $(CASE),--case $(CASE))
 
 # Reduce the samples of a shipped record.
-example:
-	@rt check reduce >/dev/null
-	@target/bin/reduce <examples/wave.record
+example: $(REDUCE)
+	@$(REDUCE) <examples/wave.record
 
 # Prove everything from nothing, try the edits that must fail, and run every test. The last line is rt ci's.
 test:
 	@rt fmt --check
-	@log=$$(mktemp); trap 'rm -f "$$log"' EXIT; \
-	if ! RT_JOBS=$(JOBS) rt ci >"$$log" 2>&1; then cat "$$log"; exit 1; fi; \
-	grep '^rt:' "$$log"; \
-	rt staticlib kovrelna >/dev/null && rt check reduce >/dev/null && make --no-print-directory test-rust test-c test-install test-python && tail -n 1 "$$log"
+	@$(call RT,ci); tail -n 1 "$$log" >target/verdict
+	@$(MAKE) --no-print-directory test-rust test-c test-install test-python
+	@cat target/verdict
 
 # The Rust tests, which run the program reduce too, and the example, which prints what the C example prints.
-test-rust:
+test-rust: $(ARCHIVE) $(REDUCE)
 	@$(CARGO) test $(CARGO_FLAGS) --release --workspace --lib --tests
 	@$(CARGO) test $(CARGO_FLAGS) --release --workspace --doc
 	@$(EVIDENCE) $(GATE_EVIDENCE)
 	@$(CARGO) run $(CARGO_FLAGS) --release --package kovrelna --example reduce | diff bindings/c/example.txt -
 
 # The C test, also as C++ and under sanitizers where there are compilers for it.
-test-c:
+test-c: $(ARCHIVE)
 	@$(CC) -std=c99 $(C_FLAGS) bindings/c/test.c $(ARCHIVE) -o target/test-c && target/test-c
 	@if command -v $(CXX) >/dev/null; then \
 	$(CXX) -x c++ -std=c++11 $(C_FLAGS) bindings/c/test.c -x none $(ARCHIVE) -o target/test-c++ && target/test-c++; fi
@@ -126,12 +137,9 @@ test-c:
 test-install: $(SHARED)
 	@CC="$(CC)" PYTHON="$(PYTHON)" bindings/c/test-install.sh $(VERSION)
 
-# The tests of the Python module, and its example.
-test-python: export KOVRELNA_LIBRARY = $(CURDIR)/$(SHARED)
-test-python: export PYTHONPATH = bindings/python
+# The tests of the Python module, its example and its types, with numpy and without.
 test-python: $(SHARED)
-	@$(PYTHON) -B -W error -m unittest discover -q -s bindings/python/tests
-	@$(PYTHON) -B bindings/python/example.py | diff bindings/python/example.txt -
+	@KOVRELNA_LIBRARY="$(CURDIR)/$(SHARED)" PYTHON="$(PYTHON)" bindings/python/test.sh
 
 # Time the calls beside plain C and compare what the reductions keep; count instructions where valgrind is present.
 bench: lib

@@ -2,7 +2,8 @@
 # Installs into a temporary place, builds example.c there through pkg-config, with the shared
 # library and with the archive, and compares what it prints with example.txt; the same with the
 # Python example. Then checks what the shared library exports, that every version is the same, that
-# unfit places are refused, and that make uninstall leaves nothing.
+# the header's words are the README's, that unfit places are refused, and that make uninstall leaves
+# nothing.
 # Run from the repository's root: test-install.sh VERSION.
 set -eu
 version=$1
@@ -37,11 +38,29 @@ env -u KOVRELNA_LIBRARY PYTHONPATH="$prefix/lib/kovrelna-python" \
 closed=$(find "$prefix" ! -type l ! -perm -444)
 [ -z "$closed" ] || fail "not everybody may read $closed"
 
+# Refused at once: before anything is built.
 for place in relative "$work/a space" ""; do
-  if make --no-print-directory install PREFIX="$place" >/dev/null 2>&1; then
-    fail "PREFIX='$place' is not refused"
-  fi
+  for goal in install install-cli install-python uninstall; do
+    told=$(make --no-print-directory -n "$goal" PREFIX="$place" ARCHIVE="$work/none" 2>&1 || true)
+    [ "${told#*PREFIX must be an absolute path}" != "$told" ] && [ "$(echo "$told" | wc -l)" = 1 ] \
+      || fail "make $goal PREFIX='$place' is not refused at once: $told"
+  done
 done
+
+# The causes in words: those of the README's table of refusals.
+cat >"$work/causes.c" <<'END'
+#include <kovrelna.h>
+#include <stdio.h>
+int main(void) {
+  uint32_t number;
+  for (number = 1; number <= KOVRELNA_REFUSED_ROOM; number++)
+    printf("%u: %s\n", (unsigned)number, kovrelna_cause(number));
+  return 0;
+}
+END
+${CC:-cc} $cflags "$work/causes.c" -o "$work/causes"
+sed -n 's/`//g; s/^| \([0-9]*\) | \([^|]*\) | [^|]* |$/\1: \2/p' README.md >"$work/causes.txt"
+"$work/causes" | diff "$work/causes.txt" - || fail "the header has other causes than README.md"
 
 # Exported: what the header declares. Needed from outside: no allocation.
 sed -n 's/^kovrelna_[a-z]* \(kovrelna_[a-z]*\)(.*/\1/p' "$prefix/include/kovrelna.h" | sort \
@@ -51,9 +70,13 @@ diff "$work/declared" "$work/exported" || fail "the header declares other calls 
 nm -D --undefined-only "$prefix/lib/libkovrelna.so" | sed 's/@.*//' >"$work/needed"
 if grep -wE 'malloc|calloc|realloc|free' "$work/needed"; then fail "the library allocates"; fi
 
-for file in bindings/rust/Cargo.toml bindings/python/pyproject.toml; do
-  grep -qx "version = \"$version\"" "$file" || fail "$file has another version than $version"
+# stated FILE LINE: the file has this line, which names the version.
+stated() { grep -qxF "$2" "$1" || fail "$1 has another version than $version: it has no line $2"; }
+for file in bindings/rust/Cargo.toml bindings/rust/*/Cargo.toml; do
+  stated "$file" "version = \"$version\""
 done
+stated bindings/python/kovrelna/__init__.py "__version__ = \"$version\""
+stated bindings/c/kovrelna.h "#define KOVRELNA_VERSION \"$version\""
 
 make --no-print-directory install install-python DESTDIR="$work/stage" PREFIX=/opt/kovrelna >/dev/null
 files "$prefix" >"$work/installed"
