@@ -14,8 +14,8 @@ import ctypes
 import importlib
 import operator
 import sys
-from typing import TYPE_CHECKING, Any, Dict, List, NamedTuple, Optional, Protocol, Sequence
-from typing import SupportsIndex, Tuple, Union
+from typing import TYPE_CHECKING, Any, Dict, FrozenSet, List, NamedTuple, Optional, Protocol
+from typing import Sequence, SupportsIndex, Tuple, Union
 
 if TYPE_CHECKING:
     from _typeshed import ReadableBuffer, WriteableBuffer
@@ -36,12 +36,14 @@ Numbers = Any
 
 
 class Item(NamedTuple):
-    """An element: the type code of module array, bytes, the least and the greatest number."""
+    """An element: the type code of module array, bytes, the least and the greatest number, and the
+    formats of buffers that have such elements."""
 
     code: str
     size: int
     least: int
     most: int
+    formats: FrozenSet[str]
 
     def __str__(self) -> str:
         kind = "unsigned" if self.least == 0 else "signed"
@@ -55,19 +57,18 @@ class Item(NamedTuple):
 
     def fits(self, view: memoryview) -> bool:
         """Whether the elements of the buffer are such ones, in this machine's byte order."""
-        codes = set("BHILQN" if self.least == 0 else "bhilqn")
-        if self == BYTE:
-            codes.add("c")
-        return view.format.lstrip(ORDERS) in codes and view.itemsize == self.size
+        return view.itemsize == self.size and view.format.lstrip(ORDERS) in self.formats
 
 
 # The prefixes of a format that mean this machine's byte order.
 ORDERS = "@=<" if sys.byteorder == "little" else "@=>!"
 
-TICK = Item("I", 4, 0, 2**32 - 1)
-VALUE = Item("h", 2, -(2**15), 2**15 - 1)
-ENTRY = Item("H", 2, 0, 2**16 - 1)
-BYTE = Item("B", 1, 0, 2**8 - 1)
+UNSIGNED, SIGNED = frozenset("BHILQN"), frozenset("bhilqn")
+
+TICK = Item("I", 4, 0, 2**32 - 1, UNSIGNED)
+VALUE = Item("h", 2, -(2**15), 2**15 - 1, SIGNED)
+ENTRY = Item("H", 2, 0, 2**16 - 1, UNSIGNED)
+BYTE = Item("B", 1, 0, 2**8 - 1, UNSIGNED | {"c"})
 
 # No call takes more elements of a list: one that has more is refused as its beginning is.
 MOST = 2**16
@@ -100,19 +101,15 @@ _release_buffer.restype = None
 
 
 class Borrowed(NamedTuple):
-    """A list that is lent. The buffer of an empty one has no address."""
+    """A list that is lent, from the address `start` to the address `end`."""
 
     name: str
     item: Item
-    view: memoryview
-    buffer: _Buffer
     output: bool
-
-    def overlaps(self, other: "Borrowed") -> bool:
-        if not (self.buffer.buf and other.buffer.buf):
-            return False
-        ends = [lent.buffer.buf + lent.buffer.len for lent in (self, other)]
-        return bool(self.buffer.buf < ends[1] and other.buffer.buf < ends[0])
+    view: memoryview
+    buffer: Optional[_Buffer] = None
+    start: int = 0
+    end: int = 0
 
 
 class Loan:
@@ -126,7 +123,8 @@ class Loan:
 
     def __exit__(self, *exception: object) -> None:
         for lent in self.lists:
-            _release_buffer(ctypes.byref(lent.buffer))
+            if lent.buffer is not None:
+                _release_buffer(lent.buffer)
             lent.view.release()
 
     def input(self, name: str, given: Any, item: Item) -> Tuple[Optional[int], int]:
@@ -146,20 +144,24 @@ class Loan:
         return view.cast("B").cast(item.code) if len(view) else view
 
     def _lend(self, name: str, given: Any, item: Item, output: bool) -> Tuple[Optional[int], int]:
-        lent = Borrowed(name, item, _view(name, given, item, output), _Buffer(), output)
-        self.lists.append(lent)
-        if len(lent.view) == 0:
+        view = _view(name, given, item, output)
+        length = len(view)
+        if length == 0:
+            self.lists.append(Borrowed(name, item, output, view))
             return None, 0
-        buffer = lent.buffer
-        _get_buffer(lent.view, ctypes.byref(buffer), _SIMPLE)
-        if buffer.buf % item.size != 0:
+        buffer = _Buffer()
+        _get_buffer(view, buffer, _SIMPLE)
+        start = buffer.buf
+        end = start + length * item.size
+        self.lists.append(Borrowed(name, item, output, view, buffer, start, end))
+        if start % item.size != 0:
             copied = f"; write {name}.copy()" if _is_numpy(given) and not output else ""
-            start = f"{name} must begin at a multiple of {item.size} bytes in memory"
-            raise ValueError(start + copied)
+            fault = f"{name} must begin at a multiple of {item.size} bytes in memory"
+            raise ValueError(fault + copied)
         for other in self.lists[:-1]:
-            if (output or other.output) and lent.overlaps(other):
+            if (output or other.output) and start < other.end and other.start < end:
                 raise ValueError(f"{name} and {other.name} overlap in memory")
-        return buffer.buf, len(lent.view)
+        return start, length
 
 
 def _view(name: str, given: Any, item: Item, output: bool) -> memoryview:

@@ -57,6 +57,8 @@ def _form(tolerance: Any) -> Union[Ratio, Counts, Noise]:
 
 
 def lend(tolerance: Tolerance) -> _library.Tolerance:
+    if type(tolerance) is float:
+        return _library.Tolerance(1, 0, 0, tolerance, 0.0)
     form = _form(tolerance)
     if isinstance(form, Ratio):
         p, q = operator.index(form.p), operator.index(form.q)
