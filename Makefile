@@ -141,8 +141,10 @@ test-install: $(SHARED)
 test-python: $(SHARED)
 	@KOVRELNA_LIBRARY="$(CURDIR)/$(SHARED)" PYTHON="$(PYTHON)" bindings/python/test.sh
 
-# Time the calls beside plain C and compare what the reductions keep; count instructions where valgrind is present.
-bench: lib
+# Time the calls beside plain C and compare what the reductions keep; count instructions where valgrind is present; then the
+# summary, with the times from Python.
+bench: $(SHARED)
 	@$(CC) -std=c99 $(C_FLAGS) $(BENCH_FLAGS) -DFLAGS='"$(CC) $(BENCH_FLAGS)"' bench/bench.c bench/peers.c $(ARCHIVE) -o target/bench
 	@target/bench
 	@bench/instructions.sh target/bench
+	@echo; KOVRELNA_LIBRARY="$(CURDIR)/$(SHARED)" PYTHONPATH=bindings/python $(PYTHON) -B bench/python.py target/bench

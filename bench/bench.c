@@ -2,6 +2,9 @@
  *
  * bench: prints a table of times for each call, and the kept numbers.
  * bench kept: prints the kept numbers.
+ * bench summary: prints each call's microseconds and its ratio to C on the pulse trace at tolerance
+ *   7.5, with walk's list; for least with allowance 20.
+ * bench trace, bench part: prints that trace, and the part of it for least.
  * bench once KIND FUNCTION: calls one function once, so that instructions can be counted. */
 #define _POSIX_C_SOURCE 199309L
 #include "kovrelna.h"
@@ -195,8 +198,7 @@ static void measure(row *r, size_t kind, const int64_t *tolerance) {
 
 /* ---- Records, lists and codes ---- */
 
-/* The longest record has 24,589 bytes. */
-enum { BYTES = 24589, RECORD_CALLS = 20 };
+enum { BYTES = KOVRELNA_RECORD_MAX, RECORD_CALLS = 20 };
 
 /* A kept list of a trace and its record; codes and their values. */
 typedef struct kept_record {
@@ -296,10 +298,31 @@ static int is_read(const kept_record *r) {
   return 1;
 }
 
+/* Times every call on the record of all samples or of walk's list. */
+static void measure_records(kept_record *r, size_t kind, int all) {
+  static uint8_t bytes[BYTES];
+  int repetition, x, k;
+  make_record(r, kind, all, plain_write);
+  memcpy(bytes, r->bytes, r->length);
+  for (repetition = 0; repetition < REPETITIONS; repetition++) {
+    for (x = 0; x < RECORDERS; x++) {
+      size_t answer = 0;
+      double start;
+      if (x == WRITE || x == WRITE_C) memset(r->bytes, 0, BYTES);
+      if (x == READ || x == READ_C) memset(r->read_ticks, 0, sizeof(r->read_ticks));
+      start = now();
+      for (k = 0; k < RECORD_CALLS; k++) answer = RECORDER[x].call(r);
+      record_times[x][repetition] = 1e-3 * (now() - start) / RECORD_CALLS;
+      if (answer != expected(r, x) || memcmp(r->bytes, bytes, r->length) != 0 ||
+          ((x == READ || x == READ_C) && !is_read(r)))
+        fail("a call does not answer as its peer does");
+    }
+  }
+}
+
 static void print_records(void) {
   static kept_record r;
-  static uint8_t bytes[BYTES];
-  int repetition, x, k, all;
+  int x, all;
   size_t kind;
   printf("\nWalk's list and all samples at tolerance 7.50: written to a record, read, judged;\n"
          "and %d range codes expanded. Microseconds a call.\n"
@@ -308,22 +331,7 @@ static void print_records(void) {
          SAMPLES);
   for (kind = 0; kind < COUNT(KINDS); kind++) {
     for (all = 0; all <= 1; all++) {
-      make_record(&r, kind, all, plain_write);
-      memcpy(bytes, r.bytes, r.length);
-      for (repetition = 0; repetition < REPETITIONS; repetition++) {
-        for (x = 0; x < RECORDERS; x++) {
-          size_t answer = 0;
-          double start;
-          if (x == WRITE || x == WRITE_C) memset(r.bytes, 0, BYTES);
-          if (x == READ || x == READ_C) memset(r.read_ticks, 0, sizeof(r.read_ticks));
-          start = now();
-          for (k = 0; k < RECORD_CALLS; k++) answer = RECORDER[x].call(&r);
-          record_times[x][repetition] = 1e-3 * (now() - start) / RECORD_CALLS;
-          if (answer != expected(&r, x) || memcmp(r.bytes, bytes, r.length) != 0 ||
-              ((x == READ || x == READ_C) && !is_read(&r)))
-            fail("a call does not answer as its peer does");
-        }
-      }
+      measure_records(&r, kind, all);
       printf("%-8s %7zu %7zu", KINDS[kind], r.kept, r.length);
       for (x = 0; x < RECORDERS; x += 2)
         printf(" %9.2f %7.2f %7.2f", median_of(record_times[x], NULL, REPETITIONS),
@@ -520,7 +528,54 @@ static void print_kept(void) {
   }
 }
 
+/* ---- Summary ---- */
+
+/* One line of the summary: the call, its microseconds and its ratio to C. */
+static void print_line(const char *name, double microseconds, double ratio) {
+  printf("%s %.3f %.2f\n", name + strlen("kovrelna_"), microseconds, ratio);
+}
+
+/* Walk on two samples. */
+static void print_shortest(void) {
+  enum { MANY = 1000 };
+  static double times[2][REPETITIONS];
+  int repetition, x, k;
+  for (repetition = 0; repetition < REPETITIONS; repetition++) {
+    for (x = WALK; x <= WALK_C; x++) {
+      double start = now();
+      for (k = 0; k < MANY; k++) REDUCER[x].call(ticks, values[0], 2, 15, 2, lists[x]);
+      times[x][repetition] = 1e-3 * (now() - start) / MANY;
+    }
+  }
+  print_line("kovrelna_shortest", median_of(times[WALK], NULL, REPETITIONS),
+             median_of(times[WALK], times[WALK_C], REPETITIONS));
+}
+
+static void print_summary(void) {
+  static kept_record r;
+  least_row least;
+  int x;
+  measure(&rows[0], 0, TOLERANCES[1]);
+  for (x = WALK; x <= MINIMUM; x += 2)
+    print_line(REDUCER[x].name, 1e-3 * SAMPLES * median(&rows[0], x, -1),
+               median(&rows[0], x, x + 1));
+  least = measure_least(0, 20);
+  print_line(LEASTER[LEAST].name, 1e3 * least.times[LEAST], least.ratio);
+  measure_records(&r, 0, 0);
+  for (x = 0; x < RECORDERS; x += 2)
+    print_line(RECORDER[x].name, median_of(record_times[x], NULL, REPETITIONS),
+               median_of(record_times[x], record_times[x + 1], REPETITIONS));
+  print_shortest();
+}
+
+/* A line for each sample. */
+static void print_trace(const uint32_t *tick, const int16_t *value, size_t samples) {
+  size_t k;
+  for (k = 0; k < samples; k++) printf("%lu %d\n", (unsigned long)tick[k], value[k]);
+}
+
 int main(int argc, char **argv) {
+  const char *what = argc == 2 ? argv[1] : "";
   size_t kind, t;
   int x;
   make_traces();
@@ -541,10 +596,10 @@ int main(int argc, char **argv) {
     }
     return 0;
   }
-  if (argc == 2 && strcmp(argv[1], "kept") == 0) {
-    print_kept();
-    return 0;
-  }
+  if (strcmp(what, "kept") == 0) return print_kept(), 0;
+  if (strcmp(what, "summary") == 0) return print_summary(), 0;
+  if (strcmp(what, "trace") == 0) return print_trace(ticks, values[0], SAMPLES), 0;
+  if (strcmp(what, "part") == 0) return print_trace(few_ticks[0], few_values[0], FEW), 0;
   for (kind = 0; kind < COUNT(KINDS); kind++)
     for (t = 0; t < COUNT(TOLERANCES); t++)
       measure(&rows[kind * COUNT(TOLERANCES) + t], kind, TOLERANCES[t]);

@@ -1,0 +1,80 @@
+"""Times the Python module beside the library: prints the summary table of docs/SPEED.md.
+
+Run from the repository's root: python.py BENCH, where BENCH is the program of bench.c, whose summary
+is taken. From Python the same calls are made with arrays of module array, and make their outputs.
+"""
+
+import statistics
+import subprocess
+import sys
+import time
+from array import array
+
+import kovrelna
+
+
+def lines(mode):
+    """What the program prints in this mode, each line split."""
+    ran = subprocess.run([sys.argv[1], mode], stdout=subprocess.PIPE, check=True)
+    return [line.split() for line in ran.stdout.decode().splitlines()]
+
+
+def trace(mode):
+    """Ticks and values."""
+    columns = zip(*lines(mode))
+    return [array(code, map(int, column)) for code, column in zip("Ih", columns)]
+
+
+def microseconds(call, *arguments):
+    """The processor's time of a call: the median, over at least 0.4 seconds."""
+    start, calls = time.process_time(), 0
+    while time.process_time() - start < 0.02:
+        call(*arguments)
+        calls += 1
+    times = []
+    for _ in range(21):
+        start = time.process_time()
+        for _ in range(calls):
+            call(*arguments)
+        times.append(1e6 * (time.process_time() - start) / calls)
+    return statistics.median(times)
+
+
+def shown(number):
+    """Microseconds, or milliseconds, with about three digits."""
+    unit = "µs"
+    if number >= 1000:
+        number, unit = number / 1000, "ms"
+    return f"{number:.3g} {unit}"
+
+
+def main():
+    ticks, values = whole = trace("trace")
+    part = trace("part")
+    kept = kovrelna.walk(ticks, values, 7.5)
+    record = kovrelna.write(ticks, values, kept, 7.5)
+    codes = bytes((7 * k + value) % 256 for k, value in enumerate(values))
+    two = [numbers[:2] for numbers in whole]
+    samples = f"{len(ticks):,} samples, tolerance 7.5"
+    listed = f"a list of {len(kept)} of {len(ticks):,} samples"
+    calls = {
+        "walk": (samples, kovrelna.walk, *whole, 7.5),
+        "gallop": (samples, kovrelna.gallop, *whole, 7.5),
+        "minimum": (samples, kovrelna.minimum, *whole, 7.5),
+        "least": (f"{len(part[0])} samples, allowance 20", kovrelna.least, *part, 20),
+        "judge": (listed, kovrelna.judge, *whole, kept, 7.5),
+        "write": (listed, kovrelna.write, *whole, kept, 7.5),
+        "read": (f"a record of {len(kept)} samples", kovrelna.read, record),
+        "expand": (f"{len(codes):,} codes", kovrelna.expand, codes),
+        "shortest": ("2 samples", kovrelna.walk, *two, 7.5),
+    }
+    measured = {name: map(float, numbers) for name, *numbers in lines("summary")}
+    print("| Call | Input | Library | × C | From Python |\n|---|---|---|---|---|")
+    for name, (given, call, *arguments) in calls.items():
+        time_of, ratio = measured[name]
+        python = microseconds(call, *arguments)
+        name = call.__name__
+        print(f"| {name} | {given} | {shown(time_of)} | {ratio:.2f} | {shown(python)} |")
+
+
+main()
