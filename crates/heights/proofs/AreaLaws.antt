@@ -81,11 +81,11 @@ module _ (ts : List ℕ) (vs : List ℤ) (i j d : ℕ) (some : 1 ≤ d) (rises :
       let g = link-num ts vs i j a d from (omega arith) (offset-of-diff vs i) (offset-of-diff vs j) in
       let h = link-num ts vs i j m d (omega arith) (omega arith) (offset-of-diff vs i) (offset-of-diff vs j) in
       let k = link-num ts vs i j b d (omega arith) to (offset-of-diff vs i) (offset-of-diff vs j) in
-      let whole = alike (times (plus (times g e) (times k e)) (b - a)) (plus (times (plus (times g e) (times h e)) (m - a)) (times (plus (times h e) (times k e)) (b - m)))
+      let adds = alike (times (plus (times g e) (times k e)) (b - a)) (plus (times (plus (times g e) (times h e)) (m - a)) (times (plus (times h e) (times k e)) (b - m)))
       (trapezoids _ _ _ _ _ _ _ _ (omega arith)
       (straight-line (offsetOf vs i) (offsetOf vs j) (a - d * tick ts i) (m - a) (b - m) (d * tick ts j - b)
       {u = m - d * tick ts i} {s = d * tick ts j - m} {v = d * tick ts j - a} {r = b - d * tick ts i} (omega arith) (omega arith) (omega arith) (omega arith))) in
-      rw whole (same-sum (areaUnder ts vs i j a m d .num) (areaUnder ts vs i j m b d .num) _ (under-positive a b))
+      rw adds (same-sum (areaUnder ts vs i j a m d .num) (areaUnder ts vs i j m b d .num) _ (under-positive a b))
 
   -- a stretch of the link, clipped to two parts of it
   clipped-parts : (from m to a b : ℕ) → d * tick ts i ≤ from → from ≤ m → m ≤ to → to ≤ d * tick ts j → a ≤ b

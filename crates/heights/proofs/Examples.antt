@@ -9,7 +9,7 @@ use Rattle.kept.specs.Kept.{AllValid}
 use Rattle.trace.specs.declared.Criterion.{Criterion}
 use Rattle.trace.specs.Link.{deviation, within, allFrom, valid}
 use Rattle.heights.specs.Heights.{Fraction, linkAt, lineFrom, lineAt, samplesAfter, everySample, traceAt, Equals, joined, peak, trough, height}
-use Rattle.heights.specs.Windows.{summed, multiplied, sumAt, meanAt, clipped, areaUnder, areaFrom, areaOf, meanOver, baselineHeight}
+use Rattle.heights.specs.Windows.{summed, multiplied, sumAt, meanAt, clipped, areaUnder, areaFrom, areaOf, meanOver, baselineHeight, baselineDepth}
 
 abbrev five : List ℕ
 five = 0 ∷ 1 ∷ 2 ∷ 3 ∷ 4 ∷ []
@@ -135,3 +135,29 @@ dip-baseline-over : Equals (baselineHeight dip (0 ∷ 7 ∷ []) (meanOver eight 
     × Equals (baselineHeight dip (everySample 7) (meanOver eight dip (everySample 7) 1 4 1)) (pos 4)
 unfolding samplesAfter linkAt joined summed multiplied clipped areaUnder areaFrom
 dip-baseline-over = computed (omega arith) refl refl
+
+-- ---- upside down: the mean of the window 1 .. 4 minus the least value is 2 too large, and 4 too small
+
+abbrev basin : List ℤ
+basin = pos 0 ∷ negsuc 1 ∷ negsuc 1 ∷ negsuc 1 ∷ negsuc 1 ∷ pos 0 ∷ negsuc 8 ∷ []
+
+basin-within : AllValid (valid seven basin two) (0 ∷ 5 ∷ 6 ∷ [])
+unfolding valid allFrom within deviation
+basin-within = (refl, (refl, tt))
+
+basin-depth : Equals (baselineDepth basin (0 ∷ 5 ∷ 6 ∷ []) (meanAt (lineAt seven basin (0 ∷ 5 ∷ 6 ∷ [])) 1 4)) (pos 9)
+    × Equals (baselineDepth basin (everySample 6) (meanAt (traceAt seven basin) 1 4)) (pos 7)
+unfolding samplesAfter lineFrom linkAt joined summed multiplied sumAt
+basin-depth = computed (omega arith) refl refl
+
+abbrev hump : List ℤ
+hump = pos 0 ∷ pos 2 ∷ pos 2 ∷ pos 2 ∷ pos 2 ∷ pos 0 ∷ negsuc 1 ∷ pos 0 ∷ []
+
+hump-within : AllValid (valid eight hump two) (0 ∷ 7 ∷ [])
+unfolding valid allFrom within deviation
+hump-within = (refl, tt)
+
+hump-depth : Equals (baselineDepth hump (0 ∷ 7 ∷ []) (meanAt (lineAt eight hump (0 ∷ 7 ∷ [])) 1 4)) (pos 0)
+    × Equals (baselineDepth hump (everySample 7) (meanAt (traceAt eight hump) 1 4)) (pos 4)
+unfolding samplesAfter lineFrom linkAt joined summed multiplied sumAt
+hump-depth = computed (omega arith) refl refl
