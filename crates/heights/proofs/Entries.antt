@@ -1,12 +1,15 @@
 -- The entries of a list, and the list of all samples, which is a kept list.
 -- Assumes nothing.
-use mathlib.Core.Path.{_≡_, refl, _∙_}
+use mathlib.Core.Path.{_≡_, refl, _∙_, ap}
 use mathlib.Core.Logic.{_⊎_, inl, inr, ⊎-elim}
 use mathlib.Core.List.{List, [], _∷_}
 use Prim.Native.Nat.{ℕ, zero, suc, _+_, _≤_, _<_}
 use native.Mathlib.Nat.{eq-or-lt-of-le}
 use native.Mathlib.Omega.{arith}
+use lib.ListN.{length, getD}
+use borrow.Author.Tests.{lt-ltb}
 use Rattle.kept.specs.Kept.{LinksFrom, EachLink, final, KeptList}
+use Rattle.kept.specs.Stops.{stops, listBy}
 use Rattle.kept.proofs.KeptLaws.{rise-le}
 use Rattle.heights.specs.Heights.{samplesAfter, everySample}
 
@@ -50,3 +53,29 @@ after-entry (suc n) i k l u = ⊎-elim (λ e. inl (omega arith)) (λ m. inr (aft
 
 pub every-entry : (last k : ℕ) → k ≤ last → Entry k (everySample last)
 every-entry last k h = after-entry last 0 k (omega arith) (omega arith)
+
+after-length : (n i : ℕ) → length (samplesAfter i n) ≡ n
+unfolding samplesAfter
+after-length zero i = refl
+after-length (suc n) i = ap suc (after-length n (suc i))
+
+pub every-length : (last : ℕ) → length (everySample last) ≡ suc last
+every-length last = ap suc (after-length last 0)
+
+after-at : (n i k : ℕ) → k ≤ n → getD (i ∷ samplesAfter i n) k 0 ≡ i + k
+unfolding samplesAfter
+after-at n i zero h = omega arith
+after-at zero i (suc k) h = absurd (omega arith)
+after-at (suc n) i (suc k) h = after-at n (suc i) k (omega arith) ∙ omega arith
+
+pub every-at : (last k : ℕ) → k ≤ last → getD (everySample last) k 0 ≡ k
+every-at last k h = after-at last 0 k h ∙ omega arith
+
+-- from each sample to the next
+after-stops : (n i last : ℕ) → i + n ≡ last → stops suc last i n ≡ samplesAfter i n
+unfolding stops samplesAfter
+after-stops zero i last e = refl
+after-stops (suc n) i last e = rw (lt-ltb i last (omega arith), after-stops n (suc i) last (omega arith))
+
+pub every-stops : (last : ℕ) → listBy suc last ≡ everySample last
+every-stops last = rw (after-stops last 0 last (omega arith))

@@ -1,3 +1,4 @@
 -- What follows from the contracts of the public calls.
 pub mod Heights
 pub mod Nearness
+pub mod NoFactor

@@ -1,2 +1,3 @@
 -- The definitions of the crate `promises`.
 pub mod Nearness
+pub mod NoFactor
