@@ -1,8 +1,8 @@
--- Laws of selected samples: those that a kept list selects of a trace are themselves a trace.
+-- Laws of the samples that a kept list selects of a trace, as the writer takes them.
 -- Assumes nothing.
-use mathlib.Core.Path.{_≡_, sym, ap, _∙_}
-use mathlib.Core.List.{List, [], _∷_}
-use Prim.Native.Nat.{ℕ, suc, _+_, _-_, _≤_, _<_}
+use mathlib.Core.Path.{sym, _∙_}
+use mathlib.Core.List.{List}
+use Prim.Native.Nat.{ℕ, _+_, _-_, _≤_, _<_}
 use native.Mathlib.Nat.{one-mul}
 use native.Mathlib.Numerals.{add-one}
 use native.Mathlib.Omega.{arith}
@@ -11,32 +11,23 @@ use lib.ListN.{length, getD}
 use lib.Signed.{mag}
 use Rattle.lists.proofs.SelectLaws.{select-length, select-at, select-all}
 use Rattle.ratio.specs.declared.Ratio.{Ratio}
-use Rattle.kept.specs.Kept.{KeptList}
-use Rattle.kept.proofs.KeptLaws.{kept-length, kept-links, links-at, kept-inside}
+use Rattle.kept.proofs.KeptLaws.{kept-length, kept-inside}
+use Rattle.kept.proofs.SelectedLists.{kept-some}
 use Rattle.trace.specs.declared.Start.{Start}
 use Rattle.trace.specs.Trace.{tick, value, Trace}
 use Rattle.trace.specs.Level.{level}
 use Rattle.trace.specs.Edge.{StartAt}
-use Rattle.trace.proofs.Ticks.{later, span-bound}
+use Rattle.trace.proofs.Ticks.{span-bound}
+use Rattle.trace.proofs.SelectedTrace.{selected-trace}
 use Rattle.trace.proofs.Level.{short}
 use Rattle.tolerance.specs.Meaning.{Held}
 use Rattle.format.specs.Format.{Legal}
 use Rattle.writer.specs.Writing.{Kept, keptTicks, keptValues, selected, SampleAt, SampleOk, StepBetween}
 use Rattle.writer.specs.declared.Sample.{Sample}
 
--- ---- a kept list
-
-kept-some : (last : ℕ) (l : List ℕ) → KeptList last l → 1 ≤ length l
-kept-some last [] k = absurd (k .spans)
-kept-some last (i ∷ s) k = omega arith
-
-kept-first : (last : ℕ) (l : List ℕ) → KeptList last l → getD l 0 0 ≡ 0
-kept-first last [] k = absurd (k .spans)
-kept-first last (i ∷ s) k = k .spans .0
-
 module _ {ts : List ℕ} {vs : List ℤ} {l : List ℕ} (kept : Kept ts vs l) where
   pub list-some : 1 ≤ length l
-  list-some = kept-some (length ts - 1) l (kept .list)
+  list-some = kept-some l (kept .list)
 
   pub list-few : length l ≤ 4096
   list-few = omega (arith, kept-length (length ts - 1) l (kept .list), kept .trace .few, kept .trace .some)
@@ -46,31 +37,13 @@ module _ {ts : List ℕ} {vs : List ℤ} {l : List ℕ} (kept : Kept ts vs l) wh
 
   -- ---- the kept samples
 
-  rises : (k : ℕ) → suc k < length l → tick (keptTicks ts l) k < tick (keptTicks ts l) (suc k)
-  rises k h =
-      let e = links-at (λ i j. (i < j) × (j ≤ length ts - 1)) l (kept-links (length ts - 1) l (kept .list)) k h in
-      rw (select-at 0 ts l k (omega arith), select-at 0 ts l (suc k) h) (later (kept .trace .rising) (getD l (suc k) 0) (e .0) (entry-inside (suc k) h))
-
-  span : tick (keptTicks ts l) (length l - 1) ≤ tick (keptTicks ts l) 0 + 1048575
-  span =
-      let n = list-some in
-      let z : tick ts (getD l 0 0) ≡ tick ts 0 = ap (tick ts) (kept-first (length ts - 1) l (kept .list)) in
-      rw (select-at 0 ts l (length l - 1) (omega arith), select-at 0 ts l 0 (omega arith), z)
-      (omega (arith, span-bound (kept .trace) 0 (getD l (length l - 1) 0) (omega arith) (entry-inside (length l - 1) (omega arith))))
-
-  pub selected-trace : Trace (keptTicks ts l) (keptValues vs l)
-  selected-trace = record {
-    same = select-length (pos 0) vs l ∙ sym (select-length 0 ts l);
-    some = rw (select-length 0 ts l) list-some;
-    few = rw (select-length 0 ts l) list-few;
-    rising = record { rises = λ k h. rises k (rw (select-length 0 ts l) at h) };
-    span = rw (select-length 0 ts l) span;
-  }
+  pub kept-trace : Trace (keptTicks ts l) (keptValues vs l)
+  kept-trace = selected-trace (kept .trace) (kept .list)
 
   pub selected-legal : (r : Ratio) → Held r → ((k : ℕ) → tick ts k ≤ 4294967295) → ((k : ℕ) → mag (value (keptValues vs l) k) < 32768) → Legal (selected r ts vs l)
   selected-legal r h a b = record {
     held = h;
-    trace = selected-trace;
+    trace = kept-trace;
     tick-range = select-all 0 ts (λ (t : ℕ). t ≤ 4294967295) (omega arith) a l;
     value-range = b;
   }
@@ -85,9 +58,9 @@ module _ {ts : List ℕ} {vs : List ℤ} {l : List ℕ} (kept : Kept ts vs l) wh
   module _ {i : ℕ} {a b : Sample} (h : i + 1 < length l) (p : SampleAt ts vs l i a) (q : SampleAt ts vs l (i + 1) b) where
     pub step-between : StepBetween a b
     step-between =
-        let t = selected-trace in
+        let t = kept-trace in
         let n = select-length 0 ts l in
-        let r : tick (keptTicks ts l) i < tick (keptTicks ts l) (i + 1) = rw add-one (rises i (omega arith)) in
+        let r : tick (keptTicks ts l) i < tick (keptTicks ts l) (i + 1) = rw add-one (t .rising .rises i (omega arith)) in
         record {
           rise = omega (arith, r, p .tick-is, q .tick-is);
           span = omega (arith, span-bound t i (i + 1) (omega arith) (omega (arith, n)), p .tick-is, q .tick-is);

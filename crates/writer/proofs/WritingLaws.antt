@@ -36,7 +36,7 @@ use Rattle.format.proofs.ParseEncode.{parse-encode}
 use Rattle.writer.specs.declared.Sample.{Sample}
 use Rattle.writer.specs.declared.Move.{Move}
 use Rattle.writer.specs.Writing.{Kept, keptTicks, keptValues, selected, writeRow, WrittenAt, SampleAt, stepAt, MoveFrom, startOf, restOf, LengthOf}
-use Rattle.writer.proofs.SelectedLaws.{list-some, selected-trace}
+use Rattle.writer.proofs.SelectedLaws.{list-some, kept-trace}
 
 -- ---- a record's parts
 
@@ -69,7 +69,7 @@ module _ {ts : List ℕ} {vs : List ℤ} {l : List ℕ} (kept : Kept ts vs l) wh
   -- the record is its start, with the first kept sample, and the rest
   pub record-parts : (r : Ratio) {s : Sample} → SampleAt ts vs l 0 s → encode (selected r ts vs l) ≡ startOf r s ++ restOf (keptTicks ts l) (keptValues vs l) 0
   record-parts r p =
-      let t = selected-trace kept in
+      let t = kept-trace kept in
       rw (p .tick-is, p .level-is .is) (encode-parts r (keptTicks ts l) (keptValues vs l) (t .same) (t .some))
 
   -- so is its length
@@ -79,7 +79,7 @@ module _ {ts : List ℕ} {vs : List ℤ} {l : List ℕ} (kept : Kept ts vs l) wh
 
   step-bytes : (i : ℕ) → i + 1 < length l → {m : Command} → m ≡ stepAt (keptTicks ts l) (keptValues vs l) i
       → restOf (keptTicks ts l) (keptValues vs l) i ≡ commandOnto m [] ++ restOf (keptTicks ts l) (keptValues vs l) (i + 1)
-  step-bytes i h e = rw e (rest-step (keptTicks ts l) (keptValues vs l) (selected-trace kept .same) i (rw (select-length 0 ts l) h))
+  step-bytes i h e = rw e (rest-step (keptTicks ts l) (keptValues vs l) (kept-trace kept .same) i (rw (select-length 0 ts l) h))
 
   step-length : (i : ℕ) → i + 1 < length l → {m : Command} → m ≡ stepAt (keptTicks ts l) (keptValues vs l) i
       → length (restOf (keptTicks ts l) (keptValues vs l) i) ≡ sizeOf m + length (restOf (keptTicks ts l) (keptValues vs l) (i + 1))
@@ -88,7 +88,7 @@ module _ {ts : List ℕ} {vs : List ℤ} {l : List ℕ} (kept : Kept ts vs l) wh
 
   end-bytes : (i : ℕ) → length l ≤ i + 1 → restOf (keptTicks ts l) (keptValues vs l) i ≡ commandOnto (End (length l)) []
   end-bytes i h =
-      rest-end (keptTicks ts l) (keptValues vs l) (selected-trace kept .same) i (rw (select-length 0 ts l) h) ∙ ap (λ (n : ℕ). commandOnto (End n) []) (select-length 0 ts l)
+      rest-end (keptTicks ts l) (keptValues vs l) (kept-trace kept .same) i (rw (select-length 0 ts l) h) ∙ ap (λ (n : ℕ). commandOnto (End n) []) (select-length 0 ts l)
 
   end-length : (i : ℕ) → length l ≤ i + 1 → length (restOf (keptTicks ts l) (keptValues vs l) i) ≡ 3
   end-length i h = ap length (end-bytes i h) ∙ command-length (End (length l)) []
@@ -109,7 +109,7 @@ module _ {ts : List ℕ} {vs : List ℤ} {l : List ℕ} (kept : Kept ts vs l) wh
 
   pub record-most : (r : Ratio) → length (encode (selected r ts vs l)) ≤ 13 + 6 * length l
   record-most r =
-      let t = selected-trace kept in
+      let t = kept-trace kept in
       let s : Sample = record { tick = tick (keptTicks ts l) 0; level = level (value (keptValues vs l) 0) } in
       let e : length (encode (selected r ts vs l)) ≡ length (startOf r s) + length (restOf (keptTicks ts l) (keptValues vs l) 0) =
       ap length (encode-parts r (keptTicks ts l) (keptValues vs l) (t .same) (t .some)) ∙ length-append (startOf r s) (restOf (keptTicks ts l) (keptValues vs l) 0) in
