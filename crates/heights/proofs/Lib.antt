@@ -7,6 +7,8 @@ pub mod NearLaws
 pub mod AreaLaws
 pub mod WindowLaws
 pub mod ExtremeLaws
+pub mod ValidLaws
 pub mod BudgetLaws
 pub mod SelectedLaws
+pub mod AgainLaws
 pub mod Examples

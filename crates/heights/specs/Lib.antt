@@ -2,3 +2,4 @@
 pub mod Heights
 pub mod Windows
 pub mod Budget
+pub mod Again

@@ -1,0 +1,82 @@
+-- A kept list whose lines are within p/q of the trace's own at each sample's tick is within p/q: the other way round from NearLaws.
+-- Assumes nothing.
+use mathlib.Core.Path.{_≡_, subst, _∙_}
+use mathlib.Core.Bool.{true}
+use mathlib.Core.List.{List, [], _∷_}
+use Prim.Native.Nat.{ℕ, _+_, _-_, _*_, _≤_, _<_}
+use native.Mathlib.Nat.{le-of-mul-le-mul-right}
+use native.Mathlib.Omega.{arith}
+use lib.IntN.{ℤ, pos, natAbs, _-ℤ_, _*ℤ_}
+use lib.ListN.{length}
+use borrow.Author.Tests.{le-leb, lt-leb}
+use Rattle.kept.specs.Kept.{LinksFrom, final, KeptList, AllValid}
+use Rattle.kept.proofs.KeptLaws.{rise-le}
+use Rattle.trace.specs.declared.Criterion.{Criterion}
+use Rattle.trace.specs.Trace.{tick, value, Rising, Trace}
+use Rattle.trace.specs.Link.{Within, valid}
+use Rattle.trace.proofs.Ticks.{later}
+use Rattle.trace.proofs.Difference.{Diff, same, less, times, size-at-most}
+use Rattle.trace.proofs.Deviation.{diff}
+use Rattle.trace.proofs.Offsets.{offset-of-diff}
+use Rattle.trace.proofs.Validity.{valid-true}
+use Rattle.heights.specs.Heights.{Fraction, linkAt, lineFrom, lineAt, allOf, traceAt, Near, Equals}
+use Rattle.heights.proofs.Entries.{every-kept, every-entry}
+use Rattle.heights.proofs.LineLaws.{link-num, link-den}
+use Rattle.heights.proofs.ExtremeLaws.{line-through}
+
+-- ---- at one sample
+
+-- a line of length t at height m, beside the level w, as fractions with a factor f that both have
+module _ (m w t f p q : ℕ) (some : 0 < f) where
+  line-over : m * f * q ≤ w * f * t * q + p * (t * f) → m * q ≤ w * t * q + p * t
+  line-over h = le-of-mul-le-mul-right {k = f} (omega arith) some
+
+  line-under : w * f * t * q ≤ m * f * q + p * (t * f) → w * t * q ≤ m * q + p * t
+  line-under h = le-of-mul-le-mul-right {k = f} (omega arith) some
+
+-- their difference, over a base that cancels
+level-apart : (m w t f base : ℕ) {x v : ℤ} → Diff x m (base * t) → Diff v w base → Diff (x *ℤ pos f -ℤ v *ℤ pos f *ℤ pos t) (m * f) (w * f * t)
+level-apart m w t f base hx hv = same (less (times hx f) (times (times hv f) t)) (m * f) (w * f * t) (omega arith)
+
+module _ {ts : List ℕ} (rising : Rising ts) (vs : List ℤ) (c : Criterion) {i j k : ℕ} (ik : i < k) (kj : k < j) (inside : j < length ts) where
+  near-within : {y : Fraction} → Near c (linkAt ts vs i j (tick ts k) 1) y → Equals y (value vs k) → Within ts vs c i j k
+  near-within {y} near is =
+      let ti : tick ts i < tick ts k = later rising k ik (omega arith) in
+      let tj : tick ts k < tick ts j = later rising j kj inside in
+      let from : 1 * tick ts i ≤ tick ts k = omega arith in
+      let to : tick ts k ≤ 1 * tick ts j = omega arith in
+      let r : tick ts k - 1 * tick ts i ≡ tick ts k - tick ts i = omega arith in
+      let s : 1 * tick ts j - tick ts k ≡ tick ts j - tick ts k = omega arith in
+      let den : linkAt ts vs i j (tick ts k) 1 .den ≡ tick ts j - tick ts i = link-den ts vs i j (tick ts k) 1 from to ∙ omega arith in
+      let num = rw (r, s) at (link-num ts vs i j (tick ts k) 1 from to (offset-of-diff vs i) (offset-of-diff vs j)) in
+      let at = subst (λ (z : ℤ). natAbs (linkAt ts vs i j (tick ts k) 1 .num *ℤ pos (y .den) -ℤ z *ℤ pos (linkAt ts vs i j (tick ts k) 1 .den)) * c .q ≤ c .p * (linkAt ts vs i j (tick ts k) 1 .den * y .den))
+      (is .is) (near .apart) in
+      let sizes = size-at-most (level-apart _ _ _ _ _ num (offset-of-diff vs k)) (c .q) _ .0 at in
+      size-at-most (diff ts vs i j k (c .p) (c .q) (offset-of-diff vs i) (offset-of-diff vs j) (offset-of-diff vs k) (omega arith) (omega arith)) (c .q) (c .p * (tick ts j - tick ts i)) .1
+      (rw den at (line-under _ _ _ (y .den) (c .p) (c .q) (near .right) (sizes .1)), rw den at (line-over _ _ _ (y .den) (c .p) (c .q) (near .right) (sizes .0)))
+
+-- ---- the whole list
+
+module _ {ts : List ℕ} (rising : Rising ts) (vs : List ℤ) (c : Criterion) where
+  -- at the ticks between two samples the line is that of their link, and after them that of the rest
+  from-valid : (s : List ℕ) (i : ℕ) → LinksFrom _<_ i s → final i s < length ts
+      → ((k : ℕ) → i < k → k < final i s → (y : Fraction) × Near c (lineFrom ts vs i s (tick ts k) 1) y × Equals y (value vs k)) → LinksFrom (λ i j. valid ts vs c i j ≡ true) i s
+  unfolding lineFrom
+  from-valid [] i r inside near = tt
+  from-valid (j ∷ s) i r inside near =
+      let j-inside : j ≤ final j s = omega (arith, rise-le j s (r .1)) in
+      let tj : (k : ℕ) → k < j → tick ts k < tick ts j = λ k u. later rising j u (omega arith) in
+      let jt : (k : ℕ) → j < k → k < final j s → tick ts j < tick ts k = λ k l u. later rising k l (omega arith) in (
+        valid-true ts vs c i j (record {
+          between = λ k l u. let n = near k l (omega arith) in near-within rising vs c l u (omega arith) (rw (le-leb (tick ts k) (1 * tick ts j) (omega (arith, tj k u))) at (n .1)) (n .2);
+        }),
+        from-valid s j (r .1) inside (λ k l u. let n = near k (omega (arith, r .0)) u in (n .0, rw (lt-leb (tick ts k) (1 * tick ts j) (omega (arith, jt k l u))) at (n .1), n .2)),
+      )
+
+pub near-valid : {ts : List ℕ} {vs : List ℤ} (c : Criterion) (l : List ℕ) → Trace ts vs → KeptList (length ts - 1) l
+    → ((k : ℕ) → k ≤ length ts - 1 → Near c (lineAt ts vs l (tick ts k) 1) (traceAt ts vs (tick ts k) 1)) → AllValid (valid ts vs c) l
+near-valid c [] t k near = tt
+near-valid {ts} {vs} c (i ∷ s) t k near =
+    let last = length ts - 1 in
+    from-valid (t .rising) vs c s i (k .rises) (omega (arith, k .spans .1, t .some))
+    (λ m l u. (traceAt ts vs (tick ts m) 1, near m (omega (arith, k .spans .1)), line-through t (allOf ts) (every-kept last) m (every-entry last m (omega (arith, k .spans .1)))))
