@@ -34,7 +34,11 @@ module _ (m w t f p q : ℕ) (some : 0 < f) where
   line-under : w * f * t * q ≤ m * f * q + p * (t * f) → w * t * q ≤ m * q + p * t
   line-under h = le-of-mul-le-mul-right {k = f} (omega arith) some
 
--- their difference, over a base that cancels
+-- a fraction near one that is a whole number
+value-apart : {c : Criterion} {x y : Fraction} {v : ℤ} → Near c x y → Equals y v → natAbs (x .num *ℤ pos (y .den) -ℤ v *ℤ pos (y .den) *ℤ pos (x .den)) * c .q ≤ c .p * (x .den * y .den)
+value-apart {c} {x} {y} near is = subst (λ (z : ℤ). natAbs (x .num *ℤ pos (y .den) -ℤ z *ℤ pos (x .den)) * c .q ≤ c .p * (x .den * y .den)) (is .is) (near .apart)
+
+-- the difference of such a line and level, each over the base, which cancels
 level-apart : (m w t f base : ℕ) {x v : ℤ} → Diff x m (base * t) → Diff v w base → Diff (x *ℤ pos f -ℤ v *ℤ pos f *ℤ pos t) (m * f) (w * f * t)
 level-apart m w t f base hx hv = same (less (times hx f) (times (times hv f) t)) (m * f) (w * f * t) (omega arith)
 
@@ -49,9 +53,7 @@ module _ {ts : List ℕ} (rising : Rising ts) (vs : List ℤ) (c : Criterion) {i
       let s : 1 * tick ts j - tick ts k ≡ tick ts j - tick ts k = omega arith in
       let den : linkAt ts vs i j (tick ts k) 1 .den ≡ tick ts j - tick ts i = link-den ts vs i j (tick ts k) 1 from to ∙ omega arith in
       let num = rw (r, s) at (link-num ts vs i j (tick ts k) 1 from to (offset-of-diff vs i) (offset-of-diff vs j)) in
-      let at = subst (λ (z : ℤ). natAbs (linkAt ts vs i j (tick ts k) 1 .num *ℤ pos (y .den) -ℤ z *ℤ pos (linkAt ts vs i j (tick ts k) 1 .den)) * c .q ≤ c .p * (linkAt ts vs i j (tick ts k) 1 .den * y .den))
-      (is .is) (near .apart) in
-      let sizes = size-at-most (level-apart _ _ _ _ _ num (offset-of-diff vs k)) (c .q) _ .0 at in
+      let sizes = size-at-most (level-apart _ _ _ _ _ num (offset-of-diff vs k)) (c .q) _ .0 (value-apart near is) in
       size-at-most (diff ts vs i j k (c .p) (c .q) (offset-of-diff vs i) (offset-of-diff vs j) (offset-of-diff vs k) (omega arith) (omega arith)) (c .q) (c .p * (tick ts j - tick ts i)) .1
       (rw den at (line-under _ _ _ (y .den) (c .p) (c .q) (near .right) (sizes .1)), rw den at (line-over _ _ _ (y .den) (c .p) (c .q) (near .right) (sizes .0)))
 

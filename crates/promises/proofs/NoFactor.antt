@@ -1,15 +1,15 @@
 -- At one tolerance there is no factor: values 0 3 0 3 .. 0 3 of n samples at 3 (n - 2) / (n - 1), for each even n from 2 to 4,096.
--- A link over two steps has the error 3, which is more. The link from the first sample to the last has exactly that error.
--- So walk and gallop keep n samples where 2 are enough: n / 2 times as many, up to 2,048 times.
+-- A link over two steps has the error 3, which is more, so walk and gallop keep all n samples. The link from the first sample to the last is
+-- valid, so minimum keeps 2.
 -- Assumes nothing.
-use mathlib.Core.Path.{_≡_, refl, sym, ap, _∙_, subst}
+use mathlib.Core.Path.{_≡_, refl, ap, _∙_, subst}
 use mathlib.Core.Bool.{true, false}
 use mathlib.Core.List.{List, [], _∷_}
 use Prim.Native.Nat.{ℕ, suc, _+_, _-_, _*_, _%_, _≤_, _<_}
 use native.Mathlib.Nat.{mul-le-mul-right}
 use native.Mathlib.Omega.{arith}
 use native.Mathlib.Decide.{decLe}
-use lib.IntN.{pos, natAbs}
+use lib.IntN.{ℤ, pos, natAbs}
 use lib.ListN.{length, length-map, List·getD-map}
 use borrow.Author.Tests.{le-leb}
 use Rattle.lists.specs.Overwrite.{Wrote}
@@ -20,8 +20,6 @@ use Rattle.refusal.specs.declared.Checked.the-variants.{Fine, Refused}
 use Rattle.kept.proofs.WalkLaws.{walk-every}
 use Rattle.kept.proofs.GallopLaws.{gallop-every}
 use Rattle.kept.proofs.MinimumLaws.{minimum-of, minimum-two}
-use Rattle.tolerance.specs.declared.Meaning.the-variants.{Exact}
-use Rattle.tolerance.specs.Meaning.{meaning}
 use Rattle.trace.specs.declared.Criterion.{Criterion}
 use Rattle.trace.specs.Trace.{tick, value, Trace}
 use Rattle.trace.specs.Link.{deviation, Within, valid, criterion}
@@ -40,7 +38,7 @@ use Rattle.engine.specs.declared.Reduced.{Reduced}
 use Rattle.engine.specs.declared.Reduced.the-variants.{Kept, Refused as Declined}
 use Rattle.engine.specs.declared.Probed.{Probed}
 use Rattle.engine.specs.declared.Probed.the-variants.{Kept as KeptBy, Refused as NotGalloped}
-use Rattle.engine.specs.Prepare.{criterionOf, outputRows}
+use Rattle.engine.specs.Prepare.{criterionOf, Sets, ReadyAt, outputRows}
 use Rattle.engine.specs.Reduce.{WalkOutcome, GallopOutcome}
 use Rattle.engine.specs.Minimum.{MinimumOutcome}
 use Rattle.engine.proofs.PrepareLaws.{exact-sets, trace-fine, room-fine}
@@ -74,104 +72,109 @@ alternates i = elim (decLe (i % 2) 0) [
 ]
 
 module _ (n : ℕ) (even : n % 2 ≡ 0) (two : 2 ≤ n) (few : n ≤ 4096) where
-  size : length (counting n) ≡ n
+  abbrev ts : List ℕ
+  ts = counting n
+
+  abbrev vs : List ℤ
+  vs = zigzag n
+
+  -- the tolerance in lowest terms
+  abbrev c : Criterion
+  c = criterion (lowest (3 * (n - 2)) (n - 1))
+
+  size : length ts ≡ n
   size = every-length (n - 1) ∙ omega arith
 
-  at : (k : ℕ) → k ≤ n - 1 → tick (counting n) k ≡ k
+  at : (k : ℕ) → k ≤ n - 1 → tick ts k ≡ k
   at = every-at (n - 1)
 
-  values : (k : ℕ) → k ≤ n - 1 → Diff (value (zigzag n) k) (zig k) 0
-  values k h = rw (List·getD-map (λ (k : ℕ). pos (3 * (k % 2))) (counting n) k 0, at k h) (natural (zig k))
+  -- ---- the calls are not refused
 
-  trace : Trace (counting n) (zigzag n)
+  trace : Trace ts vs
   trace = record {
-    same = length-map (counting n) (λ (k : ℕ). pos (3 * (k % 2)));
+    same = length-map ts (λ (k : ℕ). pos (zig k));
     some = omega (arith, size);
     few = omega (arith, size);
     rising = record { rises = λ k h. rw (at k (omega (arith, size)), at (suc k) (omega (arith, size))) (omega arith) };
     span = rw size (omega (arith, at (n - 1) (omega arith)));
   }
 
-  -- ---- the tolerance
+  sets : Sets (justWide n) c
+  sets = exact-sets (justWide n) (rw (le-leb 1 (n - 1) (omega arith), le-leb (n - 1) 1048575 (omega arith), le-leb (3 * (n - 2)) (65535 * (n - 1)) (omega arith)))
 
-  allowed : meaning (justWide n) ≡ Exact (lowest (3 * (n - 2)) (n - 1))
-  allowed = rw (le-leb 1 (n - 1) (omega arith), le-leb (n - 1) 1048575 (omega arith), le-leb (3 * (n - 2)) (65535 * (n - 1)) (omega arith))
-
-  abbrev c : Criterion
-  c = criterion (lowest (3 * (n - 2)) (n - 1))
-
-  is : criterionOf (justWide n) ≡ c
-  is = sym (exact-sets (justWide n) allowed .is)
-
-  accepts : (room : ℕ) → n ≤ room → outputRows (counting n) (zigzag n) (justWide n) room ≡ Fine
+  accepts : (room : ℕ) → n ≤ room → outputRows ts vs (justWide n) room ≡ Fine
   accepts room h =
-      room-fine (counting n) (zigzag n) (justWide n) room {c = c}
-      (trace-fine (counting n) (zigzag n) (justWide n) (At c) (trace-rows 4096 (counting n) (zigzag n) trace (omega (arith, size))) (exact-sets (justWide n) allowed)) (omega (arith, size)) .rows
+      let ready : ReadyAt ts vs (justWide n) c = trace-fine ts vs (justWide n) (At c) (trace-rows 4096 ts vs trace (omega (arith, size))) sets in
+      room-fine ts vs (justWide n) room ready (omega (arith, size)) .rows
 
   -- ---- the links
+
+  values : (k : ℕ) → k ≤ n - 1 → Diff (value vs k) (zig k) 0
+  values k h = rw (List·getD-map (λ (k : ℕ). pos (zig k)) ts k 0, at k h) (natural (zig k))
+
+  deviates : (i j k : ℕ) → i ≤ k → k ≤ j → j ≤ n - 1 → Diff (deviation ts vs i j k) (zig k * (j - i)) (line (zig i) (zig j) (k - i) (j - k))
+  deviates i j k ik kj h =
+      let ti : tick ts i ≡ i = at i (omega arith) in
+      let tk : tick ts k ≡ k = at k (omega arith) in
+      let tj : tick ts j ≡ j = at j h in
+      rw (ti, tj, tk) at (diff ts vs i j k 0 0 (values i (omega arith)) (values j h) (values k (omega arith)) (omega arith) (omega arith))
 
   ratio-is : c .p * suc (n - 2) ≡ 3 * (n - 2) * c .q
   ratio-is = subst (λ (m : ℕ). c .p * m ≡ 3 * (n - 2) * c .q) (omega arith) (lowest-equal (3 * (n - 2)) (n - 1))
 
   -- over two steps
-  two-steps : (i : ℕ) → i + 2 ≤ n - 1 → valid (counting n) (zigzag n) c i (i + 2) ≡ false
+  two-steps : (i : ℕ) → i + 2 ≤ n - 1 → valid ts vs c i (i + 2) ≡ false
   two-steps i h =
-      let i₀ : tick (counting n) i ≡ i = at i (omega arith) in
-      let i₁ : tick (counting n) (i + 1) ≡ i + 1 = at (i + 1) (omega arith) in
-      let i₂ : tick (counting n) (i + 2) ≡ i + 2 = at (i + 2) h in
-      let r : tick (counting n) (i + 2) - tick (counting n) i ≡ 2 = omega arith in
-      let s : tick (counting n) (i + 1) - tick (counting n) i ≡ 1 = omega arith in
-      let u : tick (counting n) (i + 2) - tick (counting n) (i + 1) ≡ 1 = omega arith in
-      let d = diff (counting n) (zigzag n) i (i + 2) (i + 1) (c .p) (c .q) (values i (omega arith)) (values (i + 2) h) (values (i + 1) (omega arith)) (omega arith) (omega arith) in
-      let six : natAbs (deviation (counting n) (zigzag n) i (i + 2) (i + 1)) ≡ 6 = (rw (r, s, u) at (size-of d)) ∙ alternates i in
-      valid-false (counting n) (zigzag n) c i (i + 2) (i + 1) (omega arith) (omega arith)
-      (λ w. too-far (c .p) (c .q) (n - 2) ratio-is (lowest-pos (3 * (n - 2)) (n - 1) (omega arith)) (rw (six, r) at w))
+      let r : i + 2 - i ≡ 2 = omega arith in
+      let s : i + 1 - i ≡ 1 = omega arith in
+      let u : i + 2 - (i + 1) ≡ 1 = omega arith in
+      let six : natAbs (deviation ts vs i (i + 2) (i + 1)) ≡ 6 = (rw (r, s, u) at (size-of (deviates i (i + 2) (i + 1) (omega arith) (omega arith) h))) ∙ alternates i in
+      valid-false ts vs c i (i + 2) (i + 1) (omega arith) (omega arith)
+      (λ w. too-far (c .p) (c .q) (n - 2) ratio-is (lowest-pos (3 * (n - 2)) (n - 1) (omega arith)) (rw (six, at (i + 2) h, at i (omega arith), r) at w))
 
   -- from the first sample to the last
-  whole : valid (counting n) (zigzag n) c 0 (n - 1) ≡ true
-  whole = valid-true (counting n) (zigzag n) c 0 (n - 1) (record { between = inside })
+  whole : valid ts vs c 0 (n - 1) ≡ true
+  whole = valid-true ts vs c 0 (n - 1) (record { between = inside })
     where
-      inside : (k : ℕ) → 0 < k → k < n - 1 → Within (counting n) (zigzag n) c 0 (n - 1) k
+      inside : (k : ℕ) → 0 < k → k < n - 1 → Within ts vs c 0 (n - 1) k
       inside k l u =
-          let k₀ : tick (counting n) k ≡ k = at k (omega arith) in
-          let end : tick (counting n) (n - 1) ≡ n - 1 = at (n - 1) (omega arith) in
-          let r : tick (counting n) (n - 1) - tick (counting n) 0 ≡ suc (n - 2) = omega arith in
-          let s : tick (counting n) k - tick (counting n) 0 ≡ k = omega arith in
+          let r : n - 1 - 0 ≡ suc (n - 2) = omega arith in
+          let s : k - 0 ≡ k = omega arith in
           let z : zig (n - 1) ≡ 3 = omega arith in
-          let d = diff (counting n) (zigzag n) 0 (n - 1) k (c .p) (c .q) (values 0 (omega arith)) (values (n - 1) (omega arith)) (values k (omega arith)) (omega arith) (omega arith) in
-          rw r (size-at-most (rw (r, s, z) at d) (c .q) (c .p * suc (n - 2)) .1 (near-enough (c .p) (c .q) (n - 2) ratio-is (zig k) k _ (omega arith) l (omega arith)))
+          let d = rw (r, s, z) at (deviates 0 (n - 1) k (omega arith) (omega arith) (omega arith)) in
+          rw (at (n - 1) (omega arith), r) (size-at-most d (c .q) (c .p * suc (n - 2)) .1 (near-enough (c .p) (c .q) (n - 2) ratio-is (zig k) k _ (omega arith) l (omega arith)))
 
   -- ---- the lists
 
-  walks : walkList (counting n) (zigzag n) (criterionOf (justWide n)) ≡ everySample (n - 1)
-  walks = rw (is, size) (walk-every (valid (counting n) (zigzag n) c) (steps-valid (counting n) (zigzag n) c) (n - 1) two-steps ∙ every-stops (n - 1))
+  walks : walkList ts vs (criterionOf (justWide n)) ≡ everySample (n - 1)
+  walks = rw (← sets .is, size) (walk-every (valid ts vs c) (steps-valid ts vs c) (n - 1) two-steps ∙ every-stops (n - 1))
 
-  gallops : gallopList (counting n) (zigzag n) (criterionOf (justWide n)) ≡ everySample (n - 1)
-  gallops = rw (is, size) (gallop-every (valid (counting n) (zigzag n) c) (steps-valid (counting n) (zigzag n) c) (n - 1) two-steps ∙ every-stops (n - 1))
+  gallops : gallopList ts vs (criterionOf (justWide n)) ≡ everySample (n - 1)
+  gallops = rw (← sets .is, size) (gallop-every (valid ts vs c) (steps-valid ts vs c) (n - 1) two-steps ∙ every-stops (n - 1))
 
-  shortest : minimumList (counting n) (zigzag n) (criterionOf (justWide n)) ≡ 0 ∷ (n - 1) ∷ []
-  shortest = rw (is, size) (minimum-two (minimum-of (valid (counting n) (zigzag n) c) (n - 1) (steps-valid (counting n) (zigzag n) c)) (omega arith) whole)
+  shortest : minimumList ts vs (criterionOf (justWide n)) ≡ 0 ∷ (n - 1) ∷ []
+  shortest = rw (← sets .is, size) (minimum-two (minimum-of (valid ts vs c) (n - 1) (steps-valid ts vs c)) (omega arith) whole)
 
   -- ---- the answers
 
-  every : {l o o′ : List ℕ} {m : ℕ} → l ≡ everySample (n - 1) → Wrote l o m o′ → m ≡ n
-  every e w = w .count ∙ ap length e ∙ size
+  counted : {l o o′ : List ℕ} {m : ℕ} → l ≡ everySample (n - 1) → Wrote l o m o′ → m ≡ n
+  counted e w = w .count ∙ ap length e ∙ size
 
-  not-refused : {A : Type 0} (o : List ℕ) (x : Refusal) → n ≤ length o → outputRows (counting n) (zigzag n) (justWide n) (length o) ≡ Refused x → A
+  not-refused : {A : Type 0} (o : List ℕ) (x : Refusal) → n ≤ length o → outputRows ts vs (justWide n) (length o) ≡ Refused x → A
   not-refused o x h e =
-      let f : outputRows (counting n) (zigzag n) (justWide n) (length o) ≡ Fine = accepts (length o) h in
+      let f : outputRows ts vs (justWide n) (length o) ≡ Fine = accepts (length o) h in
       let z : _≡_ {A = ℕ} 0 1 = cc in
       absurd (omega arith)
 
-  walked : (o o′ : List ℕ) (r : Reduced) → n ≤ length o → WalkOutcome (counting n) (zigzag n) (justWide n) o r o′ → r ≡ Kept n
-  walked o o′ (Kept m) h w = ap Kept (every walks (w .wrote))
+  walked : (o o′ : List ℕ) (r : Reduced) → n ≤ length o → WalkOutcome ts vs (justWide n) o r o′ → r ≡ Kept n
+  walked o o′ (Kept m) h w = ap Kept (counted walks (w .wrote))
   walked o o′ (Declined x) h w = not-refused o x h (w .0)
 
-  galloped : (o o′ : List ℕ) (r : Probed) → n ≤ length o → GallopOutcome (counting n) (zigzag n) (justWide n) o r o′ → (g : Galloped) × (r ≡ KeptBy g) × (g .kept ≡ n)
-  galloped o o′ (KeptBy g) h w = (g, refl, every gallops (w .wrote))
+  galloped : (o o′ : List ℕ) (r : Probed) → n ≤ length o → GallopOutcome ts vs (justWide n) o r o′ → (g : Galloped) × (r ≡ KeptBy g) × (g .kept ≡ n)
+  galloped o o′ (KeptBy g) h w = (g, refl, counted gallops (w .wrote))
   galloped o o′ (NotGalloped x) h w = not-refused o x h (w .0)
 
-  shortened : (o o′ : List ℕ) (r : Reduced) → n ≤ length o → MinimumOutcome (counting n) (zigzag n) (justWide n) o r o′ → r ≡ Kept 2
+  shortened : (o o′ : List ℕ) (r : Reduced) → n ≤ length o → MinimumOutcome ts vs (justWide n) o r o′ → r ≡ Kept 2
   shortened o o′ (Kept m) h w = ap Kept (w .wrote .count ∙ ap length shortest)
   shortened o o′ (Declined x) h w = not-refused o x h (w .0)
 
@@ -185,3 +188,7 @@ module _ (n : ℕ) (even : n % 2 ≡ 0) (two : 2 ≤ n) (few : n ≤ 4096) where
     gallop-answers = galloped;
     minimum-answers = shortened;
   }
+
+-- walk and gallop keep b times as many samples as minimum, for each b up to 2,048
+pub factor : (b : ℕ) → 1 ≤ b → b ≤ 2048 → NoFactor (2 * b)
+factor b some few = no-factor (2 * b) (omega arith) (omega arith) (omega arith)

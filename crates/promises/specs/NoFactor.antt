@@ -1,7 +1,7 @@
 -- At one tolerance no factor bounds walk's and gallop's lists by the shortest: the traces of values 0 3 0 3 .. 0 3, for an even number n of samples.
 --   counting      the ticks 0 1 .. n - 1
 --   zigzag        the values: 3 at each odd sample
---   justWide      the tolerance 3 (n - 2) / (n - 1), the error of the link from the first sample to the last
+--   justWide      the tolerance 3 (n - 2) / (n - 1), at which the link from the first sample to the last is valid
 --   NoFactor      at this tolerance walk and gallop keep all n samples, and minimum keeps 2
 -- The theorem is in proofs/NoFactor. Assumes nothing.
 use mathlib.Core.Path.{_≡_}
