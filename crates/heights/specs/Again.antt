@@ -14,7 +14,8 @@ use Rattle.kept.specs.Kept.{KeptList, AllValid}
 use Rattle.trace.specs.declared.Criterion.{Criterion}
 use Rattle.trace.specs.Trace.{Trace}
 use Rattle.trace.specs.Link.{valid}
-use Rattle.heights.specs.Heights.{lineAt, peak, trough, height, ErrorBudget}
+use Rattle.heights.specs.Heights.{lineAt, peak, trough, height}
+use Rattle.heights.specs.Budget.{ErrorBudget}
 
 -- p/q + r/s is (p s + r q) / (q s)
 abbrev pub added : Criterion → Criterion → Criterion
