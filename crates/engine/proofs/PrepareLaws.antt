@@ -36,9 +36,13 @@ unfolding commonRows
 common-trace ts vs t e = rows-trace 4096 ts vs (omega arith) (then-fine (traceRows 4096 ts vs) _ e .0) .0
 
 -- the tolerance is asked where the trace passes
+pub sets-ready : (ts : List ℕ) (vs : List ℤ) (t : Tolerance) {c : Criterion} → traceRows 4096 ts vs ≡ Fine → Sets t c → ReadyAt ts vs t c
+unfolding commonRows
+sets-ready ts vs t e a = record { rows = rw e (a .row); trace = rows-trace 4096 ts vs (omega arith) e .0; is = a .is; bounded = a .bounded }
+
 pub trace-fine : (ts : List ℕ) (vs : List ℤ) (t : Tolerance) (r : Ready) → traceRows 4096 ts vs ≡ Fine → Allowed t r → Prepared ts vs t r
 unfolding commonRows
-trace-fine ts vs t (At c) e a = record { rows = rw e (a .row); trace = rows-trace 4096 ts vs (omega arith) e .0; is = a .is; bounded = a .bounded }
+trace-fine ts vs t (At c) e a = sets-ready ts vs t e a
 trace-fine ts vs t (Declined x) e a = rw e a
 
 pub trace-refused : (ts : List ℕ) (vs : List ℤ) (t : Tolerance) {x : Refusal} → traceRows 4096 ts vs ≡ Refused x → commonRows ts vs t ≡ Refused x

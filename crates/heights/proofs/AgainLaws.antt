@@ -3,7 +3,7 @@
 use mathlib.Core.Path.{_≡_, refl, subst}
 use mathlib.Core.List.{List, [], _∷_}
 use Prim.Native.Nat.{ℕ, _+_, _-_, _*_, _≤_, _<_}
-use native.Mathlib.Nat.{mul-comm, mul-le-mul-right, le-of-mul-le-mul-right, mul-pos}
+use native.Mathlib.Nat.{add-comm, mul-pos}
 use native.Mathlib.Omega.{arith}
 use lib.IntN.{ℤ, pos, negsuc}
 use lib.ListN.{length}
@@ -18,9 +18,10 @@ use Rattle.trace.specs.declared.Criterion.{Criterion}
 use Rattle.trace.specs.Trace.{tick}
 use Rattle.trace.specs.Link.{deviation, within, allFrom, valid, greatest, farthest}
 use Rattle.trace.proofs.SelectedTrace.{selected-first, selected-last}
-use Rattle.trace.proofs.Difference.{times, less, parts, size-at-most}
 use Rattle.heights.specs.Heights.{Fraction, samplesAfter, everySample, lineAt, traceAt, OnTrace, Near}
-use Rattle.heights.specs.Again.{added, StandsFor, ReducedAgain}
+use Rattle.heights.specs.Budget.{StandsFor}
+use Rattle.heights.specs.Again.{added, ReducedAgain}
+use Rattle.heights.proofs.FractionLaws.{near-excess, excess-near, excess-trans, near-wider}
 use Rattle.heights.proofs.NearLaws.{line-near}
 use Rattle.heights.proofs.ExtremeLaws.{sample-on}
 use Rattle.heights.proofs.ValidLaws.{near-valid}
@@ -29,36 +30,11 @@ use Rattle.heights.proofs.SelectedLaws.{reduced-line, reduced-peak, red
 
 -- ---- distances add up
 
--- (a - b)/x is at most r above (c - d)/y, and that at most p above (e - f)/z
-adds : (a b c d e f x y z p r : ℕ) → 0 < y → a * y + d * x ≤ b * y + c * x + r * (x * y) → c * z + f * y ≤ d * z + e * y + p * (y * z)
-    → a * z + f * x ≤ b * z + e * x + (p + r) * (x * z)
-adds a b c d e f x y z p r some h k = le-of-mul-le-mul-right {k = y} (omega (arith, mul-le-mul-right z h, mul-le-mul-right x k)) some
-
--- the same over denominators s and q, and over their product w
-spread : (a b c d x y r s q w : ℕ) → w ≡ s * q → (a * y + d * x) * s ≤ (b * y + c * x) * s + r * (x * y) → a * w * y + d * w * x ≤ b * w * y + c * w * x + r * q * (x * y)
-spread a b c d x y r s q w e h = rw e (omega (arith, mul-le-mul-right q h))
-
-sum-adds : (a b c d e f x y z p q r s : ℕ) → 0 < y → (a * y + d * x) * s ≤ (b * y + c * x) * s + r * (x * y) → (c * z + f * y) * q ≤ (d * z + e * y) * q + p * (y * z)
-    → (a * z + f * x) * (q * s) ≤ (b * z + e * x) * (q * s) + (p * s + r * q) * (x * z)
-sum-adds a b c d e f x y z p q r s some h k =
-    let w = q * s in
-    omega (arith, adds (a * w) (b * w) (c * w) (d * w) (e * w) (f * w) x y z (p * s) (r * q) some (spread a b c d x y r s q w (mul-comm q s) h) (spread c d e f y z p q s w refl k))
-
-near-trans : {c e : Criterion} {x y z : Fraction} → Near e x y → Near c y z → Near (added c e) x z
-near-trans {c} {e} {x} {y} {z} h k =
-    let dx = parts (x .num) .2 in
-    let dy = parts (y .num) .2 in
-    let dz = parts (z .num) .2 in
-    let first = size-at-most (less (times dx (y .den)) (times dy (x .den))) (e .q) (e .p * (x .den * y .den)) .0 (h .apart) in
-    let second = size-at-most (less (times dy (z .den)) (times dz (y .den))) (c .q) (c .p * (y .den * z .den)) .0 (k .apart) in
-    record {
-      left = h .left;
-      right = k .right;
-      apart = size-at-most (less (times dx (z .den)) (times dz (x .den))) (c .q * e .q) ((c .p * e .q + e .p * c .q) * (x .den * z .den)) .1 (
-        sum-adds _ _ _ _ _ _ (x .den) (y .den) (z .den) (c .p) (c .q) (e .p) (e .q) (h .right) (first .0) (second .0),
-        sum-adds _ _ _ _ _ _ (x .den) (y .den) (z .den) (c .p) (c .q) (e .p) (e .q) (h .right) (first .1) (second .1),
-      );
-    }
+near-trans : {c e : Criterion} {x y z : Fraction} → 1 ≤ c .q → 1 ≤ e .q → Near e x y → Near c y z → Near (added c e) x z
+near-trans {c} {e} some more h k =
+    let one : Near (record { p = e .p * c .q; q = c .q * e .q }) _ _ = near-wider more (omega arith) h in
+    let two : Near (record { p = c .p * e .q; q = c .q * e .q }) _ _ = near-wider some (omega arith) k in
+    excess-near (rw (add-comm (e .p * c .q) (c .p * e .q)) at (excess-trans (near-excess one .0) (near-excess two .0))) (excess-trans (near-excess two .1) (near-excess one .1))
 
 -- ---- reducing again
 
@@ -74,7 +50,7 @@ module _ {ts : List ℕ} {vs : List ℤ} {c e : Criterion} {l h : List ℕ} (fir
         to = rw (selected-last (first .trace) (first .kept)) (on .to);
       } in
       let reduced = line-near e (second .trace) (second .kept) (second .within) a d on-reduced in
-      near-trans (subst (Near e (lineAt ts vs (select 0 l h) a d)) (selected-line ts vs l (first .kept) a d)
+      near-trans (first .positive) (second .positive) (subst (Near e (lineAt ts vs (select 0 l h) a d)) (selected-line ts vs l (first .kept) a d)
       (subst (λ (x : Fraction). Near e x (traceAt (select 0 ts l) (select (pos 0) vs l) a d)) (reduced-line ts vs l (first .kept) h positions a d) reduced))
       (line-near c (first .trace) (first .kept) (first .within) a d on)
 
@@ -91,7 +67,7 @@ module _ {ts : List ℕ} {vs : List ℤ} {c e : Criterion} {l h : List ℕ} (fir
   pub reduced-again : ReducedAgain ts vs c e l h
   reduced-again = record {
     stands = again-stands;
-    budget = error-budget (added c e) (again-stands .trace) (again-stands .kept) (again-stands .within) (again-stands .positive);
+    budget = error-budget again-stands;
     lines = reduced-line ts vs l (first .kept) h positions;
     peaks = reduced-peak ts vs l (first .kept) h positions;
     troughs = reduced-trough ts vs l (first .kept) h positions;

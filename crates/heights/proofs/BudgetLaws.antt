@@ -14,7 +14,7 @@ use Rattle.trace.specs.Trace.{tick, value, Trace}
 use Rattle.trace.specs.Link.{valid}
 use Rattle.trace.proofs.Difference.{times, at-most, size-at-most, less, parts}
 use Rattle.heights.specs.Heights.{Fraction, lineAt, traceAt, allOf, Near, Equals, Between, peak, trough}
-use Rattle.heights.specs.Budget.{ErrorBudget}
+use Rattle.heights.specs.Budget.{StandsFor, ErrorBudget}
 use Rattle.heights.proofs.Order.{order}
 use Rattle.heights.proofs.Entries.{Entry, kept-entry, every-kept, every-entry}
 use Rattle.heights.proofs.NearLaws.{line-near}
@@ -112,8 +112,8 @@ module _ {ts : List ℕ} {vs : List ℤ} (c : Criterion) {l : List ℕ} (t : Tra
       let m = trough-sampled vs (allOf ts) (every-kept (length ts - 1)) in
       subst (λ (v : ℤ). ((trough vs l -ℤ v) *ℤ pos (c .q)) ≤ℤ pos (c .p)) (m .is) (sample-trough (m .sample) (kept-entry (allOf ts) (every-kept (length ts - 1)) (m .entry)))
 
-  pub error-budget : 1 ≤ c .q → ErrorBudget ts vs c l
-  error-budget some = record {
+  budget : 1 ≤ c .q → ErrorBudget ts vs c l
+  budget some = record {
     positive = some;
     near = line-near c t kept within;
     extremes = line-extremes t l kept;
@@ -126,3 +126,6 @@ module _ {ts : List ℕ} {vs : List ℤ} (c : Criterion) {l : List ℕ} (t : Tra
     height-near = heights-near (peak vs l) (peak vs (allOf ts)) (trough vs l) (trough vs (allOf ts)) (c .p) (c .q) peak-near trough-near;
     windows = window-budget c some t kept within peak-high peak-near trough-low trough-near;
   }
+
+pub error-budget : {ts : List ℕ} {vs : List ℤ} {c : Criterion} {l : List ℕ} → StandsFor ts vs c l → ErrorBudget ts vs c l
+error-budget {c = c} s = budget c (s .trace) (s .kept) (s .within) (s .positive)

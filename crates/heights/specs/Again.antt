@@ -1,31 +1,20 @@
 -- Reducing a reduced trace again: a list l of the trace at c, and a list h of the samples that l keeps, at e.
 --   added          the criterion of the sum of two tolerances
---   StandsFor      a kept list of a trace, within p/q
 --   ReducedAgain   the samples that h keeps stand for the original trace at the sum, with the lines and heights that h has
 -- The samples that l keeps are the trace `select 0 ts l`, `select (pos 0) vs l`. Those that h keeps of them are samples `select 0 l h` of the
 -- original trace. Laws are in AgainLaws. Assumes nothing.
 use mathlib.Core.Path.{_≡_}
 use mathlib.Core.List.{List}
-use Prim.Native.Nat.{ℕ, _+_, _-_, _*_, _≤_}
+use Prim.Native.Nat.{ℕ, _+_, _*_}
 use lib.IntN.{ℤ, pos}
-use lib.ListN.{length}
 use Rattle.lists.specs.Select.{select}
-use Rattle.kept.specs.Kept.{KeptList, AllValid}
 use Rattle.trace.specs.declared.Criterion.{Criterion}
-use Rattle.trace.specs.Trace.{Trace}
-use Rattle.trace.specs.Link.{valid}
 use Rattle.heights.specs.Heights.{lineAt, peak, trough, height}
-use Rattle.heights.specs.Budget.{ErrorBudget}
+use Rattle.heights.specs.Budget.{StandsFor, ErrorBudget}
 
 -- p/q + r/s is (p s + r q) / (q s)
 abbrev pub added : Criterion → Criterion → Criterion
 added c e = record { p = c .p * e .q + e .p * c .q; q = c .q * e .q }
-
-pub record StandsFor (ts : List ℕ) (vs : List ℤ) (c : Criterion) (l : List ℕ) : Type 0 where
-  pub trace : Trace ts vs
-  pub positive : 1 ≤ c .q
-  pub kept : KeptList (length ts - 1) l
-  pub within : AllValid (valid ts vs c) l
 
 pub record ReducedAgain (ts : List ℕ) (vs : List ℤ) (c e : Criterion) (l h : List ℕ) : Type 0 where
   pub stands : StandsFor ts vs (added c e) (select 0 l h)

@@ -1,4 +1,5 @@
 -- The error budget: what a list that stands for its trace at p/q tells of it (specs/Heights, specs/Windows).
+--   StandsFor         a kept list of a trace, within p/q
 --   BaselineBudget    the greatest value minus a mean, and the mean minus the least
 --   WindowBudget      means, areas and baselines over any window of ticks
 --   ErrorBudget       the lines, their greatest and least value, heights, and windows
@@ -6,10 +7,20 @@
 use mathlib.Core.List.{List}
 use Prim.Native.Nat.{ℕ, _-_, _*_, _≤_, _<_}
 use lib.IntN.{ℤ, pos, _-ℤ_, _*ℤ_}
+use lib.ListN.{length}
 use lib.Signed.{_≤ℤ_}
+use Rattle.kept.specs.Kept.{KeptList, AllValid}
 use Rattle.trace.specs.declared.Criterion.{Criterion}
+use Rattle.trace.specs.Trace.{Trace}
+use Rattle.trace.specs.Link.{valid}
 use Rattle.heights.specs.Heights.{Fraction, lineAt, traceAt, allOf, OnTrace, Near, peak, trough, height, Extremes}
 use Rattle.heights.specs.Windows.{multiple, Window, meanAt, areaOf, meanOver, baselineHeight, baselineDepth, BaselineNear}
+
+pub record StandsFor (ts : List ℕ) (vs : List ℤ) (c : Criterion) (l : List ℕ) : Type 0 where
+  pub trace : Trace ts vs
+  pub positive : 1 ≤ c .q
+  pub kept : KeptList (length ts - 1) l
+  pub within : AllValid (valid ts vs c) l
 
 -- x is a mean of the list's lines, y that of the trace's own
 pub record BaselineBudget (ts : List ℕ) (vs : List ℤ) (c : Criterion) (l : List ℕ) (x y : Fraction) : Type 0 where

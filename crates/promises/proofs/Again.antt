@@ -1,76 +1,26 @@
 -- Reducing a reduced trace again adds the tolerances, from the contracts alone: whichever calls kept, or judge passed, the list at t of the trace
--- and the list at u of the samples that the first one keeps. What a call wrote is read from its output: the first n entries, n being the number
--- that it returned.
+-- and the list at u of the samples that the first one keeps.
 -- Assumes nothing.
-use mathlib.Core.Path.{_≡_, refl}
+use mathlib.Core.Path.{_≡_}
 use mathlib.Core.List.{List}
-use Prim.Native.Nat.{ℕ, _-_}
+use Prim.Native.Nat.{ℕ}
 use lib.IntN.{ℤ, pos}
-use lib.ListN.{length, take}
+use lib.ListN.{take}
 use Rattle.lists.specs.Select.{select}
-use Rattle.lists.specs.Overwrite.{Wrote}
-use Rattle.lists.proofs.OverwriteLaws.{wrote-read}
 use Rattle.refusal.specs.declared.Checked.the-variants.{Fine}
-use Rattle.refusal.proofs.TableLaws.{then-fine}
-use Rattle.kept.specs.Kept.{KeptList, AllValid}
 use Rattle.tolerance.specs.declared.Tolerance.{Tolerance}
 use Rattle.tolerance.specs.Meaning.{meaning}
 use Rattle.trace.specs.declared.Criterion.{Criterion}
-use Rattle.trace.specs.Link.{criterion}
 use Rattle.trace.proofs.TraceLaws.{trace-rows}
 use Rattle.trace.proofs.SelectedTrace.{selected-trace}
-use Rattle.heights.specs.Again.{StandsFor, ReducedAgain}
+use Rattle.heights.specs.Budget.{StandsFor}
+use Rattle.heights.specs.Again.{ReducedAgain}
 use Rattle.heights.proofs.AgainLaws.{reduced-again}
-use Rattle.reduction.specs.declared.Galloped.{Galloped}
-use Rattle.closest.specs.declared.Found.{Found}
 use Rattle.engine.specs.declared.Reduced.the-variants.{Kept}
-use Rattle.engine.specs.declared.Probed.the-variants.{Kept as KeptBy}
-use Rattle.engine.specs.declared.Closest.the-variants.{Kept as KeptAt}
-use Rattle.engine.specs.declared.Verdict.the-variants.{Yes}
 use Rattle.engine.specs.Hold.{toleranceRow}
-use Rattle.engine.specs.Prepare.{commonRows, criterionOf, outputRows}
-use Rattle.engine.specs.Reduce.{okOf, WalkOutcome, GallopOutcome}
-use Rattle.engine.specs.Minimum.{MinimumOutcome}
-use Rattle.engine.specs.Least.{LeastOutcome}
-use Rattle.engine.specs.Judge.{judgeRows, JudgeOutcome}
-use Rattle.engine.proofs.LeastLaws.{least-task}
-use Rattle.engine.proofs.PrepareLaws.{common-trace}
-use Rattle.engine.proofs.WriteLaws.{common-held}
-
--- ---- what each call keeps stands for its trace
-
-module _ (ts : List ℕ) (vs : List ℤ) (t : Tolerance) where
-  passed-stands : {l : List ℕ} → commonRows ts vs t ≡ Fine → KeptList (length ts - 1) l → AllValid (okOf ts vs t) l → StandsFor ts vs (criterionOf t) l
-  passed-stands rows k v = record { trace = common-trace ts vs t rows; positive = common-held ts vs t rows .positive; kept = k; within = v }
-
-  written-stands : {l o o′ : List ℕ} {n : ℕ} → outputRows ts vs t (length o) ≡ Fine → Wrote l o n o′ → KeptList (length ts - 1) l → AllValid (okOf ts vs t) l
-      → StandsFor ts vs (criterionOf t) (take n o′)
-  unfolding outputRows
-  written-stands e w k v = rw (wrote-read w) (passed-stands (then-fine (commonRows ts vs t) _ e .0) k v)
-
-  pub walk-stands : {o o′ : List ℕ} {n : ℕ} → WalkOutcome ts vs t o (Kept n) o′ → StandsFor ts vs (criterionOf t) (take n o′)
-  walk-stands h = written-stands (h .rows) (h .wrote) (h .list .kept) (h .list .within)
-
-  pub gallop-stands : {o o′ : List ℕ} {g : Galloped} → GallopOutcome ts vs t o (KeptBy g) o′ → StandsFor ts vs (criterionOf t) (take (g .kept) o′)
-  gallop-stands h = written-stands (h .rows) (h .wrote) (h .list .kept) (h .list .within)
-
-  pub minimum-stands : {o o′ : List ℕ} {n : ℕ} → MinimumOutcome ts vs t o (Kept n) o′ → StandsFor ts vs (criterionOf t) (take n o′)
-  minimum-stands h = written-stands (h .rows) (h .wrote) (h .list .kept) (h .list .valid)
-
-  pub judge-stands : {l : List ℕ} → JudgeOutcome ts vs l t Yes → StandsFor ts vs (criterionOf t) l
-  unfolding judgeRows
-  judge-stands h = let passed = h .passed .0 refl in passed-stands (then-fine (commonRows ts vs t) _ (passed .0) .0) (passed .1) (passed .2)
-
--- least's list, at the error that it returns
-pub least-stands : (ts : List ℕ) (vs : List ℤ) (m : ℕ) {o o′ : List ℕ} {f : Found} → LeastOutcome ts vs m o (KeptAt f) o′ → StandsFor ts vs (criterion (f .error)) (take (f .kept) o′)
-least-stands ts vs m {o} h = rw (wrote-read (h .wrote)) (record {
-  trace = least-task ts vs m (length o) (h .rows) .0 .trace;
-  positive = h .allowed .positive;
-  kept = h .list .minimum .kept;
-  within = h .list .minimum .valid;
-})
-
--- ---- again
+use Rattle.engine.specs.Prepare.{commonRows, criterionOf}
+use Rattle.engine.specs.Reduce.{WalkOutcome}
+use Rattle.promises.proofs.Standing.{walk-stands}
 
 -- the samples that a list keeps pass the checks 1 to 4 at every allowed tolerance
 pub again-accepted : {ts : List ℕ} {vs : List ℤ} {c : Criterion} {l : List ℕ} (u : Tolerance) → StandsFor ts vs c l → toleranceRow (meaning u) ≡ Fine → commonRows (select 0 ts l) (select (pos 0) vs l) u ≡ Fine

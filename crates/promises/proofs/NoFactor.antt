@@ -33,7 +33,6 @@ use Rattle.reduction.specs.declared.Galloped.{Galloped}
 use Rattle.reduction.specs.Walking.{walkList}
 use Rattle.reduction.specs.Galloping.{gallopList}
 use Rattle.shortest.specs.Shortest.{minimumList}
-use Rattle.engine.specs.declared.Ready.the-variants.{At}
 use Rattle.engine.specs.declared.Reduced.{Reduced}
 use Rattle.engine.specs.declared.Reduced.the-variants.{Kept, Refused as Declined}
 use Rattle.engine.specs.declared.Probed.{Probed}
@@ -41,7 +40,7 @@ use Rattle.engine.specs.declared.Probed.the-variants.{Kept as KeptBy, Refused a
 use Rattle.engine.specs.Prepare.{criterionOf, Sets, ReadyAt, outputRows}
 use Rattle.engine.specs.Reduce.{WalkOutcome, GallopOutcome}
 use Rattle.engine.specs.Minimum.{MinimumOutcome}
-use Rattle.engine.proofs.PrepareLaws.{exact-sets, trace-fine, room-fine}
+use Rattle.engine.proofs.PrepareLaws.{exact-sets, sets-ready, room-fine}
 use Rattle.promises.specs.NoFactor.{counting, zigzag, justWide, NoFactor}
 
 -- p/q is 3 m / (m + 1): less than 3, and no less than what sample k, at level z, deviates by from a line of m + 1 ticks that climbs from 0 to 3
@@ -104,7 +103,7 @@ module _ (n : ℕ) (even : n % 2 ≡ 0) (two : 2 ≤ n) (few : n ≤ 4096) where
 
   accepts : (room : ℕ) → n ≤ room → outputRows ts vs (justWide n) room ≡ Fine
   accepts room h =
-      let ready : ReadyAt ts vs (justWide n) c = trace-fine ts vs (justWide n) (At c) (trace-rows 4096 ts vs trace (omega (arith, size))) sets in
+      let ready : ReadyAt ts vs (justWide n) c = sets-ready ts vs (justWide n) (trace-rows 4096 ts vs trace (omega (arith, size))) sets in
       room-fine ts vs (justWide n) room ready (omega (arith, size)) .rows
 
   -- ---- the links
