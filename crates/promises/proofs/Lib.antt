@@ -1,6 +1,6 @@
 -- What follows from the contracts of the public calls.
-pub mod Again
 pub mod Standing
 pub mod Heights
+pub mod Again
 pub mod Nearness
 pub mod NoFactor
