@@ -21,7 +21,7 @@ run() {
   )
 }
 
-with= without=
+with="" without=""
 for python in "${PYTHON:-python3}" python3 /usr/bin/python3; do
   python=$(command -v "$python") || continue
   if "$python" -c 'import numpy' 2>/dev/null; then

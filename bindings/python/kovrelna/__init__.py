@@ -50,7 +50,7 @@ from __future__ import annotations
 import operator
 from dataclasses import dataclass
 from fractions import Fraction
-from typing import Any, NamedTuple, Optional, SupportsIndex, Union, overload
+from typing import Any, NamedTuple, Optional, SupportsIndex, overload
 
 from . import _library, _tolerance
 from ._lists import BYTE, ENTRY, TICK, VALUE, Lent, Loan, Numbers, Output, new, used
@@ -87,7 +87,8 @@ _LEAST_SAMPLES = 256
 
 class Refusal(ValueError):
     """A call declined. It checks the rows that concern it in rising number and answers with the
-    first that fits; a refused call leaves every list as it was.
+    first that fits; a refused call leaves every list as it was. `number` and `value` are the row's;
+    `words` say what is wrong with what was given.
 
     | Number | Cause | Value |
     |---|---|---|
@@ -128,7 +129,8 @@ if it only stops short; 0 if it is empty |
 def _check(answer: Any, loan: Loan, **given: Any) -> None:
     """Raises a refusal; `given` are other arguments of `words`."""
     if answer.number != 0:
-        raise Refusal(answer.number, answer.value, words(answer.number, answer.value, loan, **given))
+        row = answer.number, answer.value
+        raise Refusal(*row, words(*row, loan, **given))
 
 
 def hold(tolerance: Tolerance) -> Fraction:
@@ -202,9 +204,7 @@ def _bounded(
     return _reduce(call, ticks, values, lent, out, most=_SAMPLES, tolerance=tolerance)
 
 
-def walk(
-    ticks: Lent, values: Lent, tolerance: Tolerance, out: Optional[Output] = None
-) -> Numbers:
+def walk(ticks: Lent, values: Lent, tolerance: Tolerance, out: Optional[Output] = None) -> Numbers:
     """From sample i, beginning with 0, tests the links to i+1, i+2, ... and keeps the sample before
     the first invalid one, or the last sample if none is invalid; goes on from there.
 

@@ -48,9 +48,9 @@ def _load() -> ctypes.CDLL:
         return ctypes.CDLL(path)
     except OSError as error:
         raise ImportError(
-            f"the shared library of Kovrelna cannot be loaded ({error}): install it beside the module "
-            f"(make install-python) or where the system's loader looks, or set KOVRELNA_LIBRARY to "
-            f"its path"
+            f"the shared library of Kovrelna cannot be loaded ({error}): install it beside the "
+            "module (make install-python) or where the system's loader looks, or set "
+            "KOVRELNA_LIBRARY to its path"
         ) from error
 
 

@@ -280,51 +280,80 @@ class Refusals(Case):
         self.refused(1, 0, kovrelna.expand, bytes(4097))
         self.refused(1, 0, kovrelna.expand, bytes(4097), array.array("h"))
 
-    def test_words(self):
-        flat, infinity = self.flat, float("inf")
-        none, nan = array.array("H"), float("nan")
-        limits = "p/q has q from 1 to 1,048,575 and p from 0 to 65,535 times q"
-        cases = [
-            (1, "no samples", kovrelna.walk, [], [], 1),
-            (1, "too many samples: at most 4,096 are allowed", kovrelna.walk, range(10**30), [], 1),
-            (1, "too many samples: at most 256 are allowed", kovrelna.least, range(257), flat, 2),
-            (1, "not as many values as ticks: 5 ticks and 4 values", kovrelna.judge, EVEN, flat[1:],
-            [0, 4], 1),
-            (1, "no codes", kovrelna.expand, b""),
-            (1, "too many codes: at most 4,096 are allowed", kovrelna.expand, bytes(4097)),
-            (2, "the tick of sample 2 is not above the one before: 4 after 5", kovrelna.gallop,
-            [0, 5, 4, 6, 7], flat, 1),
-            (2, "the tick of sample 1 is not above the one before: 7 after 7", kovrelna.walk,
-            memoryview((ctypes.c_uint32 * 2)(7, 7)), [0, 0], 1),
-            (3, "sample 4 is over 1,048,575 ticks after the first", kovrelna.minimum,
-            [0, 1, 2, 3, 1048576], flat, 1),
-            (5, "the allowance must be from 2 to 4,096, not 1", kovrelna.least, EVEN, flat, 1),
-            (7, "link 2, from sample 2 to sample 4, is invalid at this tolerance", kovrelna.write,
-            EVEN, ZIGZAG, [0, 1, 2, 4], 2),
-            (8, "the record is faulty at byte 16", kovrelna.read, RECORD[:18]),
-            (8, "the record is faulty at byte 0", kovrelna.same, b"", RECORD),
-            (9, "the second record is faulty at byte 22", kovrelna.same, RECORD, RECORD + b"E"),
-        ]
-        for tolerance, fault in [
-            (-1, f"{limits}, not -1/1"),
-            (Ratio(1, 0), f"{limits}, not 1/0"),
-            (10**5000, f"{limits}, not so long a number/1"),
-            (nan, "counts are from 0 to 65,535, not nan"),
-            (Counts(-infinity), "counts are from 0 to 65,535, not -inf"),
-            (0.1, "0.1 is not a multiple of 1/64; write Ratio(1, 10) or Fraction(1, 10)"),
-            (2.55, "2.55 is not a multiple of 1/64; write Ratio(51, 20) or Fraction(51, 20)"),
-            (Counts(Fraction(1, 10)), "1/10 is not a multiple of 1/64; write Ratio(1, 10) or "
-            "Fraction(1, 10)"),
-            (1 / 3, f"{1 / 3} is not a multiple of 1/64; write Ratio(p, q) or Fraction(p, q)"),
+
+class Words(Case):
+    """What a refusal says."""
+
+    flat = [0] * 5
+
+    def says(self, number, words, call, *arguments):
+        with self.assertRaises(Refusal) as caught:
+            call(*arguments)
+        refusal = caught.exception
+        self.assertIsInstance(refusal, ValueError)
+        for copy in (refusal, pickle.loads(pickle.dumps(refusal))):
+            self.assertEqual(str(copy), f"refused as {number}: {words}")
+            self.assertEqual((copy.number, copy.value), (number, refusal.value))
+
+    def test_lengths(self):
+        self.says(1, "no samples", kovrelna.walk, [], [], 1)
+        words = "too many samples: at most 4,096 are allowed"
+        self.says(1, words, kovrelna.walk, range(10**30), [], 1)
+        words = "too many samples: at most 256 are allowed"
+        self.says(1, words, kovrelna.least, range(257), [0] * 257, 2)
+        words = "not as many values as ticks: 5 ticks and 4 values"
+        self.says(1, words, kovrelna.judge, EVEN, [0] * 4, [0, 4], 1)
+        self.says(1, "no codes", kovrelna.expand, b"")
+        words = "too many codes: at most 4,096 are allowed"
+        self.says(1, words, kovrelna.expand, bytes(4097))
+
+    def test_ticks(self):
+        words = "the tick of sample 2 is not above the one before: 4 after 5"
+        self.says(2, words, kovrelna.gallop, [0, 5, 4, 6, 7], self.flat, 1)
+        words = "the tick of sample 1 is not above the one before: 7 after 7"
+        self.says(2, words, kovrelna.walk, memoryview((ctypes.c_uint32 * 2)(7, 7)), [0, 0], 1)
+        words = "sample 4 is over 1,048,575 ticks after the first"
+        self.says(3, words, kovrelna.minimum, [0, 1, 2, 3, 1048576], self.flat, 1)
+
+    def test_tolerances(self):
+        ratios = "p/q has q from 1 to 1,048,575 and p from 0 to 65,535 times q"
+        tenth = "is not a multiple of 1/64; write Ratio(1, 10) or Fraction(1, 10)"
+        third = "is not a multiple of 1/64; write Ratio(p, q) or Fraction(p, q)"
+        for tolerance, words in [
+            (-1, f"{ratios}, not -1/1"),
+            (Ratio(1, 0), f"{ratios}, not 1/0"),
+            (float("nan"), "counts are from 0 to 65,535, not nan"),
+            (Counts(-1), "counts are from 0 to 65,535, not -1"),
+            (0.1, f"0.1 {tenth}"),
+            (Counts(Fraction(1, 10)), f"1/10 {tenth}"),
+            (1 / 3, f"{1 / 3} {third}"),
             (Noise(1024, 2), "the noise is from 0 to 1,023, not 1024"),
             (Noise(0.1, 2), "0.1 is not a multiple of 1/64"),
             (Noise(1.5, 64), "the multiple is from 0 to 63, not 64"),
             (Noise(1.5, 2.1), "2.1 is not a multiple of 1/8"),
         ]:
-            fault = f"the tolerance is not allowed: {fault}"
-            cases += [(4, fault, kovrelna.hold, tolerance)]
-            cases += [(4, fault, kovrelna.judge, EVEN, flat, [0, 4], tolerance)]
-        for kept, fault in [
+            words = f"the tolerance is not allowed: {words}"
+            self.says(4, words, kovrelna.hold, tolerance)
+            for call in REDUCTIONS:
+                self.says(4, words, call, EVEN, self.flat, tolerance)
+            self.says(4, words, kovrelna.judge, EVEN, self.flat, [0, 4], tolerance)
+            self.says(4, words, kovrelna.write, EVEN, self.flat, [0, 4], tolerance)
+
+    def test_allowances(self):
+        words = "the allowance must be from 2 to 4,096, not 1"
+        self.says(5, words, kovrelna.least, EVEN, self.flat, 1)
+
+    def test_long_numbers(self):
+        for words, call, arguments in [
+            ("the tolerance is not allowed", kovrelna.hold, (10**5000,)),
+            ("the tolerance is not allowed", kovrelna.hold, (Counts(10**5000),)),
+            ("the allowance must be from 2", kovrelna.least, (EVEN, self.flat, 10**5000)),
+        ]:
+            with self.assertRaisesRegex(Refusal, words):
+                call(*arguments)
+
+    def test_lists(self):
+        for kept, words in [
             ([], "it is empty"),
             ([1, 4], "entry 0 is 1, and the first must be 0"),
             ([65535], "entry 0 is 65535, and the first must be 0"),
@@ -335,31 +364,31 @@ class Refusals(Case):
             ([0, 2, 3], "it ends with 3, not with the last sample, 4"),
         ]:
             for call in (kovrelna.judge, kovrelna.write):
-                cases += [(6, f"no kept list: {fault}", call, EVEN, flat, kept, 1)]
-        trace, values = ([0, 1, 3], [0, 1, 1], [0, 2], 1), array.array("h", [9] * 2)
-        for fault, call, *arguments in [
-            ("5 entries are needed, and out has 0", kovrelna.least, EVEN, flat, 2, none),
-            ("5 entries are needed, and out has 2", kovrelna.expand, bytes(5), values),
-            ("22 bytes are needed, and buffer has 21", kovrelna.write, *trace, bytearray(21)),
-            ("22 bytes are needed, and buffer has 18 from place 7 on", kovrelna.write, *trace,
-            bytearray(25), 7),
-            ("22 bytes are needed, and buffer has 0 from place 9 on", kovrelna.write, *trace,
-            bytearray(8), 9),
-            ("2 entries are needed, and ticks has 1", kovrelna.read, RECORD,
-            array.array("I", [9])),
-            ("2 entries are needed, and values has 1", kovrelna.read, RECORD,
-            array.array("I", [9] * 2), values[1:]),
+                self.says(6, f"no kept list: {words}", call, EVEN, self.flat, kept, 1)
+        words = "link 2, from sample 2 to sample 4, is invalid at this tolerance"
+        self.says(7, words, kovrelna.write, EVEN, ZIGZAG, [0, 1, 2, 4], 2)
+
+    def test_records(self):
+        self.says(8, "the record is faulty at byte 16", kovrelna.read, RECORD[:18])
+        self.says(8, "the record is faulty at byte 0", kovrelna.same, b"", RECORD)
+        words = "the second record is faulty at byte 22"
+        self.says(9, words, kovrelna.same, RECORD, RECORD + b"\x45")
+
+    def test_room(self):
+        ticks, values, out = array.array("I", [9] * 2), array.array("h", [9] * 2), array.array("H")
+        trace = [0, 1, 3], [0, 1, 1], [0, 2], 1
+        for words, call, arguments in [
+            ("5 entries are needed, and out has 0", kovrelna.least, (EVEN, self.flat, 2, out)),
+            ("5 entries are needed, and out has 2", kovrelna.expand, (bytes(5), values)),
+            ("2 entries are needed, and ticks has 1", kovrelna.read, (RECORD, ticks[1:])),
+            ("2 entries are needed, and values has 1", kovrelna.read, (RECORD, ticks, values[1:])),
+            ("22 bytes are needed, and buffer has 21", kovrelna.write, (*trace, bytearray(21))),
         ]:
-            cases += [(10, f"the output is too short: {fault}", call, *arguments)]
-        for number, words, call, *arguments in cases:
-            with self.assertRaises(Refusal) as caught:
-                call(*arguments)
-            self.assertEqual(str(caught.exception), f"refused as {number}: {words}")
-            refusal = pickle.loads(pickle.dumps(caught.exception))
-            self.assertIsInstance(refusal, ValueError)
-            self.assertEqual(str(refusal), f"refused as {number}: {words}")
-            self.assertEqual(refusal.number, number)
-        self.assertEqual({case[0] for case in cases}, set(range(1, 11)))
+            self.says(10, f"the output is too short: {words}", call, *arguments)
+        for size, place, room in [(25, 7, 18), (8, 9, 0)]:
+            words = f"22 bytes are needed, and buffer has {room} from place {place} on"
+            words = f"the output is too short: {words}"
+            self.says(10, words, kovrelna.write, *trace, bytearray(size), place)
 
 
 class Longest(Case):
@@ -508,7 +537,7 @@ class Buffers(Case):
 
     def test_wrong_buffers(self):
         wrong = [
-            (array.array("d", [0, 1]), r"format 'd' with 8 bytes an item; write array.array\('I', ticks\)"),
+            (array.array("d", [0, 1]), "format 'd' with 8 bytes"),
             (array.array("f", [0, 1]), "format 'f' with 4 bytes"),
             (array.array("i", [0, 1]), "format 'i'"),
             (array.array("H", [0, 1]), "format 'H' with 2 bytes"),
@@ -536,7 +565,12 @@ class Buffers(Case):
             with self.assertRaisesRegex(TypeError, "must be a buffer of unsigned 8-bit"):
                 kovrelna.read(record)
 
-    def test_tables(self):
+    def test_what_to_write_instead(self):
+        ticks = array.array("q", [0, 1, 3])
+        with self.assertRaisesRegex(TypeError, r"; write array.array\('I', ticks\)$"):
+            kovrelna.walk(ticks, [0, 1, 1], 1)
+        self.assertEqual(list(kovrelna.walk(array.array("I", ticks), [0, 1, 1], 1)), [0, 2])
+
         class Series:
             """A column as pandas has it: no buffer."""
 
@@ -640,8 +674,8 @@ class NumpyArrays:
         for answer in answers:
             self.assertIsInstance(answer, self.module.ndarray)
             # It holds no more than what is used.
-            self.assertEqual(memoryview(answer.base if answer.base is not None else answer).nbytes,
-            memoryview(answer).nbytes)
+            memory = answer if answer.base is None else answer.base
+            self.assertEqual(memoryview(memory).nbytes, memoryview(answer).nbytes)
 
     def test_outputs_are_lent(self):
         out = self.module.array([9] * 5, "H")
@@ -706,28 +740,26 @@ class Numpy(NumpyArrays, Case):
             kovrelna.walk(ticks, values, 1, out)
 
     def test_what_to_write_instead(self):
-        both = numpy.array([[0, 7], [1, 7], [3, 7]])
-        wide = numpy.arange(3)
-        limits = "if all are from 0 to 4294967295"
-        for ticks, words in [
-            (wide, f"write ticks.astype(numpy.uint32), {limits}"),
-            (both[:, 0], f"write ticks.astype(numpy.uint32), {limits}"),
-            (wide.astype(">u4"), f"write ticks.astype(numpy.uint32), {limits}"),
-            (wide.astype("f4"), "write ticks.astype(numpy.uint32), if all are whole and from 0 to "
-            "4294967295"),
-            (both.astype(numpy.uint32)[:, 0], "not contiguous; write numpy.ascontiguousarray(ticks)"),
-            (both.astype(numpy.uint32), "write numpy.ascontiguousarray(ticks[:, 0]) for its first column"),
+        two = numpy.array([[0, 7], [1, 7], [3, 7]])
+        words = "ticks.astype(numpy.uint32), if all are from 0 to 4294967295"
+        whole = "ticks.astype(numpy.uint32), if all are whole and from 0 to 4294967295"
+        first = "numpy.ascontiguousarray(ticks[:, 0]) for its first column"
+        for ticks, instead, words in [
+            (numpy.array([0, 1, 3]), "ticks.astype(numpy.uint32)", words),
+            (two[:, 0], "ticks.astype(numpy.uint32)", words),
+            (two[:, 0].astype(">u4"), "ticks.astype(numpy.uint32)", words),
+            (two[:, 0].astype("f4"), "ticks.astype(numpy.uint32)", whole),
+            (two.astype("u4")[:, 0], "numpy.ascontiguousarray(ticks)", ""),
+            (two.astype("u4"), "numpy.ascontiguousarray(ticks[:, 0])", first),
         ]:
             with self.assertRaises(TypeError) as caught:
                 kovrelna.walk(ticks, [0, 1, 1], 1)
-            self.assertTrue(str(caught.exception).endswith(words), caught.exception)
-            asked = words[words.index("write ") + 6 :].split(", if")[0].split(" for")[0]
-            kept = kovrelna.walk(eval(asked), [0, 1, 1], 1) if ticks is not wide else [0, 2]
-            self.assertEqual(list(kept), [0, 2])
-        values = numpy.array([0, 1, 1], numpy.uint16)
-        words = r"write values.astype\(numpy.int16\), if all are from -32768 to 32767$"
+            said = str(caught.exception)
+            self.assertTrue(said.endswith(f"; write {words or instead}"), said)
+            self.assertEqual(kovrelna.walk(eval(instead), [0, 1, 1], 1).tolist(), [0, 2])
+        words = r"; write values.astype\(numpy.int16\), if all are from -32768 to 32767$"
         with self.assertRaisesRegex(TypeError, words):
-            kovrelna.walk([0, 1, 3], values, 1)
+            kovrelna.walk([0, 1, 3], numpy.array([0, 1, 1], numpy.uint16), 1)
         unaligned = numpy.zeros(13, numpy.uint8)[1:].view(numpy.uint32)
         with self.assertRaisesRegex(ValueError, r"; write ticks.copy\(\)$"):
             kovrelna.walk(unaligned, [0, 1, 1], 1)
