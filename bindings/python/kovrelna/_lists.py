@@ -192,11 +192,13 @@ def _view(name: str, given: Any, item: Item, output: bool) -> memoryview:
 
 def _instead(name: str, given: Any, item: Item) -> str:
     """What to write instead of an input that is refused, if that is known."""
+    if hasattr(given, "mask"):
+        return ""
     if isinstance(given, array.array):
         return f"; write array.array({item.code!r}, {name})"
     if hasattr(given, "to_numpy"):
         return f"; write {name}.to_numpy(numpy.{item.numpy})"
-    if not _is_numpy(given) or hasattr(given, "mask"):
+    if not _is_numpy(given):
         return ""
     if given.ndim == 2:
         return f"; write numpy.ascontiguousarray({name}[:, 0]) for its first column"

@@ -89,8 +89,8 @@ def fault(tolerance: Tolerance) -> str:
         limits = "p/q has q from 1 to 1,048,575 and p from 0 to 65,535 times q"
         return f"{limits}, not {shown(form.p)}/{shown(form.q)}"
     if isinstance(form, Counts):
-        fault = _fault("counts are", form.counts, 65535, 64)
-        return fault + (_instead(form.counts) if fault.endswith("1/64") else "")
+        words = _fault("counts are", form.counts, 65535, 64)
+        return words + (_instead(form.counts) if words.endswith("1/64") else "")
     noise = _fault("the noise is", form.noise, 1023, 64)
     return noise or _fault("the multiple is", form.multiple, 63, 8)
 

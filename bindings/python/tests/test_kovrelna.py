@@ -532,7 +532,7 @@ class Buffers(Case):
             (trace[0], Masked("h", [0, 0]), None),
             (*trace, Masked("H", [9, 9])),
         ]:
-            with self.assertRaisesRegex(TypeError, "it has a mask"):
+            with self.assertRaisesRegex(TypeError, "it has a mask, which would be lost$"):
                 kovrelna.walk(ticks, values, 1, out)
 
     def test_wrong_buffers(self):
