@@ -6,6 +6,7 @@
 # nothing.
 # Run from the repository's root: test-install.sh VERSION.
 set -eu
+unset MAKEFLAGS
 version=$1
 work=$(mktemp -d)
 trap 'rm -rf "$work"' EXIT
