@@ -1,13 +1,40 @@
-//! Options and operands of a command line. Every option but `--help` takes a value, as `--name value`,
-//! `--name=value`, `-n value` or `-nvalue`. `--` ends the options; `-` alone is an operand.
+//! Options and operands of a command line. An option takes a value, as `--name value`, `--name=value`,
+//! `-n value` or `-nvalue`, or is a flag, as `--help` is. `--` ends the options; `-` alone is an operand.
 
 use crate::failure::Failure;
-use crate::source::shown;
+use crate::name::{placed, shown};
 use std::ffi::{OsStr, OsString};
 use std::os::unix::ffi::OsStrExt;
 
-/// An option's name and its letter.
-pub type Known = (&'static str, char);
+/// An option.
+#[derive(Clone, Copy)]
+pub struct Known {
+    pub name: &'static str,
+    letter: Option<char>,
+    is_flag: bool,
+}
+
+impl Known {
+    /// An option with a value.
+    pub const fn valued(name: &'static str, letter: Option<char>) -> Known {
+        let is_flag = false;
+        Known {
+            name,
+            letter,
+            is_flag,
+        }
+    }
+
+    /// An option without a value.
+    pub const fn flag(name: &'static str, letter: Option<char>) -> Known {
+        let is_flag = true;
+        Known {
+            name,
+            letter,
+            is_flag,
+        }
+    }
+}
 
 /// What a command line gives.
 #[derive(Debug, Default)]
@@ -39,22 +66,23 @@ impl Arguments {
                 parsed.help = true;
                 continue;
             }
-            let wrong =
-                |cause: &str| Failure::usage(&format!("{}: {cause}", shown(argument)), command);
-            let long = long(known, name).ok_or_else(|| wrong("there is no such option"))?;
-            if parsed.value(long).is_some() {
+            let wrong = |cause: &str| Failure::usage(placed(shown(argument), cause), command);
+            let known = named(known, name).ok_or_else(|| wrong("there is no such option"))?;
+            if parsed.value(known.name).is_some() {
                 return Err(wrong("the option is given twice"));
             }
-            let value = value.or_else(|| arguments.next().map(OsString::as_os_str));
-            let value = value
-                .ok_or_else(|| wrong("a value is missing"))?
-                .to_os_string();
-            parsed.options.push((long, value));
+            let value = match (known.is_flag, value) {
+                (true, Some(_)) => return Err(wrong("the option takes no value")),
+                (true, None) => Some(OsStr::new("")),
+                (false, value) => value.or_else(|| arguments.next().map(OsString::as_os_str)),
+            };
+            let value = value.ok_or_else(|| wrong("a value is missing"))?;
+            parsed.options.push((known.name, value.to_os_string()));
         }
         Ok(parsed)
     }
 
-    /// The option's value.
+    /// The option's value, which is empty for a flag, if the option is given.
     pub fn value(&self, name: &str) -> Option<&OsStr> {
         let found = self.options.iter().find(|(option, _)| *option == name);
         found.map(|(_, value)| value.as_os_str())
@@ -62,12 +90,12 @@ impl Arguments {
 }
 
 /// The known option with this name, which has its dashes.
-fn long(known: &[Known], name: &[u8]) -> Option<&'static str> {
-    let named = |&&(long, letter): &&Known| match name {
-        [b'-', b'-', name @ ..] => name == long.as_bytes(),
-        name => name[1] == letter as u8,
+fn named(known: &[Known], name: &[u8]) -> Option<Known> {
+    let named = |known: &&Known| match name {
+        [b'-', b'-', name @ ..] => name == known.name.as_bytes(),
+        name => known.letter.is_some_and(|letter| name[1] == letter as u8),
     };
-    known.iter().find(named).map(|&(long, _)| long)
+    known.iter().find(named).copied()
 }
 
 /// An option's name with its dashes, and the value in the same argument, if there is one.
@@ -89,7 +117,12 @@ fn option(argument: &OsStr) -> Option<(&[u8], Option<&OsStr>)> {
 mod tests {
     use super::*;
 
-    const KNOWN: &[Known] = &[("tolerance", 't'), ("output", 'o')];
+    const KNOWN: &[Known] = &[
+        Known::valued("tolerance", Some('t')),
+        Known::valued("output", Some('o')),
+        Known::valued("from", None),
+        Known::flag("budget", Some('b')),
+    ];
 
     fn parse(arguments: &[&str]) -> Result<Arguments, Failure> {
         let arguments: Vec<OsString> = arguments.iter().map(OsString::from).collect();
@@ -114,6 +147,13 @@ mod tests {
         assert_eq!(parsed.operands, ["-", "-t", "--help"]);
         assert_eq!(parsed.value("tolerance"), None);
         assert!(parse(&["-t", "1", "--help"]).unwrap().help);
+        for line in [&["in", "--budget"][..], &["-b", "in"]] {
+            let parsed = parse(line).unwrap();
+            assert_eq!(parsed.value("budget"), Some(OsStr::new("")));
+            assert_eq!(parsed.operands, ["in"]);
+        }
+        let from = parse(&["--from", "-5"]).unwrap();
+        assert_eq!(from.value("from"), Some(OsStr::new("-5")));
         let empty = parse(&["--output=", ""]).unwrap();
         assert_eq!(empty.value("output"), Some(OsStr::new("")));
         assert_eq!(empty.operands, [""]);
@@ -126,11 +166,18 @@ mod tests {
             (&["-x"], "there is no such option"),
             (&["--=2"], "there is no such option"),
             (&["--help=2"], "there is no such option"),
+            (&["-f5"], "there is no such option"),
             (&["-t"], "a value is missing"),
+            (&["--budget=2"], "the option takes no value"),
+            (&["-b2"], "the option takes no value"),
+            (&["-b", "--budget"], "the option is given twice"),
             (&["--tolerance", "2", "-t3"], "the option is given twice"),
         ] {
             match parse(line) {
-                Err(Failure::Told(message)) => assert!(message.contains(cause), "{message}"),
+                Err(Failure::Told(message)) => {
+                    let message = message.into_string().unwrap();
+                    assert!(message.contains(cause), "{message}");
+                }
                 other => panic!("{line:?} {other:?}"),
             }
         }

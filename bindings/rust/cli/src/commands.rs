@@ -2,8 +2,9 @@
 
 use crate::failure::{Failure, Status};
 use crate::line::{Kept, Line, ALLOWANCE, LIST, LIST_FILE, METHOD, OUTPUT, TOLERANCE};
+use crate::name::{placed, shown};
 use crate::records::{self, Record};
-use crate::source::{shown, Source};
+use crate::source::Source;
 use crate::svg::{self, Picture};
 use crate::text::{self, List, Text};
 use crate::{help, output};
@@ -36,7 +37,7 @@ fn record(arguments: &[OsString]) -> Result<Status, Failure> {
     let text = Text::read(Source::open(line.input()?)?)?;
     let Some(kept) = Kept::of(&text, reduction)? else {
         let cause = "--tolerance is missing, and there is no line `# tolerance p/q`";
-        return Err(line.wrong(&format!("{}: {cause}", text.name)));
+        return Err(line.wrong(placed(&text.name, cause)));
     };
     let record = records::save(&text.ticks, &text.values, &kept.list, kept.tolerance)
         .map_err(|refusal| text.refused(refusal))?;
@@ -46,14 +47,16 @@ fn record(arguments: &[OsString]) -> Result<Status, Failure> {
 /// Prints what each input gives; says what is wrong with an input and goes on with the next.
 fn each(
     inputs: &[&OsStr],
-    mut print: impl FnMut(String, Record) -> String,
+    mut print: impl FnMut(OsString, Record) -> OsString,
 ) -> Result<Status, Failure> {
     let mut status = Status::Done;
     for input in inputs {
         let source = Source::open(Some(input));
         let loaded = source.and_then(|source| Ok((source.name.clone(), records::load(source)?)));
         match loaded {
-            Ok((name, record)) => output::standard(print(name, record).as_bytes())?,
+            Ok((name, record)) => {
+                output::print(print(name, record))?;
+            }
             Err(failure) => {
                 failure.report();
                 status = Status::Error;
@@ -70,14 +73,16 @@ fn show(arguments: &[OsString]) -> Result<Status, Failure> {
     }
     let inputs = line.inputs()?;
     each(&inputs, |name, record| {
-        let mut text = String::new();
+        let mut text = OsString::new();
         if inputs.len() > 1 {
-            text = format!("# {name}\n");
+            text.push("# ");
+            text.push(name);
+            text.push("\n");
         }
         let Ratio { p, q } = record.tolerance;
-        text += &format!("# tolerance {p}/{q}\n");
+        text.push(format!("# tolerance {p}/{q}\n"));
         for (tick, value) in record.ticks.iter().zip(&record.values) {
-            text += &format!("{tick},{value}\n");
+            text.push(format!("{tick},{value}\n"));
         }
         text
     })
@@ -96,7 +101,7 @@ fn judge(arguments: &[OsString]) -> Result<Status, Failure> {
         return Err(line.wrong("standard input is wanted twice"));
     }
     let list = match (line.text(LIST)?, line.value(LIST_FILE)) {
-        (Some(list), None) => List::of(LIST.0, list).map_err(|cause| line.wrong(&cause))?,
+        (Some(list), None) => List::of(LIST.name, list).map_err(|cause| line.wrong(cause))?,
         (None, Some(file)) => List::read(Source::open(Some(file))?)?,
         _ => return Err(line.wrong("one of --list and --list-file is wanted")),
     };
@@ -104,7 +109,7 @@ fn judge(arguments: &[OsString]) -> Result<Status, Failure> {
     match kovrelna::judge(&text.ticks, &text.values, &list.entries, tolerance) {
         Ok(Verdict::Within) => output::print("yes\n"),
         Ok(Verdict::Outside { link }) => {
-            output::print(&format!("no at link {link}\n"))?;
+            output::print(format!("no at link {link}\n"))?;
             Ok(Status::No)
         }
         Err(Refusal::List(entry)) => Err(list.refused(entry)),
@@ -123,7 +128,7 @@ fn least(arguments: &[OsString]) -> Result<Status, Failure> {
     let Some(allowance) = line.text(ALLOWANCE)? else {
         return Err(line.wrong("--allowance is missing"));
     };
-    let wrong = |cause: &dyn Display| line.wrong(&format!("--allowance: {cause}"));
+    let wrong = |cause: &dyn Display| line.wrong(format!("--allowance: {cause}"));
     let allowance: u64 = text::whole("allowance", allowance, 2, 4_096).map_err(|c| wrong(&c))?;
     let text = Text::read(Source::open(line.input()?)?)?.original()?;
     let mut list = vec![0; text.ticks.len()];
@@ -135,7 +140,7 @@ fn least(arguments: &[OsString]) -> Result<Status, Failure> {
     })?;
     let list: Vec<String> = list[..kept].iter().map(u16::to_string).collect();
     let Ratio { p, q } = error;
-    output::print(&format!("error {p}/{q}\nlist {}\n", list.join(",")))
+    output::print(format!("error {p}/{q}\nlist {}\n", list.join(",")))
 }
 
 /// What a line of the summary says.
@@ -169,7 +174,7 @@ impl Counts {
         }
     }
 
-    fn line(&self, tolerance: &str, name: &str) -> String {
+    fn line(&self, tolerance: &str, name: impl AsRef<OsStr>) -> OsString {
         let Counts {
             samples,
             span,
@@ -177,7 +182,12 @@ impl Counts {
             greatest,
             bytes,
         } = self;
-        format!("{samples}\t{span}\t{tolerance}\t{least}\t{greatest}\t{bytes}\t{name}\n")
+        let mut line = OsString::from(format!(
+            "{samples}\t{span}\t{tolerance}\t{least}\t{greatest}\t{bytes}\t"
+        ));
+        line.push(name.as_ref());
+        line.push("\n");
+        line
     }
 }
 
@@ -191,16 +201,16 @@ fn summary(arguments: &[OsString]) -> Result<Status, Failure> {
     let status = each(&line.inputs()?, |name, record| {
         let counts = Counts::of(&record);
         let Ratio { p, q } = record.tolerance;
-        let line = counts.line(&format!("{p}/{q}"), &name);
+        let line = counts.line(&format!("{p}/{q}"), name);
         total = Some(match &total {
             Some(before) => before.plus(&counts),
             None => counts,
         });
         line
     })?;
-    output::print(&match total {
+    output::print(match total {
         Some(total) => total.line("-", "total"),
-        None => "0\t0\t-\t-\t-\t0\ttotal\n".to_string(),
+        None => "0\t0\t-\t-\t-\t0\ttotal\n".into(),
     })?;
     Ok(status)
 }
@@ -220,7 +230,7 @@ fn draw(arguments: &[OsString]) -> Result<Status, Failure> {
         false => picture_of_trace(&line, source)?,
     };
     let name = match input.and_then(|input| Path::new(input).file_name()) {
-        Some(name) if name != "-" => format!(": {}", shown(name)),
+        Some(name) if name != "-" => format!(": {}", shown(name).to_string_lossy()),
         _ => String::new(),
     };
     let tolerance = match picture.tolerance {
@@ -241,7 +251,7 @@ fn samples(count: usize) -> String {
 fn picture_of_record(line: &Line, source: Source) -> Result<(String, Picture), Failure> {
     if line.value(TOLERANCE).is_some() || line.value(METHOD).is_some() {
         let cause = "a record, with its own tolerance: --tolerance and --method do not apply";
-        return Err(line.wrong(&format!("{}: {cause}", source.name)));
+        return Err(line.wrong(placed(&source.name, cause)));
     }
     let record = records::load(source)?;
     let counts = format!("{} kept", samples(record.ticks.len()));
@@ -259,7 +269,7 @@ fn picture_of_trace(line: &Line, source: Source) -> Result<(String, Picture), Fa
     let text = Text::read(source)?;
     let Some(kept) = Kept::of(&text, reduction)? else {
         let cause = "--tolerance is missing, and this is no record";
-        return Err(line.wrong(&format!("{}: {cause}", text.name)));
+        return Err(line.wrong(placed(&text.name, cause)));
     };
     let trace: Vec<_> = text.ticks.into_iter().zip(text.values).collect();
     let counts = match kept.method {

@@ -1,6 +1,8 @@
 //! Why the tool stops, in words, and its exit status.
 
-use std::io::{self, Write};
+use crate::name::{placed, printed};
+use std::ffi::{OsStr, OsString};
+use std::io::{self, IsTerminal, Write};
 use std::process::ExitCode;
 
 /// How the tool ends.
@@ -28,39 +30,52 @@ impl From<Status> for ExitCode {
 #[derive(Debug, PartialEq, Eq)]
 pub enum Failure {
     /// What standard error is told.
-    Told(String),
+    Told(OsString),
     /// Nobody reads standard output any more: nothing is told.
     BrokenPipe,
 }
 
 impl Failure {
     /// At this file, or whatever else is at fault.
-    pub fn at(place: &str, cause: impl ToString) -> Failure {
-        Failure::Told(format!("{place}: {}", cause.to_string()))
+    pub fn at(place: impl AsRef<OsStr>, cause: impl ToString) -> Failure {
+        Failure::Told(placed(place, cause))
     }
 
     /// At a line of this file; lines are counted from 1.
-    pub fn at_line(place: &str, line: usize, cause: impl ToString) -> Failure {
-        Failure::Told(format!("{place}:{line}: {}", cause.to_string()))
+    pub fn at_line(place: impl AsRef<OsStr>, line: usize, cause: impl ToString) -> Failure {
+        Failure::at(line_of(place, line), cause)
     }
 
     /// An operation on this file failed.
-    pub fn io(place: &str, error: &io::Error) -> Failure {
+    pub fn io(place: impl AsRef<OsStr>, error: &io::Error) -> Failure {
         Failure::at(place, words(error))
     }
 
     /// The command line is wrong; `command` is the command's name, if it is known.
-    pub fn usage(cause: &str, command: &str) -> Failure {
+    pub fn usage(cause: impl AsRef<OsStr>, command: &str) -> Failure {
         let space = if command.is_empty() { "" } else { " " };
-        Failure::Told(format!("{cause}\nTry `kovrelna{space}{command} --help`."))
+        let mut message = cause.as_ref().to_os_string();
+        message.push(format!("\nTry `kovrelna{space}{command} --help`."));
+        Failure::Told(message)
     }
 
     /// Tells standard error, as far as it can be written.
     pub fn report(&self) {
         if let Failure::Told(message) = self {
-            let _ = writeln!(io::stderr(), "kovrelna: {message}");
+            let mut line = OsString::from("kovrelna: ");
+            line.push(message);
+            line.push("\n");
+            let to_terminal = io::stderr().is_terminal();
+            let _ = io::stderr().write_all(&printed(&line, to_terminal));
         }
     }
+}
+
+/// A line of this file, in a message.
+pub fn line_of(place: impl AsRef<OsStr>, line: usize) -> OsString {
+    let mut line_of = place.as_ref().to_os_string();
+    line_of.push(format!(":{line}"));
+    line_of
 }
 
 /// The error without the system's number for it.
@@ -78,7 +93,7 @@ mod tests {
 
     #[test]
     fn messages() {
-        let told = |words: &str| Failure::Told(words.to_string());
+        let told = |words: &str| Failure::Told(words.into());
         assert_eq!(Failure::at_line("a.csv", 3, "why"), told("a.csv:3: why"));
         let missing = io::Error::from_raw_os_error(2);
         assert_eq!(

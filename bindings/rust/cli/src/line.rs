@@ -2,18 +2,18 @@
 
 use crate::args::{Arguments, Known};
 use crate::failure::Failure;
-use crate::source::shown;
+use crate::name::{placed, shown};
 use crate::text::Text;
 use crate::tolerance;
 use kovrelna::{Ratio, Refusal, Tolerance};
 use std::ffi::{OsStr, OsString};
 
-pub const TOLERANCE: Known = ("tolerance", 't');
-pub const METHOD: Known = ("method", 'm');
-pub const OUTPUT: Known = ("output", 'o');
-pub const LIST: Known = ("list", 'l');
-pub const LIST_FILE: Known = ("list-file", 'f');
-pub const ALLOWANCE: Known = ("allowance", 'a');
+pub const TOLERANCE: Known = Known::valued("tolerance", Some('t'));
+pub const METHOD: Known = Known::valued("method", Some('m'));
+pub const OUTPUT: Known = Known::valued("output", Some('o'));
+pub const LIST: Known = Known::valued("list", Some('l'));
+pub const LIST_FILE: Known = Known::valued("list-file", Some('f'));
+pub const ALLOWANCE: Known = Known::valued("allowance", Some('a'));
 
 /// A command line of a command.
 pub struct Line {
@@ -31,12 +31,12 @@ impl Line {
         Ok(Line { command, arguments })
     }
 
-    pub fn wrong(&self, cause: &str) -> Failure {
+    pub fn wrong(&self, cause: impl AsRef<OsStr>) -> Failure {
         Failure::usage(cause, self.command)
     }
 
     pub fn value(&self, option: Known) -> Option<&OsStr> {
-        self.arguments.value(option.0)
+        self.arguments.value(option.name)
     }
 
     /// An option's value as text.
@@ -46,7 +46,11 @@ impl Line {
         };
         match value.to_str() {
             Some(text) => Ok(Some(text)),
-            None => Err(self.wrong(&format!("--{}: {} is no text", option.0, shown(value)))),
+            None => {
+                let value = shown(value);
+                let cause = format!("{} is no text", value.to_string_lossy());
+                Err(self.wrong(placed(format!("--{}", option.name), cause)))
+            }
         }
     }
 
@@ -57,7 +61,7 @@ impl Line {
         };
         match tolerance::parse(text) {
             Ok(tolerance) => Ok(Some(tolerance)),
-            Err(cause) => Err(self.wrong(&format!("--tolerance: {cause}"))),
+            Err(cause) => Err(self.wrong(format!("--tolerance: {cause}"))),
         }
     }
 
@@ -67,9 +71,7 @@ impl Line {
         };
         match METHODS.iter().find(|method| method.name == name) {
             Some(&method) => Ok(Some(method)),
-            None => Err(self.wrong(&format!(
-                "--method: `{name}` is not walk, gallop or minimum"
-            ))),
+            None => Err(self.wrong(format!("--method: `{name}` is not walk, gallop or minimum"))),
         }
     }
 
@@ -89,7 +91,7 @@ impl Line {
         match &self.arguments.operands[..] {
             [] => Ok(None),
             [input] => Ok(Some(input)),
-            [_, more, ..] => Err(self.wrong(&format!("{}: only one input is read", shown(more)))),
+            [_, more, ..] => Err(self.wrong(placed(shown(more), "only one input is read"))),
         }
     }
 

@@ -5,6 +5,7 @@
 //! - `failure`: why the tool stops, and its exit status.
 //! - `number`: decimal numbers, exactly as they are written.
 //! - `tolerance`: a tolerance as it is written on the command line.
+//! - `name`: names of files in what is printed.
 //! - `source`: files and standard input.
 //! - `text`: traces and lists as text.
 //! - `records`: records as files.
@@ -22,6 +23,7 @@ mod commands;
 mod failure;
 mod help;
 mod line;
+mod name;
 mod number;
 mod output;
 mod records;
@@ -31,6 +33,7 @@ mod text;
 mod tolerance;
 
 use failure::{Failure, Status};
+use name::{placed, shown};
 use std::env;
 use std::ffi::OsString;
 use std::process::ExitCode;
@@ -53,8 +56,8 @@ fn run(arguments: &[OsString]) -> Result<Status, Failure> {
     let alone = |text| match rest {
         [] => output::print(text),
         [more, ..] => {
-            let cause = format!("{}: nothing may follow", source::shown(more));
-            Err(Failure::usage(&cause, ""))
+            let cause = placed(shown(more), "nothing may follow");
+            Err(Failure::usage(cause, ""))
         }
     };
     match name.to_str() {
@@ -63,8 +66,9 @@ fn run(arguments: &[OsString]) -> Result<Status, Failure> {
         name => match name.and_then(commands::find) {
             Some(command) => command(rest),
             None => {
-                let name = source::shown(arguments[0].as_ref());
-                Err(Failure::usage(&format!("there is no command {name}"), ""))
+                let mut cause = OsString::from("there is no command ");
+                cause.push(shown(&arguments[0]));
+                Err(Failure::usage(cause, ""))
             }
         },
     }

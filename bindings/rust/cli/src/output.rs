@@ -4,7 +4,7 @@
 //! name, so that after any error what was there before is there still.
 
 use crate::failure::{Failure, Status};
-use crate::source::shown;
+use crate::name::{placed, printed, shown};
 use std::ffi::{OsStr, OsString};
 use std::fs::{self, File, Metadata, OpenOptions};
 use std::io::{self, IsTerminal, Write};
@@ -28,9 +28,9 @@ pub fn standard(bytes: &[u8]) -> Result<(), Failure> {
     written.map_err(|error| failed(&error))
 }
 
-/// Writes text to standard output.
-pub fn print(text: &str) -> Result<Status, Failure> {
-    standard(text.as_bytes())?;
+/// Prints text, which may have names in it.
+pub fn print(text: impl AsRef<OsStr>) -> Result<Status, Failure> {
+    standard(&printed(text.as_ref(), io::stdout().is_terminal()))?;
     Ok(Status::Done)
 }
 
@@ -54,7 +54,7 @@ pub fn write(path: Option<&OsStr>, bytes: &[u8], is_text: bool) -> Result<Status
 /// refused. What is no regular file, such as a device or a pipe, is written to as it is, and so is a
 /// file that a process has open, such as `/dev/stdout`.
 fn replace(given: &OsStr, bytes: &[u8]) -> Result<(), Failure> {
-    let failed = |error: io::Error| Failure::io(&shown(given), &error);
+    let failed = |error: io::Error| Failure::io(shown(given), &error);
     let (folder, name) = followed(Path::new(given)).map_err(failed)?;
     let path = folder.join(name);
     let before = fs::metadata(&path).ok();
@@ -66,8 +66,9 @@ fn replace(given: &OsStr, bytes: &[u8]) -> Result<(), Failure> {
         }
     }
     let made = Temporary::create(&folder).map_err(|error| {
-        let cause = format!("no file can be made in {}", shown(folder.as_ref()));
-        Failure::io(&format!("{}: {cause}", shown(given)), &error)
+        let mut place = placed(shown(given), "no file can be made in ");
+        place.push(shown(folder.as_ref()));
+        Failure::io(place, &error)
     });
     let (file, temporary) = made?;
     fill(file, bytes, before).map_err(failed)?;

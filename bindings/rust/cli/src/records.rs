@@ -74,11 +74,11 @@ mod tests {
         assert_eq!((record.ticks, record.values), (vec![0, 3], vec![0, 1]));
         assert_eq!((record.tolerance, record.bytes), (Ratio { p: 2, q: 3 }, 22));
         let cut = load(Source::of("in", &bytes[..20])).unwrap_err();
-        let told = "in: the record is faulty at byte 19".to_string();
-        assert_eq!(cut, Failure::Told(told));
+        let told = "in: the record is faulty at byte 19";
+        assert_eq!(cut, Failure::Told(told.into()));
         let text = load(Source::of("in", b"0,1\n")).unwrap_err();
-        let told = "in: no record: it is faulty at byte 0".to_string();
-        assert_eq!(text, Failure::Told(told));
+        let told = "in: no record: it is faulty at byte 0";
+        assert_eq!(text, Failure::Told(told.into()));
     }
 
     /// A byte after the longest record is a fault.
@@ -93,7 +93,7 @@ mod tests {
         bytes.push(0);
         let told = format!("in: the record is faulty at byte {BYTES}");
         let long = load(Source::of("in", &bytes)).unwrap_err();
-        assert_eq!(long, Failure::Told(told));
+        assert_eq!(long, Failure::Told(told.into()));
     }
 
     #[test]

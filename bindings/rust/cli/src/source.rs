@@ -1,13 +1,15 @@
-//! Files and standard input, and their names in messages.
+//! Files and standard input, with their names.
 
 use crate::failure::Failure;
-use std::ffi::OsStr;
+use crate::name::shown;
+use std::ffi::{OsStr, OsString};
 use std::fs::File;
 use std::io::{self, Read};
 
 /// An open input with its name.
 pub struct Source {
-    pub name: String,
+    /// In a line of text.
+    pub name: OsString,
     reader: Box<dyn Read>,
 }
 
@@ -30,7 +32,7 @@ impl Source {
 
     fn standard() -> Source {
         Source {
-            name: "<stdin>".to_string(),
+            name: "<stdin>".into(),
             reader: Box::new(io::stdin().lock()),
         }
     }
@@ -39,7 +41,7 @@ impl Source {
     #[cfg(test)]
     pub fn of(name: &str, bytes: &[u8]) -> Source {
         Source {
-            name: name.to_string(),
+            name: name.into(),
             reader: Box::new(io::Cursor::new(bytes.to_vec())),
         }
     }
@@ -66,15 +68,4 @@ impl Read for Source {
     fn read(&mut self, buffer: &mut [u8]) -> io::Result<usize> {
         self.reader.read(buffer)
     }
-}
-
-/// A name in one line of a message: control characters and what is not UTF-8 are replaced.
-pub fn shown(name: &OsStr) -> String {
-    plain(&name.to_string_lossy())
-}
-
-/// The text with control characters replaced.
-pub fn plain(text: &str) -> String {
-    let plain = |c: char| if c.is_control() { '\u{fffd}' } else { c };
-    text.chars().map(plain).collect()
 }

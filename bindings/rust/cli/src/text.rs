@@ -6,10 +6,12 @@
 //! carriage return at a line's end and a byte order mark are tolerated.
 
 use crate::failure::Failure;
+use crate::name::plain;
 use crate::number::{Decimal, Product};
-use crate::source::{plain, Source};
+use crate::source::Source;
 use crate::{records, tolerance};
 use kovrelna::{Ratio, Refusal, Tolerance};
+use std::ffi::OsString;
 use std::fmt::Display;
 use std::io::{BufRead, BufReader, Read};
 
@@ -21,7 +23,7 @@ const LINE: usize = 65_535;
 /// A trace as it was read.
 #[derive(Debug, Default)]
 pub struct Text {
-    pub name: String,
+    pub name: OsString,
     pub ticks: Vec<u32>,
     pub values: Vec<i16>,
     /// What stands after `# tolerance`, and in which line.
@@ -148,7 +150,7 @@ impl Text {
 /// A list of samples as it was read.
 #[derive(Debug)]
 pub struct List {
-    name: String,
+    name: OsString,
     pub entries: Vec<u16>,
     /// The line of each entry, counted from 1; nothing if the list is no file.
     lines: Vec<usize>,
@@ -160,7 +162,7 @@ impl List {
         let (name, lines) = (format!("--{option}"), Vec::new());
         let entries = entries(line).map_err(|cause| format!("{name}: {cause}"))?;
         Ok(List {
-            name,
+            name: name.into(),
             entries,
             lines,
         })
@@ -211,7 +213,7 @@ fn entries(line: &str) -> Result<Vec<u16>, String> {
 
 /// The lines of a source as text; what is not UTF-8 in them is replaced.
 struct Lines {
-    name: String,
+    name: OsString,
     reader: BufReader<Source>,
     line: String,
     /// The number of the line that was read last, counted from 1.
@@ -331,7 +333,7 @@ mod tests {
     fn read(bytes: &[u8]) -> Result<Text, String> {
         match Text::read(Source::of("in", bytes)) {
             Ok(text) => Ok(text),
-            Err(Failure::Told(message)) => Err(message),
+            Err(Failure::Told(message)) => Err(message.into_string().unwrap()),
             Err(failure) => panic!("{failure:?}"),
         }
     }
@@ -465,7 +467,7 @@ mod tests {
     fn refusals_at_lines() {
         let text = read(b"# c\n0,0\n\n5,0\n").unwrap();
         let told = |refusal| match text.refused(refusal) {
-            Failure::Told(message) => message,
+            Failure::Told(message) => message.into_string().unwrap(),
             failure => panic!("{failure:?}"),
         };
         assert_eq!(
@@ -486,11 +488,12 @@ mod tests {
             .contains("is not from 0 to 65535"));
         let list = List::read(Source::of("in", b"0 # first\n3\n\n4")).unwrap();
         assert_eq!(list.entries, [0, 3, 4]);
-        let told =
-            |words: &str| Failure::Told(format!("{words} is bad, or the list stops short there"));
+        let told = |words: &str| {
+            Failure::Told(format!("{words} is bad, or the list stops short there").into())
+        };
         assert_eq!(list.refused(2), told("in:4: no kept list: entry 2"));
         let short = "in: no kept list: it does not end with the last sample";
-        assert_eq!(list.refused(3), Failure::Told(short.to_string()));
+        assert_eq!(list.refused(3), Failure::Told(short.into()));
         let given = List::of("list", "0,3").unwrap();
         assert_eq!(given.refused(1), told("--list: no kept list: entry 1"));
         let read = |entries| List::read(Source::of("in", "0\n".repeat(entries).as_bytes()));

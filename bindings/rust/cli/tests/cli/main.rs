@@ -1,4 +1,8 @@
 //! The tool as its users run it: pipes, files, exit statuses and messages.
+//!
+//! - `names`: names of files that are not UTF-8.
+
+mod names;
 
 use std::ffi::OsStr;
 use std::fs::{self, File};
