@@ -45,8 +45,8 @@ Usage: kovrelna record -t TOLERANCE [-m METHOD] [-o FILE] [INPUT]
                       samples as possible)
   -o, --output FILE   write to FILE instead of standard output (-); FILE is
                       replaced only when all is written, and other hard links
-                      to it keep what they had; if a signal ends the tool, a
-                      file .kovrelna-* may stay beside it
+                      to it keep what they had; after kill -9 a new file
+                      .kovrelna-* may be left beside it, until FILE is written
 
 Without a tolerance, INPUT has a line `# tolerance p/q` before its samples, as
 `kovrelna show` prints it, and every sample is kept: show and record without
@@ -122,8 +122,8 @@ Usage: kovrelna draw -t TOLERANCE [-m METHOD] [-o FILE] [INPUT]
   -m, --method M      walk (the default), gallop or minimum
   -o, --output FILE   write to FILE instead of standard output (-); FILE is
                       replaced only when all is written, and other hard links
-                      to it keep what they had; if a signal ends the tool, a
-                      file .kovrelna-* may stay beside it
+                      to it keep what they had; after kill -9 a new file
+                      .kovrelna-* may be left beside it, until FILE is written
 
 Exit status: 0 done, 2 error.
 ";

@@ -10,6 +10,8 @@
 //! - `text`: traces and lists as text.
 //! - `records`: records as files.
 //! - `output`: standard output, and files that are replaced whole.
+//! - `temporary`: a new file beside the one that it replaces.
+//! - `ending`: signals that end the tool.
 //! - `svg`: pictures.
 //! - `line`: what the commands share.
 //! - `commands`: one function for each command.
@@ -20,6 +22,8 @@
 
 mod args;
 mod commands;
+#[allow(unsafe_code)]
+mod ending;
 mod failure;
 mod help;
 mod line;
@@ -29,6 +33,7 @@ mod output;
 mod records;
 mod source;
 mod svg;
+mod temporary;
 mod text;
 mod tolerance;
 

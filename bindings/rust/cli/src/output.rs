@@ -1,15 +1,15 @@
 //! Standard output, and files that are replaced whole.
 //!
-//! A regular file is written under another name beside it, flushed to the disk and only then given its
-//! name, so that after any error what was there before is there still.
+//! A regular file is written under another name beside it (`temporary`), flushed to the disk and only
+//! then given its name, so that after any error what was there before is there still.
 
 use crate::failure::{Failure, Status};
 use crate::name::{placed, printed, shown};
+use crate::temporary::Temporary;
 use std::ffi::{OsStr, OsString};
-use std::fs::{self, File, Metadata, OpenOptions};
+use std::fs::{self, File, OpenOptions};
 use std::io::{self, IsTerminal, Write};
 use std::path::{Path, PathBuf};
-use std::process;
 
 const STDOUT: &str = "<stdout>";
 
@@ -56,7 +56,7 @@ pub fn write(path: Option<&OsStr>, bytes: &[u8], is_text: bool) -> Result<Status
 fn replace(given: &OsStr, bytes: &[u8]) -> Result<(), Failure> {
     let failed = |error: io::Error| Failure::io(shown(given), &error);
     let (folder, name) = followed(Path::new(given)).map_err(failed)?;
-    let path = folder.join(name);
+    let path = folder.join(&name);
     let before = fs::metadata(&path).ok();
     if let Some(before) = &before {
         let file = OpenOptions::new().append(true).open(&path);
@@ -65,26 +65,18 @@ fn replace(given: &OsStr, bytes: &[u8]) -> Result<(), Failure> {
             return file.write_all(bytes).map_err(failed);
         }
     }
-    let made = Temporary::create(&folder).map_err(|error| {
+    let made = Temporary::create(&folder, &name).map_err(|error| {
         let mut place = placed(shown(given), "no file can be made in ");
         place.push(shown(folder.as_ref()));
         Failure::io(place, &error)
     });
-    let (file, temporary) = made?;
-    fill(file, bytes, before).map_err(failed)?;
-    temporary.rename(&path).map_err(failed)?;
+    let mut made = made?;
+    let permissions = before.map(|before| before.permissions());
+    made.fill(bytes, permissions).map_err(failed)?;
+    made.rename(&path).map_err(failed)?;
     // The new name is in the folder by now; some file systems cannot flush a folder.
     let _ = File::open(folder).and_then(|folder| folder.sync_all());
     Ok(())
-}
-
-/// Writes to a new file, with the permissions of the one before.
-fn fill(mut file: File, bytes: &[u8], before: Option<Metadata>) -> io::Result<()> {
-    if let Some(before) = before {
-        file.set_permissions(before.permissions())?;
-    }
-    file.write_all(bytes)?;
-    file.sync_all()
 }
 
 /// Whether this is the link, below /proc, to a file that a process has open.
@@ -117,36 +109,4 @@ fn followed(path: &Path) -> io::Result<(PathBuf, OsString)> {
         }
     }
     Err(io::Error::other("too many links"))
-}
-
-/// A file that is removed unless it gets another name.
-struct Temporary(PathBuf);
-
-impl Temporary {
-    /// Makes a file in this folder that was not there.
-    fn create(folder: &Path) -> io::Result<(File, Temporary)> {
-        for attempt in 0..1_000 {
-            let path = folder.join(format!(".kovrelna-{}-{attempt}", process::id()));
-            match OpenOptions::new().write(true).create_new(true).open(&path) {
-                Ok(file) => return Ok((file, Temporary(path))),
-                Err(error) if error.kind() != io::ErrorKind::AlreadyExists => return Err(error),
-                Err(_) => {}
-            }
-        }
-        Err(io::ErrorKind::AlreadyExists.into())
-    }
-
-    fn rename(mut self, to: &Path) -> io::Result<()> {
-        fs::rename(&self.0, to)?;
-        self.0 = PathBuf::new();
-        Ok(())
-    }
-}
-
-impl Drop for Temporary {
-    fn drop(&mut self) {
-        if self.0 != Path::new("") {
-            let _ = fs::remove_file(&self.0);
-        }
-    }
 }

@@ -1,8 +1,10 @@
 //! The tool as its users run it: pipes, files, exit statuses and messages.
 //!
 //! - `names`: names of files that are not UTF-8.
+//! - `signals`: runs that are ended while they write a file.
 
 mod names;
+mod signals;
 
 use std::ffi::OsStr;
 use std::fs::{self, File};
