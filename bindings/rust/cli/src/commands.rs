@@ -1,13 +1,14 @@
 //! One function for each command. It takes the arguments after the command's name.
 
 use crate::failure::{Failure, Status};
-use crate::line::{Kept, Line, ALLOWANCE, LIST, LIST_FILE, METHOD, OUTPUT, TOLERANCE};
+use crate::line::{each, Kept, Line};
+use crate::line::{ALLOWANCE, BUDGET, LIST, LIST_FILE, METHOD, OUTPUT, TOLERANCE};
 use crate::name::{placed, shown};
-use crate::records::{self, Record};
+use crate::records;
 use crate::source::Source;
 use crate::svg::{self, Picture};
 use crate::text::{self, List, Text};
-use crate::{help, output};
+use crate::{budget, help, output, summary};
 use kovrelna::{Least, Ratio, Refusal, Verdict};
 use std::ffi::{OsStr, OsString};
 use std::fmt::Display;
@@ -22,16 +23,21 @@ pub fn find(name: &str) -> Option<Command> {
         "show" => show,
         "judge" => judge,
         "least" => least,
-        "summary" => summary,
+        "summary" => summary::summary,
         "draw" => draw,
         _ => return None,
     })
 }
 
 fn record(arguments: &[OsString]) -> Result<Status, Failure> {
-    let line = Line::parse("record", &[TOLERANCE, METHOD, OUTPUT], arguments)?;
+    let line = Line::parse("record", &[TOLERANCE, METHOD, OUTPUT, BUDGET], arguments)?;
     if line.arguments.help {
         return output::print(help::RECORD);
+    }
+    let output = line.value(OUTPUT);
+    let budget = line.value(BUDGET).is_some();
+    if budget && output.is_none_or(|output| output == "-") {
+        return Err(line.wrong("--budget is printed on standard output: the record needs -o FILE"));
     }
     let reduction = line.reduction()?;
     let text = Text::read(Source::open(line.input()?)?)?;
@@ -41,29 +47,11 @@ fn record(arguments: &[OsString]) -> Result<Status, Failure> {
     };
     let record = records::save(&text.ticks, &text.values, &kept.list, kept.tolerance)
         .map_err(|refusal| text.refused(refusal))?;
-    output::write(line.value(OUTPUT), &record, false)
-}
-
-/// Prints what each input gives; says what is wrong with an input and goes on with the next.
-fn each(
-    inputs: &[&OsStr],
-    mut print: impl FnMut(OsString, Record) -> OsString,
-) -> Result<Status, Failure> {
-    let mut status = Status::Done;
-    for input in inputs {
-        let source = Source::open(Some(input));
-        let loaded = source.and_then(|source| Ok((source.name.clone(), records::load(source)?)));
-        match loaded {
-            Ok((name, record)) => {
-                output::print(print(name, record))?;
-            }
-            Err(failure) => {
-                failure.report();
-                status = Status::Error;
-            }
-        }
+    let status = output::write(output, &record, false)?;
+    match budget {
+        true => output::print(budget::text(kept.held)),
+        false => Ok(status),
     }
-    Ok(status)
 }
 
 fn show(arguments: &[OsString]) -> Result<Status, Failure> {
@@ -72,19 +60,20 @@ fn show(arguments: &[OsString]) -> Result<Status, Failure> {
         return output::print(help::SHOW);
     }
     let inputs = line.inputs()?;
-    each(&inputs, |name, record| {
+    each(&inputs, |source| {
         let mut text = OsString::new();
         if inputs.len() > 1 {
             text.push("# ");
-            text.push(name);
+            text.push(&source.name);
             text.push("\n");
         }
+        let record = records::load(source)?;
         let Ratio { p, q } = record.tolerance;
         text.push(format!("# tolerance {p}/{q}\n"));
         for (tick, value) in record.ticks.iter().zip(&record.values) {
             text.push(format!("{tick},{value}\n"));
         }
-        text
+        Ok(text)
     })
 }
 
@@ -143,78 +132,6 @@ fn least(arguments: &[OsString]) -> Result<Status, Failure> {
     output::print(format!("error {p}/{q}\nlist {}\n", list.join(",")))
 }
 
-/// What a line of the summary says.
-struct Counts {
-    samples: usize,
-    span: u64,
-    least: i16,
-    greatest: i16,
-    bytes: usize,
-}
-
-impl Counts {
-    fn of(record: &Record) -> Counts {
-        let (ticks, values) = (&record.ticks, &record.values);
-        Counts {
-            samples: ticks.len(),
-            span: u64::from(ticks[ticks.len() - 1] - ticks[0]),
-            least: values.iter().copied().min().unwrap_or(0),
-            greatest: values.iter().copied().max().unwrap_or(0),
-            bytes: record.bytes,
-        }
-    }
-
-    fn plus(&self, other: &Counts) -> Counts {
-        Counts {
-            samples: self.samples + other.samples,
-            span: self.span + other.span,
-            least: self.least.min(other.least),
-            greatest: self.greatest.max(other.greatest),
-            bytes: self.bytes + other.bytes,
-        }
-    }
-
-    fn line(&self, tolerance: &str, name: impl AsRef<OsStr>) -> OsString {
-        let Counts {
-            samples,
-            span,
-            least,
-            greatest,
-            bytes,
-        } = self;
-        let mut line = OsString::from(format!(
-            "{samples}\t{span}\t{tolerance}\t{least}\t{greatest}\t{bytes}\t"
-        ));
-        line.push(name.as_ref());
-        line.push("\n");
-        line
-    }
-}
-
-fn summary(arguments: &[OsString]) -> Result<Status, Failure> {
-    let line = Line::parse("summary", &[], arguments)?;
-    if line.arguments.help {
-        return output::print(help::SUMMARY);
-    }
-    output::print("samples\tspan\ttolerance\tleast\tgreatest\tbytes\tfile\n")?;
-    let mut total: Option<Counts> = None;
-    let status = each(&line.inputs()?, |name, record| {
-        let counts = Counts::of(&record);
-        let Ratio { p, q } = record.tolerance;
-        let line = counts.line(&format!("{p}/{q}"), name);
-        total = Some(match &total {
-            Some(before) => before.plus(&counts),
-            None => counts,
-        });
-        line
-    })?;
-    output::print(match total {
-        Some(total) => total.line("-", "total"),
-        None => "0\t0\t-\t-\t-\t0\ttotal\n".into(),
-    })?;
-    Ok(status)
-}
-
 fn draw(arguments: &[OsString]) -> Result<Status, Failure> {
     let line = Line::parse("draw", &[TOLERANCE, METHOD, OUTPUT], arguments)?;
     if line.arguments.help {
@@ -233,10 +150,8 @@ fn draw(arguments: &[OsString]) -> Result<Status, Failure> {
         Some(name) if name != "-" => format!(": {}", shown(name).to_string_lossy()),
         _ => String::new(),
     };
-    let tolerance = match picture.tolerance {
-        Ratio { p, q: 1 } => p.to_string(),
-        Ratio { p, q } => format!("{p}/{q}"),
-    };
+    let Ratio { p, q } = picture.tolerance;
+    let tolerance = budget::ratio(p, q);
     let title = format!("{counts}, tolerance {tolerance}{name}");
     let svg = svg::draw(&title, &picture);
     output::write(line.value(OUTPUT), svg.as_bytes(), true)

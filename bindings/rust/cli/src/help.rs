@@ -37,8 +37,8 @@ pub const RECORD: &str = "\
 Makes a record from a trace: keeps a few samples, so that the straight lines
 between them pass all others within the tolerance.
 
-Usage: kovrelna record -t TOLERANCE [-m METHOD] [-o FILE] [INPUT]
-       kovrelna record [-o FILE] [INPUT]
+Usage: kovrelna record -t TOLERANCE [-m METHOD] [-o FILE [-b]] [INPUT]
+       kovrelna record [-o FILE [-b]] [INPUT]
 
   -t, --tolerance T   p/q, counts, or noise x multiple: 2/3, 1.5, 3.25x4
   -m, --method M      walk (the default; one pass), gallop, or minimum (as few
@@ -47,6 +47,8 @@ Usage: kovrelna record -t TOLERANCE [-m METHOD] [-o FILE] [INPUT]
                       replaced only when all is written, and other hard links
                       to it keep what they had; after kill -9 a new file
                       .kovrelna-* may be left beside it, until FILE is written
+  -b, --budget        print what an error budget may say of the record: the
+                      tolerance, and a paragraph to copy
 
 Without a tolerance, INPUT has a line `# tolerance p/q` before its samples, as
 `kovrelna show` prints it, and every sample is kept: show and record without
@@ -101,9 +103,14 @@ Exit status: 0 done, 2 error.
 pub const SUMMARY: &str = "\
 Prints a line for each record, under a heading, with tabs between: samples,
 span in ticks, tolerance, least and greatest value, bytes, file. The last line
-is the total: samples, spans and bytes added, least and greatest of all values.
+is the total: samples, spans and bytes added, least and greatest of all values,
+and the tolerance if all records have the same.
 
-Usage: kovrelna summary [FILE..]
+Usage: kovrelna summary [-b] [FILE..]
+
+  -b, --budget   print what an error budget may say of all records: the
+                 greatest tolerance, and a paragraph to copy; nothing if a
+                 record is faulty
 
 After a faulty record the others are still summarised.
 

@@ -1,10 +1,12 @@
-//! What the commands share: their options, the reductions by name, and what is kept of a trace.
+//! What the commands share: their options, their inputs, the reductions by name, and what is kept of a
+//! trace.
 
 use crate::args::{Arguments, Known};
-use crate::failure::Failure;
+use crate::failure::{Failure, Status};
 use crate::name::{placed, shown};
+use crate::source::Source;
 use crate::text::Text;
-use crate::tolerance;
+use crate::{output, tolerance};
 use kovrelna::{Ratio, Refusal, Tolerance};
 use std::ffi::{OsStr, OsString};
 
@@ -14,6 +16,7 @@ pub const OUTPUT: Known = Known::valued("output", Some('o'));
 pub const LIST: Known = Known::valued("list", Some('l'));
 pub const LIST_FILE: Known = Known::valued("list-file", Some('f'));
 pub const ALLOWANCE: Known = Known::valued("allowance", Some('a'));
+pub const BUDGET: Known = Known::flag("budget", Some('b'));
 
 /// A command line of a command.
 pub struct Line {
@@ -106,6 +109,26 @@ impl Line {
             operands => operands.iter().map(OsString::as_os_str).collect(),
         })
     }
+}
+
+/// Prints the answer for each input; says what is wrong with an input and goes on with the next.
+pub fn each(
+    inputs: &[&OsStr],
+    mut answer: impl FnMut(Source) -> Result<OsString, Failure>,
+) -> Result<Status, Failure> {
+    let mut status = Status::Done;
+    for input in inputs {
+        match Source::open(Some(input)).and_then(&mut answer) {
+            Ok(text) => {
+                output::print(text)?;
+            }
+            Err(failure) => {
+                failure.report();
+                status = Status::Error;
+            }
+        }
+    }
+    Ok(status)
 }
 
 type Reduction = fn(&[u32], &[i16], Tolerance, &mut [u16]) -> Result<usize, Refusal>;

@@ -14,13 +14,15 @@
 //! - `ending`: signals that end the tool.
 //! - `svg`: pictures.
 //! - `line`: what the commands share.
-//! - `commands`: one function for each command.
+//! - `budget`: what an error budget may say.
+//! - `commands`: one function for each command; `summary` has a file of its own.
 //!
 //! Which samples are kept, whether a list is within a tolerance, what a tolerance is held as and what
 //! is in a record: all this is asked of the library.
 #![deny(unsafe_code)]
 
 mod args;
+mod budget;
 mod commands;
 #[allow(unsafe_code)]
 mod ending;
@@ -32,6 +34,7 @@ mod number;
 mod output;
 mod records;
 mod source;
+mod summary;
 mod svg;
 mod temporary;
 mod text;

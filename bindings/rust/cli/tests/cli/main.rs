@@ -1,8 +1,10 @@
 //! The tool as its users run it: pipes, files, exit statuses and messages.
 //!
+//! - `budget`: what an error budget may say.
 //! - `names`: names of files that are not UTF-8.
 //! - `signals`: runs that are ended while they write a file.
 
+mod budget;
 mod names;
 mod signals;
 
@@ -242,6 +244,16 @@ fn summaries() {
         "kovrelna: missing: No such file or directory\n".to_string(),
     ];
     assert_eq!(error, faults.concat());
+    // The total has the tolerance that all have.
+    for (others, total) in [
+        (&[][..], "5\t4\t2/1\t-2\t2\t31\ttotal\n"),
+        (&[names[2]], "10\t8\t2/1\t-2\t2\t62\ttotal\n"),
+        (&[names[2], names[0]], "22\t516\t-\t-2\t569\t114\ttotal\n"),
+    ] {
+        let printed = done(&[&["summary", names[2]], others].concat(), "");
+        let printed = String::from_utf8(printed).unwrap();
+        assert!(printed.ends_with(total), "{printed}");
+    }
     let (status, printed, _) = told(&run(&["summary", "missing"], ""));
     assert_eq!(status, 2);
     assert!(printed.ends_with("0\t0\t-\t-\t-\t0\ttotal\n"), "{printed}");
