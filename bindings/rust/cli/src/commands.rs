@@ -3,12 +3,12 @@
 use crate::failure::{Failure, Status};
 use crate::line::{each, Kept, Line};
 use crate::line::{ALLOWANCE, BUDGET, LIST, LIST_FILE, METHOD, OUTPUT, TOLERANCE};
-use crate::name::{placed, shown};
+use crate::name::{joined, placed, shown};
 use crate::records;
 use crate::source::Source;
 use crate::svg::{self, Picture};
 use crate::text::{self, List, Text};
-use crate::{budget, help, output, summary};
+use crate::{budget, check, help, near, output, summary};
 use kovrelna::{Least, Ratio, Refusal, Verdict};
 use std::ffi::{OsStr, OsString};
 use std::fmt::Display;
@@ -23,6 +23,8 @@ pub fn find(name: &str) -> Option<Command> {
         "show" => show,
         "judge" => judge,
         "least" => least,
+        "near" => near::near,
+        "check" => check::check,
         "summary" => summary::summary,
         "draw" => draw,
         _ => return None,
@@ -61,12 +63,10 @@ fn show(arguments: &[OsString]) -> Result<Status, Failure> {
     }
     let inputs = line.inputs()?;
     each(&inputs, |source| {
-        let mut text = OsString::new();
-        if inputs.len() > 1 {
-            text.push("# ");
-            text.push(&source.name);
-            text.push("\n");
-        }
+        let mut text = match inputs.len() {
+            1 => OsString::new(),
+            _ => joined(&[&"# ", &source.name, &"\n"]),
+        };
         let record = records::load(source)?;
         let Ratio { p, q } = record.tolerance;
         text.push(format!("# tolerance {p}/{q}\n"));

@@ -1,6 +1,6 @@
 //! Why the tool stops, in words, and its exit status.
 
-use crate::name::{placed, printed};
+use crate::name::{joined, placed, printed};
 use std::ffi::{OsStr, OsString};
 use std::io::{self, IsTerminal, Write};
 use std::process::ExitCode;
@@ -54,17 +54,14 @@ impl Failure {
     /// The command line is wrong; `command` is the command's name, if it is known.
     pub fn usage(cause: impl AsRef<OsStr>, command: &str) -> Failure {
         let space = if command.is_empty() { "" } else { " " };
-        let mut message = cause.as_ref().to_os_string();
-        message.push(format!("\nTry `kovrelna{space}{command} --help`."));
-        Failure::Told(message)
+        let help = format!("\nTry `kovrelna{space}{command} --help`.");
+        Failure::Told(joined(&[&cause, &help]))
     }
 
     /// Tells standard error, as far as it can be written.
     pub fn report(&self) {
         if let Failure::Told(message) = self {
-            let mut line = OsString::from("kovrelna: ");
-            line.push(message);
-            line.push("\n");
+            let line = joined(&[&"kovrelna: ", message, &"\n"]);
             let to_terminal = io::stderr().is_terminal();
             let _ = io::stderr().write_all(&printed(&line, to_terminal));
         }
@@ -73,9 +70,7 @@ impl Failure {
 
 /// A line of this file, in a message.
 pub fn line_of(place: impl AsRef<OsStr>, line: usize) -> OsString {
-    let mut line_of = place.as_ref().to_os_string();
-    line_of.push(format!(":{line}"));
-    line_of
+    joined(&[&place, &format!(":{line}")])
 }
 
 /// The error without the system's number for it.

@@ -12,7 +12,9 @@ Usage: kovrelna COMMAND [OPTION..] [FILE..]
   record    make a record from a trace
   show      print records as text
   judge     say whether a list of samples is within a tolerance
+  check     say whether a record may stand for a trace
   least     say how near a list of so many samples can come
+  near      say how near the lists of walk and gallop are to the shortest
   summary   print a line for each record, and a total
   draw      draw a trace, its lines and its tolerance band as SVG
 
@@ -28,9 +30,9 @@ noise and the multiple wanted (3.25x4).
 Without a file, or with -, standard input is read. Errors go to standard error
 as `kovrelna: FILE: cause` or `kovrelna: FILE:LINE: cause`.
 
-Exit status: 0 done (judge: yes), 1 judge says no, 2 error, also, without a
-word, where a pipe is closed before all is written. A closed standard output
-(>&-) is not noticed: what is written there is lost.
+Exit status: 0 done (judge, check: yes), 1 judge or check says no, 2 error,
+also, without a word, where a pipe is closed before all is written. A closed
+standard output (>&-) is not noticed: what is written there is lost.
 ";
 
 pub const RECORD: &str = "\
@@ -88,6 +90,21 @@ Usage: kovrelna judge -t TOLERANCE -l LIST [INPUT]
 Exit status: 0 yes, 1 no, 2 error.
 ";
 
+pub const CHECK: &str = "\
+Says whether a record may stand for a trace, before the trace is erased: its
+samples are samples of the trace, with the same values, the first and the last
+among them, and every link is valid at the record's own tolerance. Prints
+`yes`, or `no: RECORD: cause` with the first sample or link that is wrong.
+Samples and links are counted from 0. TRACE is the original trace as text:
+samples with a line `# tolerance p/q` are refused. One of the two may be - for
+standard input.
+
+Usage: kovrelna check RECORD TRACE
+
+Exit status: 0 yes, 1 no, 2 error (the record is faulty, TRACE is no trace, or
+one of them cannot be read).
+";
+
 pub const LEAST: &str = "\
 Prints the least tolerance that a list of at most so many samples is within, as
 `error p/q`, and the list that minimum keeps at it, as `list 0,3,4`. The trace
@@ -98,6 +115,24 @@ Usage: kovrelna least -a ALLOWANCE [INPUT]
   -a, --allowance M   at most so many samples are kept, from 2 to 4096
 
 Exit status: 0 done, 2 error.
+";
+
+pub const NEAR: &str = "\
+Prints how near the lists of walk and gallop are to the shortest: for each
+trace, under a heading, its samples, how many of them walk, gallop and minimum
+keep at the tolerance, how many minimum keeps at half of it, and the file; for
+several traces also the total. No list within the tolerance has fewer samples
+than minimum's, and walk and gallop keep at most as many as minimum at half the
+tolerance. Half of p/q is p over 2q; where no denominator so great is allowed,
+`-` stands in its place. Samples with a line `# tolerance p/q` are refused.
+
+Usage: kovrelna near -t TOLERANCE [FILE..]
+
+  -t, --tolerance T   p/q, counts, or noise x multiple: 2/3, 1.5, 3.25x4
+
+After a faulty trace the others are still counted.
+
+Exit status: 0 done, 2 error (also if one trace is faulty).
 ";
 
 pub const SUMMARY: &str = "\

@@ -3,7 +3,7 @@
 
 use crate::args::{Arguments, Known};
 use crate::failure::{Failure, Status};
-use crate::name::{placed, shown};
+use crate::name::{joined, placed, shown};
 use crate::source::Source;
 use crate::text::Text;
 use crate::{output, tolerance};
@@ -51,8 +51,13 @@ impl Line {
             Some(text) => Ok(Some(text)),
             None => {
                 let value = shown(value);
-                let cause = format!("{} is no text", value.to_string_lossy());
-                Err(self.wrong(placed(format!("--{}", option.name), cause)))
+                Err(self.wrong(joined(&[
+                    &"--",
+                    &option.name,
+                    &": ",
+                    &value,
+                    &" is no text",
+                ])))
             }
         }
     }
@@ -140,7 +145,8 @@ pub struct Method {
     reduce: Reduction,
 }
 
-const METHODS: [Method; 3] = [
+/// Walk, gallop, minimum.
+pub const METHODS: [Method; 3] = [
     Method {
         name: "walk",
         reduce: kovrelna::walk,
@@ -159,7 +165,7 @@ const METHODS: [Method; 3] = [
 
 impl Method {
     /// The kept list.
-    fn list(self, text: &Text, tolerance: Tolerance) -> Result<Vec<u16>, Failure> {
+    pub fn list(self, text: &Text, tolerance: Tolerance) -> Result<Vec<u16>, Failure> {
         let mut list = vec![0; text.ticks.len()];
         let kept = (self.reduce)(&text.ticks, &text.values, tolerance, &mut list)
             .map_err(|refusal| text.refused(refusal))?;
@@ -200,7 +206,7 @@ impl Kept {
                 method: Some(method.name),
             },
             (None, Some((tolerance, held))) => Kept {
-                list: (0..text.ticks.len()).map(|sample| sample as u16).collect(),
+                list: text.every_sample(),
                 tolerance,
                 held,
                 method: None,

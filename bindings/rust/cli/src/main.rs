@@ -15,7 +15,8 @@
 //! - `svg`: pictures.
 //! - `line`: what the commands share.
 //! - `budget`: what an error budget may say.
-//! - `commands`: one function for each command; `summary` has a file of its own.
+//! - `commands`: one function for each command.
+//! - `check`, `near`, `summary`: commands with a file of their own.
 //!
 //! Which samples are kept, whether a list is within a tolerance, what a tolerance is held as and what
 //! is in a record: all this is asked of the library.
@@ -23,6 +24,7 @@
 
 mod args;
 mod budget;
+mod check;
 mod commands;
 #[allow(unsafe_code)]
 mod ending;
@@ -30,6 +32,7 @@ mod failure;
 mod help;
 mod line;
 mod name;
+mod near;
 mod number;
 mod output;
 mod records;
@@ -41,7 +44,7 @@ mod text;
 mod tolerance;
 
 use failure::{Failure, Status};
-use name::{placed, shown};
+use name::{joined, placed, shown};
 use std::env;
 use std::ffi::OsString;
 use std::process::ExitCode;
@@ -74,8 +77,7 @@ fn run(arguments: &[OsString]) -> Result<Status, Failure> {
         name => match name.and_then(commands::find) {
             Some(command) => command(rest),
             None => {
-                let mut cause = OsString::from("there is no command ");
-                cause.push(shown(&arguments[0]));
+                let cause = joined(&[&"there is no command ", &shown(&arguments[0])]);
                 Err(Failure::usage(cause, ""))
             }
         },

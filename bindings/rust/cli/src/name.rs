@@ -21,12 +21,14 @@ pub fn plain(text: &str) -> String {
     text.chars().map(plain).collect()
 }
 
+/// Text with names in it: these parts.
+pub fn joined(parts: &[&dyn AsRef<OsStr>]) -> OsString {
+    parts.iter().map(AsRef::as_ref).collect()
+}
+
 /// The cause at this place.
 pub fn placed(place: impl AsRef<OsStr>, cause: impl ToString) -> OsString {
-    let mut text = place.as_ref().to_os_string();
-    text.push(": ");
-    text.push(cause.to_string());
-    text
+    joined(&[&place, &": ", &cause.to_string()])
 }
 
 /// What is written where the text, which has names in it, is printed.

@@ -4,7 +4,7 @@
 //! then given its name, so that after any error what was there before is there still.
 
 use crate::failure::{Failure, Status};
-use crate::name::{placed, printed, shown};
+use crate::name::{joined, printed, shown};
 use crate::temporary::Temporary;
 use std::ffi::{OsStr, OsString};
 use std::fs::{self, File, OpenOptions};
@@ -66,8 +66,8 @@ fn replace(given: &OsStr, bytes: &[u8]) -> Result<(), Failure> {
         }
     }
     let made = Temporary::create(&folder, &name).map_err(|error| {
-        let mut place = placed(shown(given), "no file can be made in ");
-        place.push(shown(folder.as_ref()));
+        let folder = shown(folder.as_ref());
+        let place = joined(&[&shown(given), &": no file can be made in ", &folder]);
         Failure::io(place, &error)
     });
     let mut made = made?;

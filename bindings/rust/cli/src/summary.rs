@@ -2,6 +2,7 @@
 
 use crate::failure::{Failure, Status};
 use crate::line::{each, Line, BUDGET};
+use crate::name::joined;
 use crate::records::{self, Record};
 use crate::{budget, help, output};
 use kovrelna::Ratio;
@@ -46,12 +47,8 @@ impl Counts {
             greatest,
             bytes,
         } = self;
-        let mut line = OsString::from(format!(
-            "{samples}\t{span}\t{tolerance}\t{least}\t{greatest}\t{bytes}\t"
-        ));
-        line.push(name.as_ref());
-        line.push("\n");
-        line
+        let counts = format!("{samples}\t{span}\t{tolerance}\t{least}\t{greatest}\t{bytes}\t");
+        joined(&[&counts, &name, &"\n"])
     }
 }
 

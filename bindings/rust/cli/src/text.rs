@@ -5,7 +5,7 @@
 //! heading. One line `# tolerance p/q` before the samples, as `show` prints it, is taken notice of. A
 //! carriage return at a line's end and a byte order mark are tolerated.
 
-use crate::failure::Failure;
+use crate::failure::{line_of, Failure};
 use crate::name::plain;
 use crate::number::{Decimal, Product};
 use crate::source::Source;
@@ -138,12 +138,22 @@ impl Text {
         }
     }
 
+    /// Every sample, as a kept list.
+    pub fn every_sample(&self) -> Vec<u16> {
+        (0..self.ticks.len()).map(|sample| sample as u16).collect()
+    }
+
+    /// The line of this sample, in a message.
+    pub fn line_of(&self, sample: usize) -> OsString {
+        match self.lines.get(sample) {
+            Some(&line) => line_of(&self.name, line),
+            None => self.name.clone(),
+        }
+    }
+
     /// At the line of this sample.
     fn at(&self, sample: usize, cause: &str) -> Failure {
-        match self.lines.get(sample) {
-            Some(&line) => Failure::at_line(&self.name, line, cause),
-            None => Failure::at(&self.name, cause),
-        }
+        Failure::at(self.line_of(sample), cause)
     }
 }
 

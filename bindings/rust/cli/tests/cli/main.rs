@@ -1,11 +1,15 @@
 //! The tool as its users run it: pipes, files, exit statuses and messages.
 //!
 //! - `budget`: what an error budget may say.
+//! - `check`: whether a record may stand for a trace.
 //! - `names`: names of files that are not UTF-8.
+//! - `near`: how near lists are to the shortest.
 //! - `signals`: runs that are ended while they write a file.
 
 mod budget;
+mod check;
 mod names;
+mod near;
 mod signals;
 
 use std::ffi::OsStr;
@@ -477,7 +481,9 @@ fn command_lines() {
 #[test]
 fn help() {
     let tool = String::from_utf8(done(&["--help"], "")).unwrap();
-    for command in ["record", "show", "judge", "least", "summary", "draw"] {
+    for command in [
+        "record", "show", "judge", "check", "least", "near", "summary", "draw",
+    ] {
         assert!(tool.contains(&format!("\n  {command} ")), "{command}");
         let text = String::from_utf8(done(&[command, "--help"], "")).unwrap();
         assert!(
