@@ -34,19 +34,19 @@ pub fn check(arguments: &[OsString]) -> Result<Status, Failure> {
 
 /// Why the record may not stand for the trace, if it may not.
 fn fault(record: &Record, trace: &Text) -> Result<Option<OsString>, Failure> {
-    let Ratio { p, q } = record.tolerance;
-    let judged = |list: &[u16]| {
-        let tolerance = Tolerance::Ratio { p, q };
-        let verdict = judge(&trace.ticks, &trace.values, list, tolerance);
-        verdict.map_err(|refusal| trace.refused(refusal))
-    };
-    // Refused if this is no trace; otherwise each link is valid.
-    judged(&trace.every_sample())?;
+    trace.must_be_a_trace()?;
     let list = match list_of(record, trace) {
         Ok(list) => list,
         Err(fault) => return Ok(Some(fault)),
     };
-    let Verdict::Outside { link } = judged(&list)? else {
+    let Ratio { p, q } = record.tolerance;
+    let verdict = judge(
+        &trace.ticks,
+        &trace.values,
+        &list,
+        Tolerance::Ratio { p, q },
+    );
+    let Verdict::Outside { link } = verdict.map_err(|refusal| trace.refused(refusal))? else {
         return Ok(None);
     };
     let end = |sample: u16| {

@@ -3,16 +3,14 @@
 use crate::failure::{Failure, Status};
 use crate::line::{each, Kept, Line};
 use crate::line::{ALLOWANCE, BUDGET, LIST, LIST_FILE, METHOD, OUTPUT, TOLERANCE};
-use crate::name::{joined, placed, shown};
+use crate::name::{joined, placed};
 use crate::records;
 use crate::source::Source;
-use crate::svg::{self, Picture};
 use crate::text::{self, List, Text};
-use crate::{budget, check, help, near, output, summary};
+use crate::{budget, check, draw, help, near, output, summary};
 use kovrelna::{Least, Ratio, Refusal, Verdict};
 use std::ffi::{OsStr, OsString};
 use std::fmt::Display;
-use std::path::Path;
 
 type Command = fn(&[OsString]) -> Result<Status, Failure>;
 
@@ -26,7 +24,7 @@ pub fn find(name: &str) -> Option<Command> {
         "near" => near::near,
         "check" => check::check,
         "summary" => summary::summary,
-        "draw" => draw,
+        "draw" => draw::draw,
         _ => return None,
     })
 }
@@ -130,79 +128,4 @@ fn least(arguments: &[OsString]) -> Result<Status, Failure> {
     let list: Vec<String> = list[..kept].iter().map(u16::to_string).collect();
     let Ratio { p, q } = error;
     output::print(format!("error {p}/{q}\nlist {}\n", list.join(",")))
-}
-
-fn draw(arguments: &[OsString]) -> Result<Status, Failure> {
-    let line = Line::parse("draw", &[TOLERANCE, METHOD, OUTPUT], arguments)?;
-    if line.arguments.help {
-        return output::print(help::DRAW);
-    }
-    let input = line.input()?;
-    let mut source = Source::open(input)?;
-    let beginning = source.up_to(records::BEGINNING)?;
-    let is_record = records::begins(&beginning);
-    let source = source.put_back(beginning);
-    let (counts, picture) = match is_record {
-        true => picture_of_record(&line, source)?,
-        false => picture_of_trace(&line, source)?,
-    };
-    let name = match input.and_then(|input| Path::new(input).file_name()) {
-        Some(name) if name != "-" => format!(": {}", shown(name).to_string_lossy()),
-        _ => String::new(),
-    };
-    let Ratio { p, q } = picture.tolerance;
-    let tolerance = budget::ratio(p, q);
-    let title = format!("{counts}, tolerance {tolerance}{name}");
-    let svg = svg::draw(&title, &picture);
-    output::write(line.value(OUTPUT), svg.as_bytes(), true)
-}
-
-/// So many samples, in words.
-fn samples(count: usize) -> String {
-    format!("{count} sample{}", if count == 1 { "" } else { "s" })
-}
-
-/// The lines of a record, and how many samples there are in words.
-fn picture_of_record(line: &Line, source: Source) -> Result<(String, Picture), Failure> {
-    if line.value(TOLERANCE).is_some() || line.value(METHOD).is_some() {
-        let cause = "a record, with its own tolerance: --tolerance and --method do not apply";
-        return Err(line.wrong(placed(&source.name, cause)));
-    }
-    let record = records::load(source)?;
-    let counts = format!("{} kept", samples(record.ticks.len()));
-    let picture = Picture {
-        kept: record.ticks.into_iter().zip(record.values).collect(),
-        samples: Vec::new(),
-        tolerance: record.tolerance,
-    };
-    Ok((counts, picture))
-}
-
-/// A trace and the lines that are kept of it, and how many samples there are in words.
-fn picture_of_trace(line: &Line, source: Source) -> Result<(String, Picture), Failure> {
-    let reduction = line.reduction()?;
-    let text = Text::read(source)?;
-    let Some(kept) = Kept::of(&text, reduction)? else {
-        let cause = "--tolerance is missing, and this is no record";
-        return Err(line.wrong(placed(&text.name, cause)));
-    };
-    let trace: Vec<_> = text.ticks.into_iter().zip(text.values).collect();
-    let counts = match kept.method {
-        Some(method) => format!(
-            "{}, {} kept by {method}",
-            samples(trace.len()),
-            kept.list.len()
-        ),
-        None => format!("{} kept", samples(trace.len())),
-    };
-    let picture = Picture {
-        kept: kept.list.iter().map(|&k| trace[usize::from(k)]).collect(),
-        samples: if kept.method.is_some() {
-            trace
-        } else {
-            Vec::new()
-        },
-        tolerance: kept.held,
-    };
-    Ok((counts, picture))
 }

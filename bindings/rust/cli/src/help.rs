@@ -154,14 +154,17 @@ Exit status: 0 done, 2 error (also if one record is faulty).
 
 pub const DRAW: &str = "\
 Draws a trace with the lines that are kept of it and their tolerance band, as
-SVG. Of a record, or its text as `kovrelna show` prints it, the lines and the
+SVG, and below it how far the trace is above or below the lines, in the same
+band. Of a record, or its text as `kovrelna show` prints it, the lines and the
 band are drawn at its own tolerance.
 
-Usage: kovrelna draw -t TOLERANCE [-m METHOD] [-o FILE] [INPUT]
-       kovrelna draw [-o FILE] [RECORD]
+Usage: kovrelna draw -t TOLERANCE [-m METHOD] [OPTION..] [INPUT]
+       kovrelna draw [OPTION..] [RECORD]
 
   -t, --tolerance T   p/q, counts, or noise x multiple: 2/3, 1.5, 3.25x4
   -m, --method M      walk (the default), gallop or minimum
+      --from TICK     draw what is kept of the whole trace from this tick on
+      --to TICK       draw it up to this tick
   -o, --output FILE   write to FILE instead of standard output (-); FILE is
                       replaced only when all is written, and other hard links
                       to it keep what they had; after kill -9 a new file

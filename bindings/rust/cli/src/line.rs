@@ -5,7 +5,7 @@ use crate::args::{Arguments, Known};
 use crate::failure::{Failure, Status};
 use crate::name::{joined, placed, shown};
 use crate::source::Source;
-use crate::text::Text;
+use crate::text::{whole, Text};
 use crate::{output, tolerance};
 use kovrelna::{Ratio, Refusal, Tolerance};
 use std::ffi::{OsStr, OsString};
@@ -16,6 +16,8 @@ pub const OUTPUT: Known = Known::valued("output", Some('o'));
 pub const LIST: Known = Known::valued("list", Some('l'));
 pub const LIST_FILE: Known = Known::valued("list-file", Some('f'));
 pub const ALLOWANCE: Known = Known::valued("allowance", Some('a'));
+pub const FROM: Known = Known::valued("from", None);
+pub const TO: Known = Known::valued("to", None);
 pub const BUDGET: Known = Known::flag("budget", Some('b'));
 
 /// A command line of a command.
@@ -71,6 +73,16 @@ impl Line {
             Ok(tolerance) => Ok(Some(tolerance)),
             Err(cause) => Err(self.wrong(format!("--tolerance: {cause}"))),
         }
+    }
+
+    /// An option's value as a tick.
+    pub fn tick(&self, option: Known) -> Result<Option<u32>, Failure> {
+        let Some(written) = self.text(option)? else {
+            return Ok(None);
+        };
+        let tick = whole("tick", written, 0, u32::MAX);
+        let wrong = |cause| self.wrong(format!("--{}: {cause}", option.name));
+        tick.map(Some).map_err(wrong)
     }
 
     fn method(&self) -> Result<Option<Method>, Failure> {
@@ -205,12 +217,15 @@ impl Kept {
                 held,
                 method: Some(method.name),
             },
-            (None, Some((tolerance, held))) => Kept {
-                list: text.every_sample(),
-                tolerance,
-                held,
-                method: None,
-            },
+            (None, Some((tolerance, held))) => {
+                text.must_be_a_trace()?;
+                Kept {
+                    list: text.every_sample(),
+                    tolerance,
+                    held,
+                    method: None,
+                }
+            }
         }))
     }
 }

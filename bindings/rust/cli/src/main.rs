@@ -16,7 +16,7 @@
 //! - `line`: what the commands share.
 //! - `budget`: what an error budget may say.
 //! - `commands`: one function for each command.
-//! - `check`, `near`, `summary`: commands with a file of their own.
+//! - `check`, `draw`, `near`, `summary`: commands with a file of their own.
 //!
 //! Which samples are kept, whether a list is within a tolerance, what a tolerance is held as and what
 //! is in a record: all this is asked of the library.
@@ -26,6 +26,7 @@ mod args;
 mod budget;
 mod check;
 mod commands;
+mod draw;
 #[allow(unsafe_code)]
 mod ending;
 mod failure;

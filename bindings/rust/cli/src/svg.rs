@@ -1,7 +1,8 @@
-//! Pictures: a trace, the lines that are kept of it and their tolerance band, with axes and a key. The
-//! same input gives the same bytes. Nothing else is needed to show it; its colours follow the reader's
-//! choice of a light or a dark ground.
+//! Pictures: a trace, the lines that are kept of it and their tolerance band, and below it how far the
+//! trace is from the lines; with axes and a key. The same input gives the same bytes. Nothing else is
+//! needed to show it; its colours follow the reader's choice of a light or a dark ground.
 
+use crate::budget::ratio;
 use kovrelna::Ratio;
 use std::fmt::Write;
 
@@ -15,15 +16,32 @@ pub struct Picture {
     /// The kept samples, at least one.
     pub kept: Vec<Sample>,
     pub tolerance: Ratio,
+    /// The first and the last tick to be drawn; both are from the first kept sample to the last.
+    pub stretch: (u32, u32),
+}
+
+impl Picture {
+    /// All of it.
+    pub fn whole(samples: Vec<Sample>, kept: Vec<Sample>, tolerance: Ratio) -> Picture {
+        let tick = |sample: Option<&Sample>| sample.map_or(0, |&(tick, _)| tick);
+        Picture {
+            stretch: (tick(kept.first()), tick(kept.last())),
+            samples,
+            kept,
+            tolerance,
+        }
+    }
 }
 
 const WIDTH: f64 = 960.0;
-const HEIGHT: f64 = 480.0;
-/// The plot's edges.
+/// The edges of all panels.
 const LEFT: f64 = 84.0;
 const RIGHT: f64 = 936.0;
-const TOP: f64 = 60.0;
-const BOTTOM: f64 = 420.0;
+/// The top and the bottom of the trace's panel, and of the distances' below it.
+const TRACE: (f64, f64) = (60.0, 420.0);
+const DISTANCES: (f64, f64) = (440.0, 560.0);
+/// Below the lowest panel.
+const FOOT: f64 = 60.0;
 /// Up to so many samples a line joins them.
 const JOINED: usize = 600;
 /// How the band of one sample alone is drawn.
@@ -39,6 +57,61 @@ const STYLE: &str = "\
 .line{stroke:#79c0ff}.kept{stroke:#ff7b72}}
 ";
 
+/// A tick, and a value or a distance.
+type Point = (f64, f64);
+
+/// Points by rising ticks, and the straight lines between them.
+struct Curve(Vec<Point>);
+
+impl Curve {
+    fn of(samples: &[Sample]) -> Curve {
+        let point = |&(tick, value): &Sample| (f64::from(tick), f64::from(value));
+        Curve(samples.iter().map(point).collect())
+    }
+
+    /// The height at this tick, which is from the first point to the last.
+    fn at(&self, tick: f64) -> f64 {
+        let after = self.0.partition_point(|&(other, _)| other < tick);
+        match (
+            after.checked_sub(1).map(|before| self.0[before]),
+            self.0[after],
+        ) {
+            (Some((t, v)), (u, w)) if tick < u => v + (w - v) * (tick - t) / (u - t),
+            (_, (_, height)) => height,
+        }
+    }
+
+    /// The points from one tick to another.
+    fn points(&self, (from, to): (f64, f64)) -> &[Point] {
+        let start = self.0.partition_point(|&(tick, _)| tick < from);
+        let end = self.0.partition_point(|&(tick, _)| tick <= to);
+        &self.0[start..end]
+    }
+
+    /// The curve from one tick to another, which are from the first point to the last.
+    fn cut(&self, (from, to): (f64, f64)) -> Curve {
+        let mut points = vec![(from, self.at(from)), (to, self.at(to))];
+        points.splice(1..1, self.points((from, to)).iter().copied());
+        points.dedup();
+        Curve(points)
+    }
+
+    /// How far this curve is above the other, at each of its points.
+    fn above(&self, other: &Curve) -> Curve {
+        let above = |&(tick, height): &Point| (tick, height - other.at(tick));
+        Curve(self.0.iter().map(above).collect())
+    }
+
+    /// The least and the greatest height.
+    fn range(&self) -> (f64, f64) {
+        let heights = || self.0.iter().map(|&(_, height)| height);
+        (
+            heights().fold(f64::INFINITY, f64::min),
+            heights().fold(f64::NEG_INFINITY, f64::max),
+        )
+    }
+}
+
 /// A straight axis: numbers from `low` to `high` on the way between two places.
 struct Axis {
     low: f64,
@@ -48,6 +121,17 @@ struct Axis {
 }
 
 impl Axis {
+    /// With room for these numbers, and a part of their difference beside them.
+    fn around((low, high): (f64, f64), part: f64, (from, to): (f64, f64)) -> Axis {
+        let beside = ((high - low) * part).max(0.5);
+        Axis {
+            low: low - beside,
+            high: high + beside,
+            from,
+            to,
+        }
+    }
+
     fn place(&self, number: f64) -> f64 {
         self.from + (number - self.low) / (self.high - self.low) * (self.to - self.from)
     }
@@ -64,91 +148,103 @@ impl Axis {
     }
 }
 
-/// The axes that have room for everything, with a little space beside.
-fn axes(picture: &Picture) -> (Axis, Axis) {
-    let tolerance = picture.tolerance.p as f64 / picture.tolerance.q as f64;
-    // The first and the last sample are kept.
-    let ticks = || picture.kept.iter().map(|&(tick, _)| f64::from(tick));
-    let band = |&(_, value): &Sample| [-tolerance, tolerance].map(|side| f64::from(value) + side);
+/// Two axes with words at some heights, and what the heights are.
+struct Panel<'a> {
+    x: &'a Axis,
+    y: Axis,
+    marks: Vec<(f64, String)>,
+    name: &'static str,
+}
+
+/// The panel of the trace and its lines.
+fn trace_panel<'a>(x: &'a Axis, (low, high): (f64, f64), tolerance: f64) -> Panel<'a> {
+    let (top, bottom) = TRACE;
     // No sample is outside the band.
-    let values = || picture.kept.iter().flat_map(band);
-    let (left, right) = (
-        ticks().fold(f64::INFINITY, f64::min),
-        ticks().fold(f64::NEG_INFINITY, f64::max),
-    );
-    let (low, high) = (
-        values().fold(f64::INFINITY, f64::min),
-        values().fold(f64::NEG_INFINITY, f64::max),
-    );
-    let beside = ((right - left) / 100.0).max(0.5);
-    let above = ((high - low) / 20.0).max(0.5);
-    let x = Axis {
-        low: left - beside,
-        high: right + beside,
-        from: LEFT,
-        to: RIGHT,
-    };
-    let y = Axis {
-        low: low - above,
-        high: high + above,
-        from: BOTTOM,
-        to: TOP,
-    };
-    (x, y)
+    let y = Axis::around((low - tolerance, high + tolerance), 0.05, (bottom, top));
+    let marks = y.marks(7).into_iter();
+    Panel {
+        x,
+        marks: marks.map(|mark| (mark as f64, mark.to_string())).collect(),
+        y,
+        name: "value (ADC counts)",
+    }
+}
+
+/// The panel of the distances from the lines, as high as the band.
+fn distances_panel(x: &Axis, held: Ratio, tolerance: f64) -> Panel<'_> {
+    let (top, bottom) = DISTANCES;
+    let reach = if held.p == 0 { 1.0 } else { 1.25 * tolerance };
+    let mut marks = vec![(0.0, "0".to_string())];
+    if held.p > 0 {
+        let words = short(held);
+        marks.extend([
+            (tolerance, format!("+{words}")),
+            (-tolerance, format!("-{words}")),
+        ]);
+    }
+    Panel {
+        x,
+        y: Axis {
+            low: -reach,
+            high: reach,
+            from: bottom,
+            to: top,
+        },
+        marks,
+        name: "trace minus lines",
+    }
+}
+
+/// The tolerance where there is room for 5 characters. The title has all of it.
+fn short(Ratio { p, q }: Ratio) -> String {
+    match ratio(p, q) {
+        exact if exact.len() <= 5 => exact,
+        _ => "p/q".to_string(),
+    }
 }
 
 /// The picture as SVG.
 pub fn draw(title: &str, picture: &Picture) -> String {
-    let (x, y) = axes(picture);
+    let tolerance = picture.tolerance.p as f64 / picture.tolerance.q as f64;
+    let stretch = (f64::from(picture.stretch.0), f64::from(picture.stretch.1));
+    let (samples, kept) = (Curve::of(&picture.samples), Curve::of(&picture.kept));
+    let with_samples = !picture.samples.is_empty();
+    let (_, bottom) = if with_samples { DISTANCES } else { TRACE };
+    let height = bottom + FOOT;
     let title = escaped(title);
     let mut svg = format!(
-        "<svg xmlns=\"http://www.w3.org/2000/svg\" viewBox=\"0 0 {WIDTH} {HEIGHT}\" \
-         width=\"{WIDTH}\" height=\"{HEIGHT}\" role=\"img\" aria-label=\"{title}\" \
+        "<svg xmlns=\"http://www.w3.org/2000/svg\" viewBox=\"0 0 {WIDTH} {height}\" \
+         width=\"{WIDTH}\" height=\"{height}\" role=\"img\" aria-label=\"{title}\" \
          font-family=\"system-ui,sans-serif\" font-size=\"13\">\n\
          <title>{title}</title>\n<style>\n{STYLE}</style>\n\
-         <rect class=\"ground\" width=\"{WIDTH}\" height=\"{HEIGHT}\"/>\n\
+         <rect class=\"ground\" width=\"{WIDTH}\" height=\"{height}\"/>\n\
          <text class=\"ink\" x=\"{LEFT}\" y=\"26\" font-size=\"16\">{title}</text>\n"
     );
-    scales(&mut svg, &x, &y);
-    key(&mut svg, !picture.samples.is_empty());
-    curves(&mut svg, picture, &x, &y);
+    key(&mut svg, with_samples);
+    let x = Axis::around(stretch, 0.01, (LEFT, RIGHT));
+    let panel = trace_panel(&x, kept.cut(stretch).range(), tolerance);
+    panel.scales(&mut svg);
+    panel.curves(&mut svg, &samples, &kept, tolerance, stretch);
+    if with_samples {
+        let panel = distances_panel(&x, picture.tolerance, tolerance);
+        panel.scales(&mut svg);
+        let (samples, kept) = (samples.above(&kept), kept.above(&kept));
+        panel.curves(&mut svg, &samples, &kept, tolerance, stretch);
+    }
+    ticks(&mut svg, &x, bottom);
     svg += "</svg>\n";
     svg
 }
 
-/// Both axes, with their numbers, names and the lines of the grid.
-fn scales(svg: &mut String, x: &Axis, y: &Axis) {
-    let (mut grid, mut numbers) = (String::new(), String::new());
+/// The numbers and the name of the ticks, below all panels.
+fn ticks(svg: &mut String, x: &Axis, bottom: f64) {
+    *svg += "<g class=\"quiet\" text-anchor=\"middle\">\n";
     for mark in x.marks(9) {
-        let at = x.place(mark as f64);
-        let _ = write!(grid, "M{at:.1} {TOP}V{BOTTOM}");
-        let _ = writeln!(
-            numbers,
-            "<text x=\"{at:.1}\" y=\"{}\" text-anchor=\"middle\">{mark}</text>",
-            BOTTOM + 18.0
-        );
+        let (at, below) = (x.place(mark as f64), bottom + 18.0);
+        let _ = writeln!(svg, "<text x=\"{at:.1}\" y=\"{below}\">{mark}</text>");
     }
-    for mark in y.marks(7) {
-        let at = y.place(mark as f64);
-        let _ = write!(grid, "M{LEFT} {at:.1}H{RIGHT}");
-        let _ = writeln!(
-            numbers,
-            "<text x=\"{}\" y=\"{:.1}\" text-anchor=\"end\">{mark}</text>",
-            LEFT - 8.0,
-            at + 4.5
-        );
-    }
-    let (middle, centre) = ((LEFT + RIGHT) / 2.0, (TOP + BOTTOM) / 2.0);
-    let _ = write!(
-        svg,
-        "<path class=\"grid\" d=\"{grid}\"/>\n\
-         <path class=\"edge\" fill=\"none\" d=\"M{LEFT} {TOP}V{BOTTOM}H{RIGHT}\"/>\n\
-         <g class=\"quiet\">\n{numbers}\
-         <text x=\"{middle}\" y=\"{}\" text-anchor=\"middle\">tick</text>\n\
-         <text transform=\"translate(20 {centre}) rotate(-90)\" text-anchor=\"middle\">\
-         value (ADC counts)</text>\n</g>\n",
-        BOTTOM + 42.0
-    );
+    let (middle, below) = ((LEFT + RIGHT) / 2.0, bottom + 42.0);
+    let _ = writeln!(svg, "<text x=\"{middle}\" y=\"{below}\">tick</text>\n</g>");
 }
 
 /// What the marks mean.
@@ -185,43 +281,85 @@ fn key(svg: &mut String, with_samples: bool) {
     }
 }
 
-/// The band, the samples, the lines and the kept samples.
-fn curves(svg: &mut String, picture: &Picture, x: &Axis, y: &Axis) {
-    let tolerance = picture.tolerance.p as f64 / picture.tolerance.q as f64;
-    let point = |&(tick, value): &Sample, side: f64| {
-        let (at, height) = (f64::from(tick), f64::from(value) + side);
-        format!("{:.1} {:.1}", x.place(at), y.place(height))
-    };
-    let points = |samples: &[Sample], side| -> Vec<String> {
-        samples.iter().map(|sample| point(sample, side)).collect()
-    };
-    let line = |samples: &[Sample]| format!("M{}", points(samples, 0.0).join("L"));
-    let dots = |samples: &[Sample]| format!("M{}h0", points(samples, 0.0).join("h0M"));
-    let mut path = |class, attributes: &str, d: String| {
-        let _ = writeln!(svg, "<path class=\"{class}\" {attributes}d=\"{d}\"/>");
-    };
-    let Picture { samples, kept, .. } = picture;
-    let (above, mut below) = (points(kept, tolerance), points(kept, -tolerance));
-    below.reverse();
-    // The band of one sample has no width: it is drawn as a stroke.
-    let stroke = if kept.len() == 1 { ALONE } else { "" };
-    path(
-        "band",
-        stroke,
-        format!("M{}Z", [above, below].concat().join("L")),
-    );
-    if (2..=JOINED).contains(&samples.len()) {
-        path("trace", "fill=\"none\" ", line(samples));
+impl Panel<'_> {
+    /// Both axes with the lines of the grid, and the words beside them.
+    fn scales(&self, svg: &mut String) {
+        let (top, bottom) = (self.y.to, self.y.from);
+        let (mut grid, mut words) = (String::new(), String::new());
+        for mark in self.x.marks(9) {
+            let at = self.x.place(mark as f64);
+            let _ = write!(grid, "M{at:.1} {top}V{bottom}");
+        }
+        for (mark, text) in &self.marks {
+            let at = self.y.place(*mark);
+            let _ = write!(grid, "M{LEFT} {at:.1}H{RIGHT}");
+            let _ = writeln!(
+                words,
+                "<text x=\"{}\" y=\"{:.1}\" text-anchor=\"end\">{text}</text>",
+                LEFT - 8.0,
+                at + 4.5
+            );
+        }
+        let (centre, name) = ((top + bottom) / 2.0, self.name);
+        let _ = write!(
+            svg,
+            "<path class=\"grid\" d=\"{grid}\"/>\n\
+             <path class=\"edge\" fill=\"none\" d=\"M{LEFT} {top}V{bottom}H{RIGHT}\"/>\n\
+             <g class=\"quiet\">\n{words}\
+             <text transform=\"translate(20 {centre}) rotate(-90)\" text-anchor=\"middle\">\
+             {name}</text>\n</g>\n"
+        );
     }
-    let round =
-        |width: f64| format!("fill=\"none\" stroke-width=\"{width}\" stroke-linecap=\"round\" ");
-    if !samples.is_empty() {
-        path("sample", &round(3.4), dots(samples));
+
+    /// The band, the samples, the lines and the kept samples, from one tick to another.
+    fn curves(
+        &self,
+        svg: &mut String,
+        samples: &Curve,
+        kept: &Curve,
+        tolerance: f64,
+        stretch: (f64, f64),
+    ) {
+        let places = |points: &[Point], side: f64| -> Vec<String> {
+            let place = |&(tick, height): &Point| {
+                let (x, y) = (self.x.place(tick), self.y.place(height + side));
+                format!("{x:.1} {y:.1}")
+            };
+            points.iter().map(place).collect()
+        };
+        let mut path = |class, attributes: &str, d: String| {
+            let _ = writeln!(svg, "<path class=\"{class}\" {attributes}d=\"{d}\"/>");
+        };
+        let lines = kept.cut(stretch).0;
+        let (above, mut below) = (places(&lines, tolerance), places(&lines, -tolerance));
+        below.reverse();
+        // The band of one sample has no width: it is drawn as a stroke.
+        let stroke = if lines.len() == 1 { ALONE } else { "" };
+        let around = [above, below].concat().join("L");
+        path("band", stroke, format!("M{around}Z"));
+        let line = |points: &[Point]| format!("M{}", places(points, 0.0).join("L"));
+        let dots = |points: &[Point]| format!("M{}h0", places(points, 0.0).join("h0M"));
+        let round = |width: f64| {
+            format!("fill=\"none\" stroke-width=\"{width}\" stroke-linecap=\"round\" ")
+        };
+        if !samples.0.is_empty() {
+            let joined = samples.cut(stretch).0;
+            if (2..=JOINED).contains(&joined.len()) {
+                path("trace", "fill=\"none\" ", line(&joined));
+            }
+        }
+        let drawn = samples.points(stretch);
+        if !drawn.is_empty() {
+            path("sample", &round(3.4), dots(drawn));
+        }
+        let joint = "fill=\"none\" stroke-width=\"1.8\" stroke-linejoin=\"round\" ";
+        path("line", joint, line(&lines));
+        let drawn = kept.points(stretch);
+        if !drawn.is_empty() {
+            let width = if drawn.len() > JOINED { 3.4 } else { 6.0 };
+            path("kept", &round(width), dots(drawn));
+        }
     }
-    let joint = "fill=\"none\" stroke-width=\"1.8\" stroke-linejoin=\"round\" ";
-    path("line", joint, line(kept));
-    let width = if kept.len() > JOINED { 3.4 } else { 6.0 };
-    path("kept", &round(width), dots(kept));
 }
 
 /// The text as XML, without control characters.
@@ -276,15 +414,13 @@ mod tests {
             ),
         ] {
             for known in [true, false] {
-                let picture = Picture {
-                    samples: if known { samples.clone() } else { Vec::new() },
-                    kept: samples.clone(),
-                    tolerance: Ratio { p, q },
-                };
+                let drawn = if known { samples.clone() } else { Vec::new() };
+                let picture = Picture::whole(drawn, samples.clone(), Ratio { p, q });
                 let svg = draw("a<b>&\"c\"", &picture);
                 assert!(!svg.contains("NaN") && !svg.contains("inf"), "{svg}");
                 well_formed(&svg);
                 assert_eq!(svg.contains(ALONE), samples.len() == 1);
+                assert_eq!(svg.contains("trace minus lines"), known);
                 assert_eq!(svg, draw("a<b>&\"c\"", &picture));
             }
         }
@@ -315,6 +451,28 @@ mod tests {
             }
         }
         assert!(open.is_empty(), "{open:?}");
+    }
+
+    #[test]
+    fn curves() {
+        let curve = Curve::of(&[(0, 0), (4, 8), (6, -2)]);
+        assert_eq!(
+            [0.0, 1.0, 4.0, 5.0, 6.0].map(|tick| curve.at(tick)),
+            [0.0, 2.0, 8.0, 3.0, -2.0]
+        );
+        for (stretch, cut) in [
+            ((0.0, 6.0), vec![(0.0, 0.0), (4.0, 8.0), (6.0, -2.0)]),
+            ((1.0, 5.0), vec![(1.0, 2.0), (4.0, 8.0), (5.0, 3.0)]),
+            ((1.0, 3.0), vec![(1.0, 2.0), (3.0, 6.0)]),
+            ((4.0, 6.0), vec![(4.0, 8.0), (6.0, -2.0)]),
+            ((4.0, 4.0), vec![(4.0, 8.0)]),
+            ((5.0, 5.0), vec![(5.0, 3.0)]),
+        ] {
+            assert_eq!(curve.cut(stretch).0, cut);
+        }
+        assert_eq!(curve.range(), (-2.0, 8.0));
+        let lines = Curve::of(&[(0, 0), (6, -6)]);
+        assert_eq!(curve.above(&lines).0, [(0.0, 0.0), (4.0, 12.0), (6.0, 4.0)]);
     }
 
     #[test]

@@ -143,6 +143,16 @@ impl Text {
         (0..self.ticks.len()).map(|sample| sample as u16).collect()
     }
 
+    /// Fails if this is no trace.
+    pub fn must_be_a_trace(&self) -> Result<(), Failure> {
+        // All samples are within any tolerance of themselves.
+        let (all, zero) = (self.every_sample(), Tolerance::Counts(0.0));
+        match kovrelna::judge(&self.ticks, &self.values, &all, zero) {
+            Ok(_) => Ok(()),
+            Err(refusal) => Err(self.refused(refusal)),
+        }
+    }
+
     /// The line of this sample, in a message.
     pub fn line_of(&self, sample: usize) -> OsString {
         match self.lines.get(sample) {

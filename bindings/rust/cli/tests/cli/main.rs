@@ -2,12 +2,14 @@
 //!
 //! - `budget`: what an error budget may say.
 //! - `check`: whether a record may stand for a trace.
+//! - `draw`: pictures.
 //! - `names`: names of files that are not UTF-8.
 //! - `near`: how near lists are to the shortest.
 //! - `signals`: runs that are ended while they write a file.
 
 mod budget;
 mod check;
+mod draw;
 mod names;
 mod near;
 mod signals;
@@ -261,47 +263,6 @@ fn summaries() {
     let (status, printed, _) = told(&run(&["summary", "missing"], ""));
     assert_eq!(status, 2);
     assert!(printed.ends_with("0\t0\t-\t-\t-\t0\ttotal\n"), "{printed}");
-}
-
-/// The picture in the documentation is what the tool draws.
-#[test]
-fn draws() {
-    let trace = shipped("examples/pulse.csv");
-    let arguments = ["draw", "-t", "8", "-m", "minimum", path(&trace)];
-    let svg = done(&arguments, "");
-    assert_eq!(svg, fs::read(shipped("docs/pulse.svg")).unwrap());
-    let svg = String::from_utf8(svg).unwrap();
-    let title = "<title>128 samples, 12 kept by minimum, tolerance 8: pulse.csv</title>";
-    assert!(svg.contains(title));
-    let wave = shipped("examples/wave.record");
-    let svg = String::from_utf8(done(&["draw", path(&wave)], "")).unwrap();
-    assert!(svg.contains("<title>5 samples kept, tolerance 2: wave.record</title>"));
-    assert!(!svg.contains("class=\"sample\""));
-    let from_pipe = done(&["draw"], fs::read(&wave).unwrap());
-    assert!(String::from_utf8(from_pipe)
-        .unwrap()
-        .contains("<title>5 samples kept"));
-    let message = format!("{}: a record", path(&wave));
-    fails(&["draw", "-t2", path(&wave)], "", &message);
-    fails(&["draw"], WAVE, "<stdin>: --tolerance is missing");
-    fails(&["draw"], "T\0", "<stdin>: --tolerance is missing");
-    // The text of a record is drawn as the record is.
-    let shown = done(&["show", path(&wave)], "");
-    assert_eq!(
-        done(&["draw"], &shown),
-        done(&["draw"], fs::read(&wave).unwrap())
-    );
-    fails(
-        &["draw", "-t2"],
-        shown,
-        "<stdin>:1: samples are reduced already at 2/1",
-    );
-    // A name is no part of the picture's text.
-    let odd = folder("draws").join("a<b>&c.csv");
-    fs::write(&odd, "0,0\n").unwrap();
-    let svg = String::from_utf8(done(&["draw", "-t1", path(&odd)], "")).unwrap();
-    let title = "<title>1 sample, 1 kept by walk, tolerance 1: a&lt;b&gt;&amp;c.csv</title>";
-    assert!(svg.contains(title), "{svg}");
 }
 
 #[test]

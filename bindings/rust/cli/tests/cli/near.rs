@@ -88,7 +88,7 @@ samples    walk  gallop minimum    half  file
     assert_eq!(String::from_utf8(printed).unwrap(), expected);
     // From standard input, and no total.
     let printed = String::from_utf8(done(&["near", "-t2"], WAVE)).unwrap();
-    let line = "\n      5       3       2       2       3  <stdin>\n";
+    let line = "\n      5       3       2       2       4  <stdin>\n";
     assert!(printed.ends_with(line), "{printed}");
 }
 

@@ -1,0 +1,104 @@
+//! The command `draw`.
+
+use crate::budget::ratio;
+use crate::failure::{Failure, Status};
+use crate::line::{Kept, Line, FROM, METHOD, OUTPUT, TO, TOLERANCE};
+use crate::name::{placed, shown};
+use crate::source::Source;
+use crate::svg::{self, Picture};
+use crate::text::Text;
+use crate::{help, output, records};
+use kovrelna::Ratio;
+use std::ffi::OsString;
+use std::path::Path;
+
+pub fn draw(arguments: &[OsString]) -> Result<Status, Failure> {
+    let line = Line::parse("draw", &[TOLERANCE, METHOD, OUTPUT, FROM, TO], arguments)?;
+    if line.arguments.help {
+        return output::print(help::DRAW);
+    }
+    let input = line.input()?;
+    let mut source = Source::open(input)?;
+    let beginning = source.up_to(records::BEGINNING)?;
+    let is_record = records::begins(&beginning);
+    let source = source.put_back(beginning);
+    let place = source.name.clone();
+    let (counts, mut picture) = match is_record {
+        true => picture_of_record(&line, source)?,
+        false => picture_of_trace(&line, source)?,
+    };
+    let mut ticks = String::new();
+    if let Some((from, to)) = stretch(&line, place, picture.stretch)? {
+        picture.stretch = (from, to);
+        ticks = format!(", ticks {from} to {to}");
+    }
+    let name = match input.and_then(|input| Path::new(input).file_name()) {
+        Some(name) if name != "-" => format!(": {}", shown(name).to_string_lossy()),
+        _ => String::new(),
+    };
+    let Ratio { p, q } = picture.tolerance;
+    let tolerance = ratio(p, q);
+    let title = format!("{counts}, tolerance {tolerance}{ticks}{name}");
+    let svg = svg::draw(&title, &picture);
+    output::write(line.value(OUTPUT), svg.as_bytes(), true)
+}
+
+/// The part of these ticks that is wanted, if not all of them are.
+fn stretch(
+    line: &Line,
+    place: OsString,
+    (first, last): (u32, u32),
+) -> Result<Option<(u32, u32)>, Failure> {
+    let (from, to) = match (line.tick(FROM)?, line.tick(TO)?) {
+        (None, None) => return Ok(None),
+        (from, to) => (from.unwrap_or(first), to.unwrap_or(last)),
+    };
+    if from > last || to < first || from > to {
+        let cause = format!("nothing is from tick {from} to tick {to}");
+        let cause = format!("{cause}: its ticks are from {first} to {last}");
+        return Err(Failure::at(place, cause));
+    }
+    Ok(Some((from.max(first), to.min(last))))
+}
+
+/// So many samples, in words.
+fn samples(count: usize) -> String {
+    format!("{count} sample{}", if count == 1 { "" } else { "s" })
+}
+
+/// The lines of a record, and how many samples there are in words.
+fn picture_of_record(line: &Line, source: Source) -> Result<(String, Picture), Failure> {
+    if line.value(TOLERANCE).is_some() || line.value(METHOD).is_some() {
+        let cause = "a record, with its own tolerance: --tolerance and --method do not apply";
+        return Err(line.wrong(placed(&source.name, cause)));
+    }
+    let record = records::load(source)?;
+    let counts = format!("{} kept", samples(record.ticks.len()));
+    let kept: Vec<_> = record.ticks.into_iter().zip(record.values).collect();
+    Ok((counts, Picture::whole(Vec::new(), kept, record.tolerance)))
+}
+
+/// A trace and the lines that are kept of it, and how many samples there are in words.
+fn picture_of_trace(line: &Line, source: Source) -> Result<(String, Picture), Failure> {
+    let reduction = line.reduction()?;
+    let text = Text::read(source)?;
+    let Some(kept) = Kept::of(&text, reduction)? else {
+        let cause = "--tolerance is missing, and this is no record";
+        return Err(line.wrong(placed(&text.name, cause)));
+    };
+    let trace: Vec<_> = text.ticks.into_iter().zip(text.values).collect();
+    let counts = match kept.method {
+        Some(method) => format!(
+            "{}, {} kept by {method}",
+            samples(trace.len()),
+            kept.list.len()
+        ),
+        None => format!("{} kept", samples(trace.len())),
+    };
+    let lines = kept.list.iter().map(|&k| trace[usize::from(k)]).collect();
+    let samples = match kept.method {
+        Some(_) => trace,
+        None => Vec::new(),
+    };
+    Ok((counts, Picture::whole(samples, lines, kept.held)))
+}
