@@ -42,7 +42,7 @@ impl Text {
         };
         let beginning = source.up_to(records::BEGINNING)?;
         if records::begins(&beginning) {
-            return Err(Failure::at(&text.name, "a record: use `kovrelna show`"));
+            return Err(Failure::at(&text.name, "a record, where a trace is wanted"));
         }
         let mut heading = true;
         let mut lines = Lines::new(source.put_back(beginning));
@@ -428,7 +428,7 @@ mod tests {
         let record = b"T\0\0\0\0\x02\0\0\x01A\0\0\0\0\0\0E\0\x01";
         assert_eq!(
             read(record).unwrap_err(),
-            "in: a record: use `kovrelna show`"
+            "in: a record, where a trace is wanted"
         );
     }
 

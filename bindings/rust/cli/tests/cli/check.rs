@@ -207,7 +207,11 @@ fn refuses() {
     fs::write(other, WAVE).unwrap();
     let message = format!("{other}: no record: it is faulty at byte 0\n");
     fails(&["check", other, file], "", &message);
-    fails(&["check", file, file], "", &format!("{file}: a record"));
+    fails(
+        &["check", file, file],
+        "",
+        &format!("{file}: a record, where a trace is wanted\n"),
+    );
     fails(&["check", file, "missing"], "", "missing: No such file");
     fails(&["check", "missing", file], "", "missing: No such file");
     for arguments in [

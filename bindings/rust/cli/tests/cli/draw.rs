@@ -8,19 +8,20 @@ fn drawn(arguments: &[&str], input: impl AsRef<[u8]>) -> String {
     String::from_utf8(done(arguments, input)).unwrap()
 }
 
-/// The places of the dots of this class, in each path of them.
-fn dots(svg: &str, class: &str) -> Vec<Vec<(f64, f64)>> {
-    let begins = format!("<path class=\"{class}\" fill");
-    let paths = svg.lines().filter(|line| line.starts_with(&begins));
-    let place = |dot: &str| {
-        let (x, y) = dot.trim_end_matches("h0").split_once(' ').unwrap();
+/// The points of each curve of this class, or its dots.
+fn points(svg: &str, class: &str) -> Vec<Vec<(f64, f64)>> {
+    let begins = format!("<path class=\"{class}\" ");
+    let point = |point: &str| {
+        let (x, y) = point.trim_end_matches("h0").split_once(' ').unwrap();
         (x.parse().unwrap(), y.parse().unwrap())
     };
-    let places = |line: &str| {
+    let points = |line: &str| {
         let (_, d) = line.split_once(" d=\"M").unwrap();
-        d.trim_end_matches("\"/>").split('M').map(place).collect()
+        let d = d.trim_end_matches("\"/>").trim_end_matches('Z');
+        d.split(['M', 'L']).map(point).collect()
     };
-    paths.map(places).collect()
+    let curves = svg.lines().filter(|line| line.starts_with(&begins));
+    curves.map(points).collect()
 }
 
 /// The picture in the documentation is what the tool draws.
@@ -70,27 +71,23 @@ fn draws() {
 fn distances() {
     let svg = drawn(&["draw", "-t2", "-mminimum"], WAVE);
     assert!(svg.contains(">trace minus lines<"));
-    let [trace, distances] = &dots(&svg, "sample")[..] else {
+    let [trace, distances] = &points(&svg, "sample")[..] else {
         panic!("{svg}");
     };
     let x = |places: &[(f64, f64)]| places.iter().map(|&(x, _)| x).collect::<Vec<_>>();
     assert_eq!(x(trace), x(distances));
     let heights: Vec<f64> = distances.iter().map(|&(_, y)| y).collect();
     assert_eq!(heights, [500.0, 452.0, 500.0, 548.0, 500.0]);
-    let bands: Vec<&str> = svg
-        .lines()
-        .filter(|line| line.starts_with("<path class=\"band\" d"))
-        .collect();
     let (left, right) = (distances[0].0, distances[4].0);
-    let edges = format!("M{left:.1} 452.0L{right:.1} 452.0L{right:.1} 548.0L{left:.1} 548.0Z");
-    assert!(bands[1].contains(&edges), "{}", bands[1]);
+    let edges = [(left, 452.0), (right, 452.0), (right, 548.0), (left, 548.0)];
+    assert_eq!(points(&svg, "band")[1], edges);
     for (at, words) in [("456.5", "+2"), ("504.5", "0"), ("552.5", "-2")] {
         let text = format!("y=\"{at}\" text-anchor=\"end\">{words}<");
         assert!(svg.contains(&text), "{text}");
     }
     // The lines are not 0: samples 0, 2 and 4 are kept, and the others are 1 below the lines.
     let svg = drawn(&["draw", "-t1"], "0,0\n1,4\n2,10\n3,4\n4,0\n");
-    let distances = &dots(&svg, "sample")[1];
+    let distances = &points(&svg, "sample")[1];
     let heights: Vec<f64> = distances.iter().map(|&(_, y)| y).collect();
     assert_eq!(heights, [500.0, 548.0, 500.0, 548.0, 500.0]);
     // Of a record alone nothing is known between its samples.
@@ -108,35 +105,45 @@ fn stretches() {
     let title = "<title>128 samples, 12 kept by minimum, tolerance 8, ticks 184400 to 184432: pulse.csv</title>";
     assert!(svg.contains(title), "{svg}");
     assert_eq!(
-        dots(&svg, "sample")
+        points(&svg, "sample")
             .iter()
             .map(Vec::len)
             .collect::<Vec<_>>(),
         [9, 9]
     );
     assert_eq!(
-        dots(&svg, "kept").iter().map(Vec::len).collect::<Vec<_>>(),
+        points(&svg, "kept")
+            .iter()
+            .map(Vec::len)
+            .collect::<Vec<_>>(),
         [4, 4]
     );
+    for class in ["band", "trace", "sample", "line", "kept"] {
+        let points = points(&svg, class).concat();
+        assert!(
+            points.iter().all(|(x, _)| (92.0..=928.0).contains(x)),
+            "{class}"
+        );
+    }
     // Between two samples there are lines, and no dots.
     let svg = part(&["--from=184401", "--to=184402"]);
-    assert!(dots(&svg, "sample").is_empty() && dots(&svg, "kept").is_empty());
-    assert_eq!(svg.matches("<path class=\"trace\"").count(), 2);
-    assert_eq!(svg.matches("<path class=\"line\" fill").count(), 2);
+    assert!(points(&svg, "sample").is_empty() && points(&svg, "kept").is_empty());
+    assert_eq!(points(&svg, "trace").concat().len(), 4);
+    assert_eq!(points(&svg, "line").concat().len(), 4);
     // One end is enough, and beyond the trace there is nothing.
     let beyond = part(&["--from", "0", "--to", "4294967295"]);
     let ticks = ", ticks 184320 to 184828";
     assert_eq!(beyond.matches(ticks).count(), 3);
     assert!(beyond.replace(ticks, "") == part(&[]));
     let end = part(&["--from", "184820"]);
-    assert_eq!(dots(&end, "sample")[0].len(), 3);
+    assert_eq!(points(&end, "sample")[0].len(), 3);
     let start = part(&["--to", "184320"]);
-    assert_eq!(dots(&start, "kept")[1].len(), 1);
+    assert_eq!(points(&start, "kept")[1].len(), 1);
     // Of a record too.
     let wave = shipped("examples/wave.record");
     let svg = drawn(&["draw", path(&wave), "--from", "2"], "");
     assert!(svg.contains("<title>5 samples kept, tolerance 2, ticks 2 to 4: wave.record</title>"));
-    assert_eq!(dots(&svg, "kept")[0].len(), 3);
+    assert_eq!(points(&svg, "kept")[0].len(), 3);
     for (options, from, to) in [
         (["--from", "5", "--to", "4"], 5, 4),
         (["--from", "0", "--to", "9"], 0, 9),

@@ -349,7 +349,11 @@ fn the_other_kind() {
         &["judge", "-t1", "-l0"],
         &["least", "-a2"],
     ] {
-        fails(arguments, &wave, "<stdin>: a record: use `kovrelna show`\n");
+        fails(
+            arguments,
+            &wave,
+            "<stdin>: a record, where a trace is wanted\n",
+        );
     }
     fails(
         &["show"],
@@ -361,6 +365,10 @@ fn the_other_kind() {
 /// Noise of every sort is refused with status 2; nothing panics.
 #[test]
 fn noise() {
+    let (pulse, wave) = (
+        shipped("examples/pulse.csv"),
+        shipped("examples/wave.record"),
+    );
     let mut bytes = Vec::new();
     let mut state = 1u32;
     for length in 0..200 {
@@ -368,7 +376,14 @@ fn noise() {
             state = state.wrapping_mul(1_664_525).wrapping_add(1_013_904_223);
             bytes.push((state >> 24) as u8);
         }
-        for arguments in [&["record", "-t1"][..], &["show"], &["draw", "-t1"]] {
+        for arguments in [
+            &["record", "-t1"][..],
+            &["show"],
+            &["draw", "-t1", "--from", "1", "--to", "2"],
+            &["near", "-t1"],
+            &["check", "-", path(&pulse)],
+            &["check", path(&wave), "-"],
+        ] {
             let (status, _, error) = told(&run(arguments, &bytes));
             assert_eq!(status, 2, "{bytes:?} {error}");
             assert!(error.starts_with("kovrelna: <stdin>"), "{error}");
@@ -469,6 +484,8 @@ fn full_output() {
         &["summary", wave],
         &["draw", "-t1"],
         &["judge", "-t1", "-l0,4"],
+        &["check", wave, "-"],
+        &["near", "-t1"],
         &["--help"],
         &["record", "-t1", "-o", "/dev/full"],
     ] {
