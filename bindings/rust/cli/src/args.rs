@@ -17,21 +17,19 @@ pub struct Known {
 impl Known {
     /// An option with a value.
     pub const fn valued(name: &'static str, letter: Option<char>) -> Known {
-        let is_flag = false;
         Known {
             name,
             letter,
-            is_flag,
+            is_flag: false,
         }
     }
 
     /// An option without a value.
     pub const fn flag(name: &'static str, letter: Option<char>) -> Known {
-        let is_flag = true;
         Known {
             name,
             letter,
-            is_flag,
+            is_flag: true,
         }
     }
 }

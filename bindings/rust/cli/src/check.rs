@@ -40,21 +40,13 @@ fn fault(record: &Record, trace: &Text) -> Result<Option<OsString>, Failure> {
         Err(fault) => return Ok(Some(fault)),
     };
     let Ratio { p, q } = record.tolerance;
-    let verdict = judge(
-        &trace.ticks,
-        &trace.values,
-        &list,
-        Tolerance::Ratio { p, q },
-    );
+    let tolerance = Tolerance::Ratio { p, q };
+    let verdict = judge(&trace.ticks, &trace.values, &list, tolerance);
     let Verdict::Outside { link } = verdict.map_err(|refusal| trace.refused(refusal))? else {
         return Ok(None);
     };
-    let end = |sample: u16| {
-        format!(
-            "sample {sample} at tick {}",
-            trace.ticks[usize::from(sample)]
-        )
-    };
+    let tick = |sample: u16| trace.ticks[usize::from(sample)];
+    let end = |sample| format!("sample {sample} at tick {}", tick(sample));
     let ends = format!("{} to {}", end(list[link]), end(list[link + 1]));
     Ok(Some(joined(&[
         &format!("link {link}, from {ends} of "),

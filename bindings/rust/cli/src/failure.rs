@@ -8,9 +8,9 @@ use std::process::ExitCode;
 /// How the tool ends.
 #[derive(Clone, Copy, Debug, PartialEq, Eq)]
 pub enum Status {
-    /// Done; a judged list is within its tolerance.
+    /// Done; where something is asked, the answer is yes.
     Done,
-    /// A judged list is not within its tolerance.
+    /// The answer is no.
     No,
     /// Something was refused, or could not be read or written.
     Error,

@@ -52,14 +52,8 @@ impl Line {
         match value.to_str() {
             Some(text) => Ok(Some(text)),
             None => {
-                let value = shown(value);
-                Err(self.wrong(joined(&[
-                    &"--",
-                    &option.name,
-                    &": ",
-                    &value,
-                    &" is no text",
-                ])))
+                let place = format!("--{}: ", option.name);
+                Err(self.wrong(joined(&[&place, &shown(value), &" is no text"])))
             }
         }
     }

@@ -13,6 +13,7 @@
 //! - `temporary`: a new file beside the one that it replaces.
 //! - `ending`: signals that end the tool.
 //! - `svg`: pictures.
+//! - `curve`: curves of straight lines in them.
 //! - `line`: what the commands share.
 //! - `budget`: what an error budget may say.
 //! - `commands`: one function for each command.
@@ -26,6 +27,7 @@ mod args;
 mod budget;
 mod check;
 mod commands;
+mod curve;
 mod draw;
 #[allow(unsafe_code)]
 mod ending;

@@ -21,7 +21,10 @@ pub fn near(arguments: &[OsString]) -> Result<Status, Failure> {
     let half = Tolerance::Ratio { p, q };
     let half = hold(half).ok().map(|_| half);
     output::print(heading(held))?;
-    let mut total = Row::default();
+    let mut total = Row {
+        half: half.map(|_| 0),
+        ..Row::default()
+    };
     let status = each(&inputs, |source| {
         let text = Text::read(source)?.original()?;
         let row = Row::of(&text, tolerance, half)?;
@@ -90,7 +93,7 @@ impl Row {
         Row {
             samples: self.samples + other.samples,
             kept,
-            half: other.half.map(|half| half + self.half.unwrap_or(0)),
+            half: self.half.zip(other.half).map(|(half, other)| half + other),
         }
     }
 

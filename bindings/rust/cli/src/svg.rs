@@ -3,11 +3,9 @@
 //! needed to show it; its colours follow the reader's choice of a light or a dark ground.
 
 use crate::budget::ratio;
+use crate::curve::{Curve, Point, Sample};
 use kovrelna::Ratio;
 use std::fmt::Write;
-
-/// A tick and a value.
-pub type Sample = (u32, i16);
 
 /// What is drawn.
 pub struct Picture {
@@ -56,61 +54,6 @@ const STYLE: &str = "\
 .band{fill:#388bfd;fill-opacity:.36}.trace{stroke:#656c76}.sample{stroke:#9198a1}
 .line{stroke:#79c0ff}.kept{stroke:#ff7b72}}
 ";
-
-/// A tick, and a value or a distance.
-type Point = (f64, f64);
-
-/// Points by rising ticks, and the straight lines between them.
-struct Curve(Vec<Point>);
-
-impl Curve {
-    fn of(samples: &[Sample]) -> Curve {
-        let point = |&(tick, value): &Sample| (f64::from(tick), f64::from(value));
-        Curve(samples.iter().map(point).collect())
-    }
-
-    /// The height at this tick, which is from the first point to the last.
-    fn at(&self, tick: f64) -> f64 {
-        let after = self.0.partition_point(|&(other, _)| other < tick);
-        match (
-            after.checked_sub(1).map(|before| self.0[before]),
-            self.0[after],
-        ) {
-            (Some((t, v)), (u, w)) if tick < u => v + (w - v) * (tick - t) / (u - t),
-            (_, (_, height)) => height,
-        }
-    }
-
-    /// The points from one tick to another.
-    fn points(&self, (from, to): (f64, f64)) -> &[Point] {
-        let start = self.0.partition_point(|&(tick, _)| tick < from);
-        let end = self.0.partition_point(|&(tick, _)| tick <= to);
-        &self.0[start..end]
-    }
-
-    /// The curve from one tick to another, which are from the first point to the last.
-    fn cut(&self, (from, to): (f64, f64)) -> Curve {
-        let mut points = vec![(from, self.at(from)), (to, self.at(to))];
-        points.splice(1..1, self.points((from, to)).iter().copied());
-        points.dedup();
-        Curve(points)
-    }
-
-    /// How far this curve is above the other, at each of its points.
-    fn above(&self, other: &Curve) -> Curve {
-        let above = |&(tick, height): &Point| (tick, height - other.at(tick));
-        Curve(self.0.iter().map(above).collect())
-    }
-
-    /// The least and the greatest height.
-    fn range(&self) -> (f64, f64) {
-        let heights = || self.0.iter().map(|&(_, height)| height);
-        (
-            heights().fold(f64::INFINITY, f64::min),
-            heights().fold(f64::NEG_INFINITY, f64::max),
-        )
-    }
-}
 
 /// A straight axis: numbers from `low` to `high` on the way between two places.
 struct Axis {
@@ -228,6 +171,7 @@ pub fn draw(title: &str, picture: &Picture) -> String {
     if with_samples {
         let panel = distances_panel(&x, picture.tolerance, tolerance);
         panel.scales(&mut svg);
+        // The lines are at 0.
         let (samples, kept) = (samples.above(&kept), kept.above(&kept));
         panel.curves(&mut svg, &samples, &kept, tolerance, stretch);
     }
@@ -330,7 +274,7 @@ impl Panel<'_> {
         let mut path = |class, attributes: &str, d: String| {
             let _ = writeln!(svg, "<path class=\"{class}\" {attributes}d=\"{d}\"/>");
         };
-        let lines = kept.cut(stretch).0;
+        let lines = kept.cut(stretch).points;
         let (above, mut below) = (places(&lines, tolerance), places(&lines, -tolerance));
         below.reverse();
         // The band of one sample has no width: it is drawn as a stroke.
@@ -342,19 +286,19 @@ impl Panel<'_> {
         let round = |width: f64| {
             format!("fill=\"none\" stroke-width=\"{width}\" stroke-linecap=\"round\" ")
         };
-        if !samples.0.is_empty() {
-            let joined = samples.cut(stretch).0;
+        if !samples.points.is_empty() {
+            let joined = samples.cut(stretch).points;
             if (2..=JOINED).contains(&joined.len()) {
                 path("trace", "fill=\"none\" ", line(&joined));
             }
         }
-        let drawn = samples.points(stretch);
+        let drawn = samples.between(stretch);
         if !drawn.is_empty() {
             path("sample", &round(3.4), dots(drawn));
         }
         let joint = "fill=\"none\" stroke-width=\"1.8\" stroke-linejoin=\"round\" ";
         path("line", joint, line(&lines));
-        let drawn = kept.points(stretch);
+        let drawn = kept.between(stretch);
         if !drawn.is_empty() {
             let width = if drawn.len() > JOINED { 3.4 } else { 6.0 };
             path("kept", &round(width), dots(drawn));
@@ -451,28 +395,6 @@ mod tests {
             }
         }
         assert!(open.is_empty(), "{open:?}");
-    }
-
-    #[test]
-    fn curves() {
-        let curve = Curve::of(&[(0, 0), (4, 8), (6, -2)]);
-        assert_eq!(
-            [0.0, 1.0, 4.0, 5.0, 6.0].map(|tick| curve.at(tick)),
-            [0.0, 2.0, 8.0, 3.0, -2.0]
-        );
-        for (stretch, cut) in [
-            ((0.0, 6.0), vec![(0.0, 0.0), (4.0, 8.0), (6.0, -2.0)]),
-            ((1.0, 5.0), vec![(1.0, 2.0), (4.0, 8.0), (5.0, 3.0)]),
-            ((1.0, 3.0), vec![(1.0, 2.0), (3.0, 6.0)]),
-            ((4.0, 6.0), vec![(4.0, 8.0), (6.0, -2.0)]),
-            ((4.0, 4.0), vec![(4.0, 8.0)]),
-            ((5.0, 5.0), vec![(5.0, 3.0)]),
-        ] {
-            assert_eq!(curve.cut(stretch).0, cut);
-        }
-        assert_eq!(curve.range(), (-2.0, 8.0));
-        let lines = Curve::of(&[(0, 0), (6, -6)]);
-        assert_eq!(curve.above(&lines).0, [(0.0, 0.0), (4.0, 12.0), (6.0, 4.0)]);
     }
 
     #[test]

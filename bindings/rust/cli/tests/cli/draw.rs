@@ -37,7 +37,7 @@ fn draws() {
     let svg = drawn(&["draw", path(&wave)], "");
     assert!(svg.contains("<title>5 samples kept, tolerance 2: wave.record</title>"));
     assert!(!svg.contains("class=\"sample\""));
-    let from_pipe = drawn(&["draw"], &fs::read(&wave).unwrap());
+    let from_pipe = drawn(&["draw"], fs::read(&wave).unwrap());
     assert!(from_pipe.contains("<title>5 samples kept"));
     let message = format!("{}: a record", path(&wave));
     fails(&["draw", "-t2", path(&wave)], "", &message);

@@ -140,6 +140,10 @@ fn faults() {
         assert!(line.starts_with(&format!("kovrelna: {cause}")), "{line}");
     }
     assert_eq!(error.lines().count(), 3);
+    // None could be read.
+    let (_, printed, _) = told(&run(&["near", "-t8", names[0], names[2]], ""));
+    let total = (vec![0; 5], "total".to_string());
+    assert_eq!(row(printed.lines().last().unwrap()), total);
     fails(&["near"], WAVE, "--tolerance is missing");
     fails(
         &["near", "-t8", "-", "-"],

@@ -117,6 +117,9 @@ fn ended_by_signals() {
 /// The limit of a file's size, where the signal for it is not ignored.
 #[test]
 fn ended_by_a_limit() {
+    if is_ignored(25) {
+        return;
+    }
     let folder = folder("ended_by_a_limit");
     let script = "ulimit -c 0; ulimit -f 1; exec \"$0\" draw -t1 \"$1\" -o out";
     let mut shell = Command::new("sh");
