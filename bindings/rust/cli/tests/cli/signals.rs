@@ -17,14 +17,15 @@ int fsync(int descriptor) {
 }
 ";
 
-/// A library with `WAIT`, to be loaded before others.
-fn waiting_library(folder: &Path) -> PathBuf {
-    let (source, library) = (folder.join("wait.c"), folder.join("wait.so"));
+/// A library with `WAIT`, to be loaded before others, and an empty folder for this test.
+fn library_and_folder(test: &str) -> (PathBuf, PathBuf) {
+    let place = folder(&format!("{test}_library"));
+    let (source, library) = (place.join("wait.c"), place.join("wait.so"));
     fs::write(&source, WAIT).unwrap();
     let mut compiler = Command::new("cc");
     compiler.args(["-shared", "-fPIC", "-o", path(&library), path(&source)]);
     assert!(compiler.status().unwrap().success());
-    library
+    (library, folder(test))
 }
 
 /// A run that has written all of a new file, and waits before it gives it its name.
@@ -36,7 +37,7 @@ struct Waiting {
 impl Waiting {
     /// Runs the tool on the wave, with the output in this folder; the shell does this before.
     fn start(library: &Path, folder: &Path, before: &str) -> Waiting {
-        let script = format!("{before}; LD_PRELOAD=$1 exec $0 record -t2 -o out");
+        let script = format!("{before}; LD_PRELOAD=\"$1\" exec \"$0\" record -t2 -o out");
         let mut shell = Command::new("sh");
         shell.args(["-c", &script, TOOL, path(library)]);
         shell.current_dir(folder);
@@ -96,10 +97,7 @@ fn names(folder: &Path) -> Vec<String> {
 
 #[test]
 fn ended_by_signals() {
-    let (library, folder) = (
-        waiting_library(&folder("ended_by_signals_library")),
-        folder("ended_by_signals"),
-    );
+    let (library, folder) = library_and_folder("ended_by_signals");
     fs::write(folder.join("out"), "before").unwrap();
     for (signal, number) in [("HUP", 1), ("INT", 2), ("QUIT", 3), ("TERM", 15)] {
         if is_ignored(number) {
@@ -133,10 +131,7 @@ fn ended_by_a_limit() {
 /// As under nohup: a signal that is ignored does not end the tool.
 #[test]
 fn ignored_signals() {
-    let (library, folder) = (
-        waiting_library(&folder("ignored_signals_library")),
-        folder("ignored_signals"),
-    );
+    let (library, folder) = library_and_folder("ignored_signals");
     let run = Waiting::start(&library, &folder, "trap '' HUP INT");
     run.send("HUP");
     run.send("INT");
@@ -147,7 +142,7 @@ fn ignored_signals() {
 /// What a run that was killed left behind is removed by the next that writes the same file.
 #[test]
 fn killed() {
-    let (library, folder) = (waiting_library(&folder("killed_library")), folder("killed"));
+    let (library, folder) = library_and_folder("killed");
     let run = Waiting::start(&library, &folder, ":");
     assert_eq!(run.end("KILL").signal(), Some(9));
     assert_eq!(names(&folder), [".kovrelna-0-out"]);
@@ -162,10 +157,7 @@ fn killed() {
 /// What another process is writing is not removed.
 #[test]
 fn two_at_once() {
-    let (library, folder) = (
-        waiting_library(&folder("two_at_once_library")),
-        folder("two_at_once"),
-    );
+    let (library, folder) = library_and_folder("two_at_once");
     let out = folder.join("out");
     let first = Waiting::start(&library, &folder, ":");
     done(&["record", "-t1", "-o", path(&out)], WAVE);
