@@ -1,5 +1,5 @@
 //! What an error budget may say of samples kept at a tolerance. It is proved of every list whose links
-//! are valid: docs/PROMISES.md, "Heights".
+//! are valid: docs/PROMISES.md, "Heights, means and areas". README has the same sentences.
 
 use kovrelna::Ratio;
 use std::cmp::Ordering;
@@ -24,10 +24,11 @@ pub fn text(Ratio { p, q }: Ratio) -> String {
          Their maximum is at most {once} too low and never too high, \
          their minimum at most {once} too high and never too low, \
          so a pulse height read off them as maximum minus minimum is at most {twice} too small and never too large. \
-         The mean over any window of ticks is within {once}, \
-         and an area within {once} times its length in ticks, \
-         so a pulse height read off as maximum minus the mean of a baseline window \
-         is at most {twice} too small and at most {once} too large.\n"
+         Their mean over any window of ticks is within {once}, \
+         and their area over any stretch of ticks within {once} times its length in ticks, \
+         so a pulse height read off them as maximum minus the mean of a baseline window \
+         is at most {twice} too small and at most {once} too large. \
+         Reducing the kept samples again adds the two tolerances.\n"
     )
 }
 

@@ -12,10 +12,11 @@ from the straight lines between all samples of the original trace. \
 Their maximum is at most 8 too low and never too high, \
 their minimum at most 8 too high and never too low, \
 so a pulse height read off them as maximum minus minimum is at most 16 too small and never too large. \
-The mean over any window of ticks is within 8, \
-and an area within 8 times its length in ticks, \
-so a pulse height read off as maximum minus the mean of a baseline window \
-is at most 16 too small and at most 8 too large.
+Their mean over any window of ticks is within 8, \
+and their area over any stretch of ticks within 8 times its length in ticks, \
+so a pulse height read off them as maximum minus the mean of a baseline window \
+is at most 16 too small and at most 8 too large. \
+Reducing the kept samples again adds the two tolerances.
 ";
 
 fn text(bytes: Vec<u8>) -> String {
@@ -51,17 +52,17 @@ fn of_a_record() {
     assert!(!three.exists());
 }
 
-/// The sentences are those of the documentation.
+/// The sentences are README's.
 #[test]
 fn as_documented() {
-    let promises = fs::read_to_string(shipped("docs/PROMISES.md")).unwrap();
-    let paragraph = promises
+    let readme = fs::read_to_string(shipped("README.md")).unwrap();
+    let paragraph = readme
         .lines()
         .find(|line| line.starts_with("> From the first"));
     let paragraph = paragraph.unwrap().trim_start_matches("> ");
     let filled = paragraph.replace("2p/q", "16").replace("p/q", "8");
     let (_, sentences) = EIGHT.split_once('\n').unwrap();
-    assert!(sentences.starts_with(&filled), "{filled}");
+    assert_eq!(sentences.trim_end(), filled);
 }
 
 #[test]
