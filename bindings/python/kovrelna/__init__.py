@@ -6,6 +6,7 @@
 - `Least`, `least`: the least error that so many samples allow.
 - `expand`: the values of range codes.
 - `write`, `Content`, `read`, `same`: records of kept samples.
+- `Checked`, `check`: whether a record may stand for its trace, before that is erased.
 - `Refusal`: why a call declined.
 
 A trace is two lists of equal length: ticks (unsigned, 32 bits) and values (ADC counts; signed, 16
@@ -60,6 +61,7 @@ from ._words import words
 __version__ = "0.1.0"
 
 __all__ = [
+    "Checked",
     "Content",
     "Counts",
     "Galloped",
@@ -68,6 +70,7 @@ __all__ = [
     "Ratio",
     "Refusal",
     "Verdict",
+    "check",
     "expand",
     "gallop",
     "hold",
@@ -444,3 +447,63 @@ def same(first: Lent, second: Lent) -> bool:
         )
         _check(answer, loan)
     return bool(answer.passed)
+
+
+@dataclass(frozen=True)
+class Checked:
+    """What `check` says of a record and a trace. True exactly if the record may stand for it."""
+
+    passed: bool
+    """Whether it may."""
+    cause: Optional[str]
+    """Why it may not, with the place."""
+
+    def __bool__(self) -> bool:
+        return self.passed
+
+
+def check(record: Lent, ticks: Lent, values: Lent) -> Checked:
+    """Whether the record may stand for this trace: its samples are samples of the trace, the first
+    and the last among them, and every link is valid at the record's own tolerance. Refusals: 8 for
+    the record; 1, 2, 3 for the trace.
+
+    >>> ticks, values = [0, 1, 3], [0, 1, 1]
+    >>> record = write(ticks, values, [0, 2], Ratio(2, 3))
+    >>> check(record, ticks, values)
+    Checked(passed=True, cause=None)
+    >>> check(record, ticks, [0, 2, 1]).cause
+    'link 0, from sample 0 at tick 0 to sample 2 at tick 3, is not within 2/3'
+    """
+    content = read(record)
+    try:
+        judge(ticks, values, (), content.tolerance)
+    except Refusal as refusal:
+        # The empty list is refused as 6, after the checks of the trace.
+        if refusal.number != 6:
+            raise
+    with Loan() as loan:
+        loan.input("ticks", ticks, TICK)
+        loan.input("values", values, VALUE)
+        cause = _cause(content, list(loan.numbers(TICK)), list(loan.numbers(VALUE)))
+    return Checked(cause is None, cause)
+
+
+def _cause(content: Content, ticks: list[int], values: list[int]) -> Optional[str]:
+    """Why the content may not stand for the trace, if it may not."""
+    samples = {tick: sample for sample, tick in enumerate(ticks)}
+    for number, (tick, value) in enumerate(zip(content.ticks, content.values)):
+        here = f"sample {number} of the record, at tick {tick},"
+        if tick not in samples:
+            return f"{here} is not in the trace"
+        other = values[samples[tick]]
+        if other != value:
+            return f"{here} has value {value}, and the trace has {other}"
+    kept = [samples[tick] for tick in content.ticks]
+    for end, sample, entry in (("first", 0, kept[0]), ("last", len(ticks) - 1, kept[-1])):
+        if entry != sample:
+            return f"the {end} sample of the trace, at tick {ticks[sample]}, is not kept"
+    verdict = judge(ticks, values, kept, content.tolerance)
+    if verdict.link is None:
+        return None
+    start, end = (f"sample {k} at tick {ticks[k]}" for k in kept[verdict.link :][:2])
+    return f"link {verdict.link}, from {start} to {end}, is not within {content.tolerance}"

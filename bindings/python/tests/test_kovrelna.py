@@ -923,6 +923,46 @@ class Reference(Case):
         self.assertEqual(seen, {True, False, 8, 9})
 
 
+class Checks(Case):
+    """A record beside the trace that it is to stand for."""
+
+    def test_causes(self):
+        record = kovrelna.write(EVEN, ZIGZAG, [0, 3, 4], 2)
+        self.assertEqual(kovrelna.check(record, EVEN, ZIGZAG), kovrelna.Checked(True, None))
+        for ticks, values, cause in (
+            ([0, 1, 2, 4, 5], ZIGZAG, "sample 1 of the record, at tick 3, is not in the trace"),
+            (EVEN, [0, 3, 0, 2, 0], "at tick 3, has value 3, and the trace has 2"),
+            ([0, 1, 2, 3, 4, 5], ZIGZAG + [0], "the last sample of the trace, at tick 5, is not"),
+            (EVEN, [0, 3, -1, 3, 0], "link 0, from sample 0 at tick 0 to sample 3 at tick 3, is"),
+        ):
+            checked = kovrelna.check(record, ticks, values)
+            self.assertFalse(checked)
+            self.assertIn(cause, checked.cause)
+        later = kovrelna.write([1, 2], [3, 0], [0, 1], 2)
+        cause = "the first sample of the trace, at tick 0, is not kept"
+        self.assertEqual(kovrelna.check(later, [0, 1, 2], [0, 3, 0]).cause, cause)
+
+    def test_refusals(self):
+        self.refused(8, 0, kovrelna.check, b"", [], [])
+        self.refused(8, 16, kovrelna.check, RECORD[:18], [0, 1, 3], [0, 1, 1])
+        self.refused(1, 0, kovrelna.check, RECORD, [], [])
+        self.refused(1, 0, kovrelna.check, RECORD, [0, 1, 3], [0, 1])
+        self.refused(2, 1, kovrelna.check, RECORD, [0, 0, 3], [0, 1, 1])
+        self.refused(3, 2, kovrelna.check, RECORD, [0, 1, 1_048_576], [0, 1, 1])
+
+    def test_every_list(self):
+        """Of every list of every kept sample, passed exactly if judge passes it."""
+        for size in range(1, 6):
+            ticks, values = EVEN[:size], ZIGZAG[:size]
+            for between in itertools.product([False, True], repeat=max(size - 2, 0)):
+                kept = [0] + [k + 1 for k, keep in enumerate(between) if keep]
+                kept += [size - 1] * (size > 1)
+                samples = [ticks[k] for k in kept], [values[k] for k in kept]
+                record = kovrelna.write(*samples, range(len(kept)), 2)
+                passed = kovrelna.judge(ticks, values, kept, 2).passed
+                self.assertEqual(kovrelna.check(record, ticks, values).passed, passed, kept)
+
+
 class Loading(unittest.TestCase):
     """Where the module finds the shared library."""
 

@@ -29,6 +29,7 @@ kovrelna.write(ticks, values, kept, 0.5).hex()
 kovrelna.write(ticks, values, kept, 0.5, bytearray(40), 8)
 kovrelna.read(b"", numpy=True).tolerance.denominator
 kovrelna.same(b"", bytearray()) is True
+kovrelna.check(b"", Array(), values).cause
 kovrelna.hold(1).numerator
 kovrelna.__version__.split(".")
 
@@ -46,4 +47,5 @@ kovrelna.expand("codes")  # type: ignore[arg-type]
 kovrelna.write(ticks, values, kept, 1, place=8)  # type: ignore[call-overload]
 kovrelna.read(7)  # type: ignore[arg-type]
 kovrelna.same(b"", None)  # type: ignore[arg-type]
+kovrelna.check(b"", ticks)  # type: ignore[call-arg]
 kovrelna.hold(None)  # type: ignore[arg-type]
