@@ -5,7 +5,7 @@ use mathlib.Core.List.{List}
 use Prim.Native.Nat.{ℕ, _+_, _-_, _*_, _≤_, _<_}
 use native.Mathlib.Nat.{mul-le-mul-right, le-of-mul-le-mul-right, mul-pos}
 use native.Mathlib.Omega.{arith}
-use lib.IntN.{ℤ, pos, natAbs, _-ℤ_, _*ℤ_}
+use lib.IntN.{ℤ, pos, _-ℤ_, _*ℤ_}
 use lib.ListN.{length}
 use lib.Signed.{_≤ℤ_}
 use Rattle.kept.specs.Kept.{KeptList, AllValid}
@@ -16,6 +16,7 @@ use Rattle.trace.proofs.Difference.{times, at-most, size-at-most, less, parts}
 use Rattle.heights.specs.Heights.{Fraction, lineAt, traceAt, allOf, Near, Equals, Between, peak, trough}
 use Rattle.heights.specs.Budget.{StandsFor, ErrorBudget}
 use Rattle.heights.proofs.Order.{order}
+use Rattle.heights.proofs.FractionLaws.{value-apart}
 use Rattle.heights.proofs.Entries.{Entry, kept-entry, every-kept, every-entry}
 use Rattle.heights.proofs.NearLaws.{line-near}
 use Rattle.heights.proofs.ExtremeLaws.{Sampled, peak-bound, trough-bound, peak-sampled, trough-sampled, line-through, sample-on, line-extremes}
@@ -31,16 +32,13 @@ below-plain : (a b m n r s e f p q : ℕ) → 0 < e * f → (a * f + n * f * e) 
 below-plain a b m n r s e f p q some h k = le-of-mul-le-mul-right {k = e * f} (omega (arith, h, mul-le-mul-right (f * q) k)) some
 
 module _ {c : Criterion} {x y : Fraction} {v low high : ℤ} (near : Near c x y) (is : Equals y v) (within : Between low high x) where
-  both : (natAbs (x .num *ℤ pos (y .den) -ℤ v *ℤ pos (y .den) *ℤ pos (x .den)) * c .q ≤ c .p * (x .den * y .den))
-  both = subst (λ (z : ℤ). natAbs (x .num *ℤ pos (y .den) -ℤ z *ℤ pos (x .den)) * c .q ≤ c .p * (x .den * y .den)) (is .is) (near .apart)
-
   -- v is at most p/q above any upper bound of x, and at most p/q below any lower one
   above-bound : ((v -ℤ high) *ℤ pos (c .q)) ≤ℤ pos (c .p)
   above-bound =
       let dx = parts (x .num) .2 in
       let dv = parts v .2 in
       let dh = parts high .2 in
-      let sizes = size-at-most (less (times dx (y .den)) (times (times dv (y .den)) (x .den))) (c .q) (c .p * (x .den * y .den)) .0 both in
+      let sizes = size-at-most (less (times dx (y .den)) (times (times dv (y .den)) (x .den))) (c .q) (c .p * (x .den * y .den)) .0 (value-apart near is) in
       at-most (times (less dv dh) (c .q)) (c .p) .1
       (above-plain _ _ _ _ _ _ (x .den) (y .den) (c .p) (c .q) (mul-pos (near .left) (near .right)) (sizes .1) (order dx (times dh (x .den)) .0 (within .to)))
 
@@ -49,7 +47,7 @@ module _ {c : Criterion} {x y : Fraction} {v low high : ℤ} (near : Near c x y)
       let dx = parts (x .num) .2 in
       let dv = parts v .2 in
       let dl = parts low .2 in
-      let sizes = size-at-most (less (times dx (y .den)) (times (times dv (y .den)) (x .den))) (c .q) (c .p * (x .den * y .den)) .0 both in
+      let sizes = size-at-most (less (times dx (y .den)) (times (times dv (y .den)) (x .den))) (c .q) (c .p * (x .den * y .den)) .0 (value-apart near is) in
       at-most (times (less dl dv) (c .q)) (c .p) .1
       (below-plain _ _ _ _ _ _ (x .den) (y .den) (c .p) (c .q) (mul-pos (near .left) (near .right)) (sizes .0) (order (times dl (x .den)) dx .0 (within .from)))
 

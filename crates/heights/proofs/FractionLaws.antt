@@ -1,11 +1,11 @@
 -- Fractions that differ by at most p/q: their sums, their multiples, and what lies between. Each law is shown of one side, over differences
 -- of naturals (trace: proofs/Difference), and holds of both.
 -- Assumes nothing.
-use mathlib.Core.Path.{_≡_, refl}
+use mathlib.Core.Path.{_≡_, refl, subst}
 use Prim.Native.Nat.{ℕ, _+_, _*_, _≤_, _<_}
 use native.Mathlib.Nat.{zero-add, add-zero, mul-comm, mul-assoc, mul-le-mul-right, le-of-mul-le-mul-right, mul-pos}
 use native.Mathlib.Omega.{arith}
-use lib.IntN.{ℤ, pos, _+ℤ_, _-ℤ_, _*ℤ_, +ℤ-comm}
+use lib.IntN.{ℤ, pos, natAbs, _+ℤ_, _-ℤ_, _*ℤ_, +ℤ-comm}
 use lib.Signed.{_≤ℤ_}
 use Rattle.trace.specs.declared.Criterion.{Criterion}
 use Rattle.trace.proofs.Difference.{Diff, negated, plus, times, less, parts, same, natural, alike, at-most, size-at-most, wider}
@@ -128,6 +128,10 @@ excess-whole {c} v w h =
     over-excess dv dw (omega arith) (omega arith) (omega (arith, at-most (times (less dv dw) (c .q)) (c .p) .0 h))
 
 -- ---- near: at most p/q above, either way round
+
+-- a fraction near one that is a whole number
+pub value-apart : {c : Criterion} {x y : Fraction} {v : ℤ} → Near c x y → Equals y v → natAbs (x .num *ℤ pos (y .den) -ℤ v *ℤ pos (y .den) *ℤ pos (x .den)) * c .q ≤ c .p * (x .den * y .den)
+value-apart {c} {x} {y} near is = subst (λ (z : ℤ). natAbs (x .num *ℤ pos (y .den) -ℤ z *ℤ pos (x .den)) * c .q ≤ c .p * (x .den * y .den)) (is .is) (near .apart)
 
 near-equal : {c : Criterion} {x y : Fraction} → 1 ≤ x .den → 1 ≤ y .den → x .num *ℤ pos (y .den) ≡ y .num *ℤ pos (x .den) → Near c x y
 near-equal {c} {x} {y} ex ey e =

@@ -1,12 +1,12 @@
 -- A kept list whose lines are within p/q of the trace's own at each sample's tick is within p/q: the other way round from NearLaws.
 -- Assumes nothing.
-use mathlib.Core.Path.{_≡_, subst, _∙_}
+use mathlib.Core.Path.{_≡_, _∙_}
 use mathlib.Core.Bool.{true}
 use mathlib.Core.List.{List, [], _∷_}
 use Prim.Native.Nat.{ℕ, _+_, _-_, _*_, _≤_, _<_}
 use native.Mathlib.Nat.{le-of-mul-le-mul-right}
 use native.Mathlib.Omega.{arith}
-use lib.IntN.{ℤ, pos, natAbs, _-ℤ_, _*ℤ_}
+use lib.IntN.{ℤ, pos, _-ℤ_, _*ℤ_}
 use lib.ListN.{length}
 use borrow.Author.Tests.{le-leb, lt-leb}
 use Rattle.kept.specs.Kept.{LinksFrom, final, KeptList, AllValid}
@@ -21,6 +21,7 @@ use Rattle.trace.proofs.Offsets.{offset-of-diff}
 use Rattle.trace.proofs.Validity.{valid-true}
 use Rattle.heights.specs.Heights.{Fraction, linkAt, lineFrom, lineAt, allOf, traceAt, Near, Equals}
 use Rattle.heights.proofs.Entries.{every-kept, every-entry}
+use Rattle.heights.proofs.FractionLaws.{value-apart}
 use Rattle.heights.proofs.LineLaws.{link-num, link-den}
 use Rattle.heights.proofs.ExtremeLaws.{line-through}
 
@@ -33,10 +34,6 @@ module _ (m w t f p q : ℕ) (some : 0 < f) where
 
   line-under : w * f * t * q ≤ m * f * q + p * (t * f) → w * t * q ≤ m * q + p * t
   line-under h = le-of-mul-le-mul-right {k = f} (omega arith) some
-
--- a fraction near one that is a whole number
-value-apart : {c : Criterion} {x y : Fraction} {v : ℤ} → Near c x y → Equals y v → natAbs (x .num *ℤ pos (y .den) -ℤ v *ℤ pos (y .den) *ℤ pos (x .den)) * c .q ≤ c .p * (x .den * y .den)
-value-apart {c} {x} {y} near is = subst (λ (z : ℤ). natAbs (x .num *ℤ pos (y .den) -ℤ z *ℤ pos (x .den)) * c .q ≤ c .p * (x .den * y .den)) (is .is) (near .apart)
 
 -- the difference of such a line and level, each over the base, which cancels
 level-apart : (m w t f base : ℕ) {x v : ℤ} → Diff x m (base * t) → Diff v w base → Diff (x *ℤ pos f -ℤ v *ℤ pos f *ℤ pos t) (m * f) (w * f * t)
