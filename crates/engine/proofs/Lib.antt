@@ -3,6 +3,7 @@ pub mod HoldLaws
 pub mod PrepareLaws
 pub mod JudgeLaws
 pub mod ReduceLaws
+pub mod ReportLaws
 pub mod ExpandLaws
 pub mod WriteLaws
 pub mod LeastLaws

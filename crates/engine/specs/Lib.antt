@@ -3,6 +3,7 @@ pub mod Hold
 pub mod Prepare
 pub mod Judge
 pub mod Reduce
+pub mod Report
 pub mod Minimum
 pub mod Expand
 pub mod Write

@@ -56,6 +56,7 @@ pub mod least;
 pub mod minimum;
 mod prepare;
 pub mod read;
+pub mod report;
 pub mod same;
 pub mod walk;
 pub mod write;

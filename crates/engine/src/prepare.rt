@@ -8,7 +8,7 @@ use tolerance::Tolerance;
 use trace::Criterion;
 
 // Check 4.
-fn criterion(t: Tolerance) -> Ready
+pub fn criterion(t: Tolerance) -> Ready
     ensures { λ r. ⌜ Allowed t r ⌝ }
 {
     let m = tolerance::meaning_of(t);

@@ -44,6 +44,11 @@ use Rattle.kovrelna.specs.declared.Answer.{Answer}
 use Rattle.kovrelna.specs.declared.Closest.{Closest}
 use Rattle.kovrelna.specs.declared.Content.{Content}
 use Rattle.kovrelna.specs.declared.Galloped.{Galloped}
+use Rattle.kovrelna.specs.declared.Report.{Report}
+use Rattle.sheet.specs.declared.Summary.{Summary}
+use Rattle.sheet.specs.declared.Reported.{Reported}
+use Rattle.sheet.specs.declared.Reported.the-variants.{Counted, Refused as NotCounted}
+use Rattle.engine.specs.Report.{ReportOutcome}
 
 unfoldable pub toleranceOf : Tolerance → T.Tolerance
 toleranceOf t =
@@ -135,3 +140,12 @@ pub record SameExport (a b : List ℕ) (r : Verdict) : Type 0 where
   pub answer : Comparison
   pub is : r ≡ comparedOf answer
   pub outcome : SameOutcome a b answer
+
+abbrev pub reportOf : Reported → Report
+reportOf (Counted k) = record { number = 0; value = 0; samples = k .samples; kept = k .kept; p = k .p; q = k .q }
+reportOf (NotCounted x) = record { number = numberOf x; value = returnedOf x; samples = 0; kept = 0; p = 0; q = 0 }
+
+pub record ReportExport (ts : List ℕ) (vs : List ℤ) (ls : List ℕ) (t : Tolerance) (o : List Summary) (r : Report) (o′ : List Summary) : Type 0 where
+  pub answer : Reported
+  pub is : r ≡ reportOf answer
+  pub outcome : ReportOutcome ts vs ls (toleranceOf t) o answer o′

@@ -1,6 +1,9 @@
 // The C interface: each export is a public call of `engine`, with numbers and structs for its enums.
 ghost use mathlib.Core.Path.{_≡_};
-ghost use Rattle.kovrelna.specs.Border.{toleranceOf, heldOf, verdictOf, keptOf, gallopedOf, closestOf, writtenOf, readOf, comparedOf, HoldExport, JudgeExport, WalkExport, GallopExport, MinimumExport, LeastExport, ExpandExport, WriteExport, ReadExport, SameExport};
+ghost use Rattle.kovrelna.specs.Border.{toleranceOf, heldOf, verdictOf, keptOf, gallopedOf, closestOf, writtenOf, readOf, comparedOf, HoldExport, JudgeExport, WalkExport, GallopExport, MinimumExport, LeastExport, ExpandExport, WriteExport, ReadExport, SameExport, reportOf, ReportExport};
+ghost use Rattle.engine.specs.Report.{Surveyed};
+use sheet::Sheet;
+use sheet::Summary;
 
 // A tolerance: form 0 is the ratio p/q, form 1 is x counts, form 2 is the noise x times the multiple y. No other form is allowed.
 #[repr(C)]
@@ -58,6 +61,17 @@ pub struct Closest {
 pub struct Content {
     pub number: u32,
     pub value: u64,
+    pub p: u64,
+    pub q: u64,
+}
+
+// The totals of a crate's channels and the largest error p/q under the number 0, or a refusal's number and value.
+#[repr(C)]
+pub struct Report {
+    pub number: u32,
+    pub value: u64,
+    pub samples: u64,
+    pub kept: u64,
     pub p: u64,
     pub q: u64,
 }
@@ -232,6 +246,58 @@ fn compared_of(a: reader::Comparison) -> Verdict
             value: refusal::returned(x) as u64,
         },
     }
+}
+
+fn border_sheet(
+    ticks: &[u32],
+    values: &[i16],
+    lengths: &[usize],
+    t: Tolerance,
+    room: usize,
+) -> Sheet
+    ensures { λ r. ⌜ Surveyed (now (ticks .entry)) (now (values .entry)) (now (lengths .entry)) (toleranceOf t) room r ⌝ }
+{
+    engine::report::sheet_of(ticks, values, lengths, tolerance_of(t), room)
+}
+
+fn report_of(s: Sheet) -> Report
+    ensures { λ r. ⌜ r ≡ reportOf (s .answer) ⌝ }
+{
+    let a = s.answer;
+    match a {
+        sheet::Reported::Counted(k) => Report {
+            number: 0,
+            value: 0,
+            samples: k.samples as u64,
+            kept: k.kept as u64,
+            p: k.p,
+            q: k.q,
+        },
+        sheet::Reported::Refused(x) => Report {
+            number: refusal::number(x),
+            value: refusal::returned(x) as u64,
+            samples: 0,
+            kept: 0,
+            p: 0,
+            q: 0,
+        },
+    }
+}
+
+// Writes a row for each channel into the first entries of `out`.
+#[no_mangle]
+pub extern "C" fn kovrelna_report(
+    ticks: &[u32],
+    values: &[i16],
+    lengths: &[usize],
+    t: Tolerance,
+    out: &mut [Summary],
+) -> Report
+    ensures { λ r. ⌜ ReportExport (now (ticks .entry)) (now (values .entry)) (now (lengths .entry)) t (now (out .entry)) r (now (out .exit)) ⌝ }
+{
+    let s = border_sheet(ticks, values, lengths, t, out.len());
+    sheet::fill(out, s);
+    report_of(s)
 }
 
 // The ratio in lowest terms that a tolerance means.

@@ -4,3 +4,4 @@ pub mod Heights
 pub mod Again
 pub mod Nearness
 pub mod NoFactor
+pub mod Report

@@ -1,0 +1,99 @@
+-- What a report says of each channel, from its contract alone: the row of channel i is that of the channel's own samples at the tolerance.
+--   report-row, report-rest   each row, and that the entries after the rows stay
+--   report-own                a channel has the same row in any two crates that hold the same samples for it
+--   row-walk, row-declined    a row is what walk answers for the channel's samples, and the error of the list that it writes
+--   report-within             no row's error is above the tolerance
+--   report-largest            the largest error is at least each row's
+--   largest-within            it is at most the tolerance
+--   largest-lowest            it is in lowest terms
+-- Assumes nothing.
+use mathlib.Core.Path.{_≡_, refl, sym, _∙_, ap, subst}
+use mathlib.Core.List.{List, _++_}
+use Prim.Native.Nat.{ℕ, _≤_, _<_}
+use native.Mathlib.Omega.{arith}
+use lib.IntN.{ℤ}
+use lib.ListN.{length, take, drop, getD, List·getD-append}
+use lib.Seq.{drop-append-seam}
+use borrow.Author.Tests.{le-leb}
+use Rattle.lists.proofs.OverwriteLaws.{wrote-read}
+use Rattle.ratio.specs.Gcd.{gcd, euclid}
+use Rattle.ratio.specs.Order.{over, AtMost}
+use Rattle.refusal.specs.declared.Refusal.{Refusal}
+use Rattle.refusal.specs.declared.Checked.{Checked}
+use Rattle.refusal.specs.declared.Checked.the-variants.{Fine, Refused}
+use Rattle.refusal.specs.Table.{roomRow, _thenCheck_}
+use Rattle.refusal.proofs.TableLaws.{then-fine}
+use Rattle.tolerance.specs.declared.Tolerance.{Tolerance}
+use Rattle.tolerance.specs.Meaning.{meaning}
+use Rattle.trace.specs.Trace.{traceRows}
+use Rattle.trace.specs.Link.{listError}
+use Rattle.sheet.specs.declared.Summary.{Summary}
+use Rattle.sheet.specs.declared.Totals.{Totals}
+use Rattle.sheet.specs.declared.Reported.the-variants.{Counted}
+use Rattle.sheet.specs.Report.{keptRow, declinedRow, rowOf, ofChannel, rowError, largestError, totalsOf, zeros}
+use Rattle.sheet.proofs.RowLaws.{rows-length, rows-own, row-within, row-positive, row-lowest, largest-one, largest-least}
+use Rattle.sheet.proofs.ReportLaws.{channel-fine, channel-refused, walked-row}
+use Rattle.engine.specs.declared.Reduced.the-variants.{Kept, Refused as Declined}
+use Rattle.engine.specs.Hold.{toleranceRow}
+use Rattle.engine.specs.Prepare.{commonRows, criterionOf, outputRows}
+use Rattle.engine.specs.Reduce.{WalkOutcome}
+use Rattle.engine.specs.Report.{reportRows, ReportOutcome}
+use Rattle.engine.specs.Write.{ratioOf}
+
+-- ---- the rows
+
+module _ {ts : List ℕ} {vs : List ℤ} {ls : List ℕ} {t : Tolerance} {o o′ : List Summary} {k : Totals} (r : ReportOutcome ts vs ls t o (Counted k) o′) where
+  count : length (reportRows ts vs ls t) ≡ length ls
+  count = rows-length (criterionOf t) ts vs 0 ls
+
+  pub report-row : (i : ℕ) → i < length ls → getD o′ i zeros ≡ rowOf (criterionOf t) (ofChannel ls i ts) (ofChannel ls i vs)
+  report-row i h = ap (λ (l : List Summary). getD l i zeros) (r .content) ∙ List·getD-append (reportRows ts vs ls t) _ zeros i (omega (arith, count, h)) ∙ rows-own (criterionOf t) ts vs ls i h
+
+  pub report-rest : drop (length ls) o′ ≡ drop (length ls) o
+  report-rest = subst (λ (n : ℕ). drop n o′ ≡ drop n o) count (ap (drop (length (reportRows ts vs ls t))) (r .content) ∙ drop-append-seam (reportRows ts vs ls t) _)
+
+  pub report-within : (i : ℕ) → i < length ls → AtMost (rowError (getD o′ i zeros)) (ratioOf (criterionOf t))
+  report-within i h = rw (report-row i h) (row-within (criterionOf t) (ofChannel ls i ts) (ofChannel ls i vs))
+
+  -- what holds of the row of any trace at the tolerance holds of each row
+  each-row : (P : Summary → Type 0) → ((us : List ℕ) (ws : List ℤ) → P (rowOf (criterionOf t) us ws)) → (i : ℕ) → i < length (reportRows ts vs ls t) → P (getD (reportRows ts vs ls t) i zeros)
+  each-row P h i u = rw (rows-own (criterionOf t) ts vs ls i (omega (arith, count, u))) (h _ _)
+
+  pub report-largest : (i : ℕ) → i < length ls → AtMost (rowError (getD o′ i zeros)) (largestError k)
+  report-largest i h =
+      rw (report-row i h, ← rows-own (criterionOf t) ts vs ls i h, r .totals)
+      (largest-least (reportRows ts vs ls t) (each-row (λ x. 0 < x .q) (row-positive (criterionOf t))) i (omega (arith, count, h)))
+
+  pub largest-within : AtMost (largestError k) (ratioOf (criterionOf t))
+  largest-within = rw (r .totals)
+      (largest-one (λ x. AtMost x (ratioOf (criterionOf t))) (reportRows ts vs ls t) (omega arith) (each-row (λ x. AtMost (rowError x) (ratioOf (criterionOf t))) (row-within (criterionOf t))))
+
+  pub largest-lowest : gcd (k .p) (k .q) ≡ 1
+  unfolding gcd euclid
+  largest-lowest = rw (r .totals)
+      (largest-one (λ x. gcd (x .p) (x .q) ≡ 1) (reportRows ts vs ls t) refl (each-row (λ x. gcd (x .p) (x .q) ≡ 1) (row-lowest (criterionOf t))))
+
+-- two crates that hold the same samples for a channel, wherever it stands in each
+pub report-own : {ts us : List ℕ} {vs ws : List ℤ} {ls ms : List ℕ} {t : Tolerance} {o o′ e e′ : List Summary} {k m : Totals}
+    → ReportOutcome ts vs ls t o (Counted k) o′ → ReportOutcome us ws ms t e (Counted m) e′ → (i j : ℕ) → i < length ls → j < length ms
+    → ofChannel ls i ts ≡ ofChannel ms j us → ofChannel ls i vs ≡ ofChannel ms j ws → getD o′ i zeros ≡ getD e′ j zeros
+report-own r s i j h u a b = rw (report-row r i h, report-row s j u, a, b)
+
+-- ---- a row and walk
+
+module _ (ts : List ℕ) (vs : List ℤ) (t : Tolerance) {o o′ : List ℕ} where
+  pub row-walk : {n : ℕ} → WalkOutcome ts vs t o (Kept n) o′ → rowOf (criterionOf t) ts vs ≡ keptRow (length ts) n (listError ts vs (take n o′))
+  unfolding outputRows commonRows
+  row-walk w =
+      let rows = then-fine (traceRows 4096 ts vs) _ (then-fine (commonRows ts vs t) _ (w .rows) .0) .0 in
+      sym (channel-fine (criterionOf t) ts vs rows (walked-row ts vs (criterionOf t) (w .wrote) refl))
+
+  -- walk's own refusal, where the tolerance is allowed and the output long enough
+  pub row-declined : {x : Refusal} → WalkOutcome ts vs t o (Declined x) o′ → toleranceRow (meaning t) ≡ Fine → length ts ≤ length o → rowOf (criterionOf t) ts vs ≡ declinedRow x
+  unfolding outputRows commonRows
+  row-declined {x} w fine room =
+      sym (channel-refused (criterionOf t) ts vs (only (traceRows 4096 ts vs) (rw (fine, le-leb (length ts) (length o) room) at (w .0))) refl)
+    where
+      only : (a : Checked) → (a thenCheck Fine) thenCheck Fine ≡ Refused x → a ≡ Refused x
+      only Fine e = e
+      only (Refused y) e = e

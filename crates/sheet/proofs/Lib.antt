@@ -1,0 +1,3 @@
+-- The laws of the crate `sheet`.
+pub mod RowLaws
+pub mod ReportLaws

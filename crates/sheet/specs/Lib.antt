@@ -1,0 +1,2 @@
+-- What the crate `sheet` holds.
+pub mod Report

@@ -1,0 +1,149 @@
+-- The report on a crate of channels (document 02, "Whole-crate report"): rows, totals, row 11 of the table, and the lent list.
+--   keptRow, walkedRow       the row of a trace: its samples, walk's kept number, and the error of walk's list
+--   declinedRow              the row of a channel that is declined: its number, zeros, and 0/1 as its error
+--   rowBy, rowOf             the row of a channel: it depends on the channel's own ticks and values and on the criterion, on nothing else
+--   part, partRow            n entries from a place on, and the row of these samples
+--   rowsFrom                 the rows of channels that come end to end
+--   sum, placeOf, ofChannel  the sum of lengths; where a channel begins; its entries of a list
+--   rowError, largestError   the error of a row, and of totals
+--   totalled                 totals, from their numbers
+--   added, addedAll          totals with one row more, and with several
+--   totalsOf                 the totals of rows: sums of samples and of kept numbers, and the greatest error, 0/1 where there is none
+--   crateRow                 row 11
+--   Divided                  what it shows: at most 64 channels, whose lengths add up to each list
+--   RowBounds, TotalBounds   numbers that fit
+--   Rows, Declined           what a sheet is: the rows and their totals, or a refusal and no rows
+--   zeros, rowAt             a row of zeros, and a row of a sheet
+--   Fits, filled             room for a sheet's rows, and the lent list that they are written over
+-- Laws are in RowLaws and ReportLaws. Assumes nothing.
+use mathlib.Core.Path.{_≡_}
+use mathlib.Core.Bool.{_&&_}
+use mathlib.Core.List.{List, [], _∷_}
+use Prim.Native.Nat.{ℕ, _+_, _*_, _≤_}
+use lib.Dec.{leb, eqb}
+use lib.IntN.{ℤ}
+use lib.ListN.{length, take, drop, getD}
+use Rattle.lists.specs.Overwrite.{overwrite}
+use Rattle.refusal.specs.declared.Refusal.{Refusal}
+use Rattle.refusal.specs.declared.Checked.{Checked}
+use Rattle.refusal.specs.declared.Checked.the-variants.{Fine, Refused}
+use Rattle.refusal.specs.declared.Refusal.the-variants.{Crate}
+use Rattle.refusal.specs.Table.{numberOf, row}
+use Rattle.ratio.specs.declared.Ratio.{Ratio}
+use Rattle.ratio.specs.Order.{over, greater}
+use Rattle.trace.specs.declared.Criterion.{Criterion}
+use Rattle.trace.specs.Trace.{traceRows}
+use Rattle.trace.specs.Link.{listError, Bounded}
+use Rattle.reduction.specs.Walking.{walkList}
+use Rattle.sheet.specs.declared.Summary.{Summary}
+use Rattle.sheet.specs.declared.Totals.{Totals}
+use Rattle.sheet.specs.declared.Reported.{Reported}
+use Rattle.sheet.specs.declared.Reported.the-variants.{Counted, Refused as NotCounted}
+use Rattle.sheet.specs.declared.Sheet.{Sheet}
+
+-- ---- rows
+
+-- n samples, of which l are kept, with the error e
+abbrev pub keptRow : ℕ → ℕ → Ratio → Summary
+keptRow n l e = record { samples = n; kept = l; p = e .p; q = e .q; number = 0 }
+
+unfoldable pub walkedRow : Criterion → List ℕ → List ℤ → Summary
+walkedRow c ts vs = keptRow (length ts) (length (walkList ts vs c)) (listError ts vs (walkList ts vs c))
+
+abbrev pub declinedRow : Refusal → Summary
+declinedRow x = record { samples = 0; kept = 0; p = 0; q = 1; number = numberOf x }
+
+abbrev pub rowBy : Checked → Summary → Summary
+rowBy Fine r = r
+rowBy (Refused x) r = declinedRow x
+
+unfoldable pub rowOf : Criterion → List ℕ → List ℤ → Summary
+rowOf c ts vs = rowBy (traceRows 4096 ts vs) (walkedRow c ts vs)
+
+abbrev pub part : {A : Type 0} → ℕ → ℕ → List A → List A
+part at n l = take n (drop at l)
+
+abbrev pub partRow : Criterion → List ℕ → List ℤ → ℕ → ℕ → Summary
+partRow c ts vs at n = rowOf c (part at n ts) (part at n vs)
+
+-- channels of the given lengths, end to end from the place `at` on
+abbrev pub rowsFrom : Criterion → List ℕ → List ℤ → ℕ → List ℕ → List Summary
+rowsFrom c ts vs at [] = []
+rowsFrom c ts vs at (n ∷ ls) = partRow c ts vs at n ∷ rowsFrom c ts vs (at + n) ls
+
+abbrev pub sum : List ℕ → ℕ
+sum [] = 0
+sum (n ∷ ls) = n + sum ls
+
+abbrev pub placeOf : List ℕ → ℕ → ℕ
+placeOf ls i = sum (take i ls)
+
+abbrev pub ofChannel : {A : Type 0} → List ℕ → ℕ → List A → List A
+ofChannel ls i l = part (placeOf ls i) (getD ls i 0) l
+
+abbrev pub rowError : Summary → Ratio
+rowError r = over (r .p) (r .q)
+
+-- ---- totals
+
+abbrev pub largestError : Totals → Ratio
+largestError t = over (t .p) (t .q)
+
+abbrev pub totalled : ℕ → ℕ → Ratio → Totals
+totalled n l e = record { samples = n; kept = l; p = e .p; q = e .q }
+
+abbrev pub added : Totals → Summary → Totals
+added t r = totalled (t .samples + r .samples) (t .kept + r .kept) (greater (largestError t) (rowError r))
+
+abbrev pub addedAll : Totals → List Summary → Totals
+addedAll t [] = t
+addedAll t (r ∷ rs) = addedAll (added t r) rs
+
+abbrev pub totalsOf : List Summary → Totals
+totalsOf rs = addedAll (totalled 0 0 (over 0 1)) rs
+
+-- ---- row 11
+
+-- 11: no channels, more than 64, or lengths that do not add up to each list
+unfoldable pub crateRow : List ℕ → List ℤ → List ℕ → Checked
+crateRow ts vs ls = row (leb 1 (length ls) && leb (length ls) 64 && eqb (sum ls) (length ts) && eqb (sum ls) (length vs)) Crate
+
+pub record Divided (ts : List ℕ) (vs : List ℤ) (ls : List ℕ) : Type 0 where
+  pub few : length ls ≤ 64
+  pub ticks : sum ls ≡ length ts
+  pub values : sum ls ≡ length vs
+
+-- ---- the sheet
+
+pub record RowBounds (r : Summary) : Type 0 where
+  pub samples : r .samples ≤ 4096
+  pub kept : r .kept ≤ 4096
+  pub allowed : Bounded (record { p = r .p; q = r .q })
+
+-- of the totals of i rows
+pub record TotalBounds (i : ℕ) (t : Totals) : Type 0 where
+  pub samples : t .samples ≤ 4096 * i
+  pub kept : t .kept ≤ 4096 * i
+  pub allowed : Bounded (record { p = t .p; q = t .q })
+
+pub record Rows (c : Criterion) (ts : List ℕ) (vs : List ℤ) (ls : List ℕ) (s : Sheet) : Type 0 where
+  pub count : s .count ≡ length ls
+  pub rows : take (s .count) (s .rows) ≡ rowsFrom c ts vs 0 ls
+  pub answer : s .answer ≡ Counted (totalsOf (rowsFrom c ts vs 0 ls))
+
+pub record Declined (x : Refusal) (s : Sheet) : Type 0 where
+  pub count : s .count ≡ 0
+  pub answer : s .answer ≡ NotCounted x
+
+abbrev pub zeros : Summary
+zeros = record { samples = 0; kept = 0; p = 0; q = 0; number = 0 }
+
+abbrev pub rowAt : Sheet → ℕ → Summary
+rowAt s i = getD (s .rows) i zeros
+
+pub record Fits (s : Sheet) (n : ℕ) : Type 0 where
+  pub written : s .count ≤ 64
+  pub room : s .count ≤ n
+
+abbrev pub filled : Sheet → List Summary → List Summary
+filled s o = overwrite (take (s .count) (s .rows)) o
