@@ -1,4 +1,4 @@
--- The outcome of the report on a crate (document 02, wish 1).
+-- The outcome of the report on a crate (document 02, "Whole-crate report").
 --   crateRows       the first of the rows 11, 4, 10 that applies
 --   reportRows      a row for each channel: each depends on the channel's own trace and on the tolerance alone (`rowOf`)
 --   ReportCounted   what holds where the report is made

@@ -1,4 +1,4 @@
-// The public call `report`: a row for each channel of a crate, and totals (document 02, wish 1).
+// The public call `report`: a row for each channel of a crate, and totals (document 02, "Whole-crate report").
 ghost use mathlib.Core.Path.{_≡_};
 ghost use Rattle.refusal.specs.declared.Checked.the-variants.{Fine};
 ghost use Rattle.sheet.specs.Report.{crateRow};

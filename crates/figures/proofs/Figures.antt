@@ -1,7 +1,7 @@
 -- The figures of document 01, "Figures to reproduce", over the definitions that the contracts name, each by computation: the starred ones,
--- and that of the steps.
+-- and that of the steps. Then an example of each request of document 02.
 -- Assumes nothing.
-use mathlib.Core.Path.{_≡_, refl}
+use mathlib.Core.Path.{_≡_, refl, ap}
 use mathlib.Core.Bool.{true, false}
 use mathlib.Core.List.{List, [], _∷_}
 use Prim.Native.Nat.{ℕ}
@@ -9,12 +9,13 @@ use lib.IntN.{ℤ, pos, negsuc}
 use Rattle.lists.specs.First.{first, firstOf}
 use Rattle.ratio.specs.Gcd.{gcd, euclid}
 use Rattle.ratio.specs.Order.{over, greater, lesser}
+use Rattle.kept.specs.Error.{errorFrom}
 use Rattle.kept.specs.Stops.{stops}
 use Rattle.kept.specs.Walk.{walkFrom, walkOf}
 use Rattle.kept.specs.Minimum.{bestStop, linksIn, linksOf, nextOf, minimumOf}
 use Rattle.kept.specs.Least.{leastOver, leastFrom, leastOf}
 use Rattle.kept.specs.Gallop.{probeOf, doubling, bisection, searchBy, gallopSearch, gallopOf, gallopProbes, sumFrom}
-use Rattle.refusal.specs.declared.Refusal.the-variants.{Tick, Span}
+use Rattle.refusal.specs.declared.Refusal.the-variants.{Length, Tick, Span}
 use Rattle.refusal.specs.declared.Checked.the-variants.{Fine, Refused}
 use Rattle.refusal.specs.Table.{numberOf, returnedOf}
 use Rattle.tolerance.specs.declared.Tolerance.the-variants.{Ratio}
@@ -29,10 +30,12 @@ use Rattle.reduction.specs.Walking.{walkList}
 use Rattle.reduction.specs.Galloping.{gallopList, gallopTotal}
 use Rattle.shortest.specs.Shortest.{minimumList}
 use Rattle.closest.specs.Closest.{leastError}
+use Rattle.sheet.specs.Report.{keptRow, walkedRow, declinedRow, rowOf, crateRow, totalled, totalsOf}
 use Rattle.proposed.specs.Proposed.{badAt, listRow, firstInvalid}
 use Rattle.engine.specs.declared.Verdict.the-variants.{Yes, No}
 use Rattle.engine.specs.Prepare.{commonRows, criterionOf}
 use Rattle.engine.specs.Judge.{judgeRows, listVerdict, judgeOf}
+use Rattle.engine.specs.Report.{crateRows, reportRows}
 use Rattle.engine.specs.Write.{contentOf}
 
 -- ticks 0 to 4
@@ -212,3 +215,26 @@ step-far = refl
 step-high : step 1 (pos 128) ≡ 0x4C ∷ 0x00 ∷ 0x00 ∷ 0x01 ∷ 0x00 ∷ 0x80 ∷ []
 unfolding stepsOnto bytesOnto
 step-high = refl
+
+-- ---- whole-crate report: lengths 5 0 2 1 at tolerance 2; the wave, no samples, a tick that does not rise, one sample
+
+abbrev crateTicks : List ℕ
+crateTicks = 0 ∷ 1 ∷ 2 ∷ 3 ∷ 4 ∷ 5 ∷ 5 ∷ 7 ∷ []
+
+abbrev crateValues : List ℤ
+crateValues = pos 0 ∷ pos 2 ∷ pos 0 ∷ negsuc 1 ∷ pos 0 ∷ pos 1 ∷ pos 1 ∷ pos 9 ∷ []
+
+abbrev crateLengths : List ℕ
+crateLengths = 5 ∷ 0 ∷ 2 ∷ 1 ∷ []
+
+crate-fine : crateRows crateTicks crateValues crateLengths (Ratio 2 1) 4 ≡ Fine
+unfolding crateRows crateRow
+crate-fine = refl
+
+crate-rows : reportRows crateTicks crateValues crateLengths (Ratio 2 1) ≡ keptRow 5 3 (over 2 1) ∷ declinedRow Length ∷ declinedRow (Tick 1) ∷ keptRow 1 1 (over 0 1) ∷ []
+unfolding rowOf walkedRow traceRows first firstOf walkOf walkFrom stops errorFrom greater linkError farthest greatest criterionOf valid allFrom within deviation gcd euclid
+crate-rows = refl
+
+crate-totals : totalsOf (reportRows crateTicks crateValues crateLengths (Ratio 2 1)) ≡ totalled 6 4 (over 2 1)
+unfolding greater
+crate-totals = ap totalsOf crate-rows
