@@ -16,13 +16,12 @@ use Rattle.tolerance.specs.Meaning.{meaning}
 use Rattle.trace.specs.declared.Criterion.{Criterion}
 use Rattle.sheet.specs.declared.Summary.{Summary}
 use Rattle.sheet.specs.declared.Reported.{Reported}
-use Rattle.sheet.specs.declared.Reported.the-variants.{Counted}
 use Rattle.sheet.specs.declared.Sheet.{Sheet}
 use Rattle.sheet.specs.Report.{crateRow, rowsFrom, totalsOf, Rows, Declined, filled}
 use Rattle.sheet.proofs.ReportLaws.{crate-divided}
 use Rattle.engine.specs.Hold.{toleranceRow}
-use Rattle.engine.specs.Prepare.{criterionOf, Sets}
-use Rattle.engine.specs.Report.{crateRows, reportRows, ReportOutcome, Surveyed}
+use Rattle.engine.specs.Prepare.{Sets}
+use Rattle.engine.specs.Report.{crateRows, ReportOutcome, Surveyed}
 
 module _ (ts : List ℕ) (vs : List ℤ) (ls : List ℕ) (t : Tolerance) (room : ℕ) where
   -- a sheet that refuses with the first row that applies

@@ -8,20 +8,19 @@
 --   largest-lowest            it is in lowest terms
 -- Assumes nothing.
 use mathlib.Core.Path.{_≡_, refl, sym, _∙_, ap, subst}
-use mathlib.Core.List.{List, _++_}
+use mathlib.Core.List.{List}
 use Prim.Native.Nat.{ℕ, _≤_, _<_}
 use native.Mathlib.Omega.{arith}
 use lib.IntN.{ℤ}
 use lib.ListN.{length, take, drop, getD, List·getD-append}
 use lib.Seq.{drop-append-seam}
 use borrow.Author.Tests.{le-leb}
-use Rattle.lists.proofs.OverwriteLaws.{wrote-read}
 use Rattle.ratio.specs.Gcd.{gcd, euclid}
-use Rattle.ratio.specs.Order.{over, AtMost}
+use Rattle.ratio.specs.Order.{AtMost}
 use Rattle.refusal.specs.declared.Refusal.{Refusal}
 use Rattle.refusal.specs.declared.Checked.{Checked}
 use Rattle.refusal.specs.declared.Checked.the-variants.{Fine, Refused}
-use Rattle.refusal.specs.Table.{roomRow, _thenCheck_}
+use Rattle.refusal.specs.Table.{_thenCheck_}
 use Rattle.refusal.proofs.TableLaws.{then-fine}
 use Rattle.tolerance.specs.declared.Tolerance.{Tolerance}
 use Rattle.tolerance.specs.Meaning.{meaning}
@@ -30,7 +29,7 @@ use Rattle.trace.specs.Link.{listError}
 use Rattle.sheet.specs.declared.Summary.{Summary}
 use Rattle.sheet.specs.declared.Totals.{Totals}
 use Rattle.sheet.specs.declared.Reported.the-variants.{Counted}
-use Rattle.sheet.specs.Report.{keptRow, declinedRow, rowOf, ofChannel, rowError, largestError, totalsOf, zeros}
+use Rattle.sheet.specs.Report.{keptRow, declinedRow, rowOf, ofChannel, rowError, largestError, zeros}
 use Rattle.sheet.proofs.RowLaws.{rows-length, rows-own, row-within, row-positive, row-lowest, largest-one, largest-least}
 use Rattle.sheet.proofs.ReportLaws.{channel-fine, channel-refused, walked-row}
 use Rattle.engine.specs.declared.Reduced.the-variants.{Kept, Refused as Declined}

@@ -1,8 +1,8 @@
 -- Laws of the report: the row of a trace, the rows and totals before a channel, and the lent list.
 -- Assumes nothing.
 use mathlib.Core.Path.{_≡_, refl, sym, _∙_, ap, subst}
-use mathlib.Core.List.{List, [], _∷_, _++_, append-assoc, append-nil}
-use Prim.Native.Nat.{ℕ, suc, _+_, _-_, _*_, _≤_, _<_}
+use mathlib.Core.List.{List, _++_, append-assoc, append-nil}
+use Prim.Native.Nat.{ℕ, suc, _+_, _-_, _≤_, _<_}
 use native.Mathlib.Numerals.{add-one}
 use native.Mathlib.Omega.{arith}
 use mathlib.Core.Bool.{Bool, true, false, _&&_}
@@ -31,9 +31,8 @@ use Rattle.reduction.specs.Walking.{walkList}
 use Rattle.reduction.proofs.ReductionLaws.{walk-list-greedy}
 use Rattle.sheet.specs.declared.Summary.{Summary}
 use Rattle.sheet.specs.declared.Totals.{Totals}
-use Rattle.sheet.specs.declared.Sheet.{Sheet}
 use Rattle.sheet.specs.declared.Reported.the-variants.{Counted}
-use Rattle.sheet.specs.Report.{crateRow, keptRow, walkedRow, declinedRow, rowOf, part, partRow, rowsFrom, added, addedAll, totalsOf, sum, Divided, RowBounds, TotalBounds, Rows}
+use Rattle.sheet.specs.Report.{crateRow, keptRow, walkedRow, declinedRow, rowOf, partRow, rowsFrom, added, addedAll, totalsOf, sum, Divided, RowBounds, TotalBounds, Rows}
 
 -- ---- the lent list
 pub filled-length : {A : Type 0} (rows o : List A) (i : ℕ) → i ≤ length rows → i ≤ length o → length (overwrite (take i rows) o) ≡ length o

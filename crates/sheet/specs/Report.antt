@@ -37,7 +37,6 @@ use Rattle.trace.specs.Link.{listError, Bounded}
 use Rattle.reduction.specs.Walking.{walkList}
 use Rattle.sheet.specs.declared.Summary.{Summary}
 use Rattle.sheet.specs.declared.Totals.{Totals}
-use Rattle.sheet.specs.declared.Reported.{Reported}
 use Rattle.sheet.specs.declared.Reported.the-variants.{Counted, Refused as NotCounted}
 use Rattle.sheet.specs.declared.Sheet.{Sheet}
 
