@@ -32,7 +32,7 @@ use Rattle.reduction.proofs.ReductionLaws.{walk-list-greedy}
 use Rattle.sheet.specs.declared.Summary.{Summary}
 use Rattle.sheet.specs.declared.Totals.{Totals}
 use Rattle.sheet.specs.declared.Reported.the-variants.{Counted}
-use Rattle.sheet.specs.Report.{crateRow, keptRow, walkedRow, declinedRow, rowOf, partRow, rowsFrom, added, addedAll, totalsOf, sum, Divided, RowBounds, TotalBounds, Rows}
+use Rattle.sheet.specs.Report.{crateRow, keptRow, walkedRow, declinedRow, rowOf, partRow, rowsFrom, totalsWith, totalsWithAll, totalsOf, sum, Divided, RowBounds, TotalBounds, Rows}
 
 -- ---- the lent list
 pub filled-length : {A : Type 0} (rows o : List A) (i : ℕ) → i ≤ length rows → i ≤ length o → length (overwrite (take i rows) o) ≡ length o
@@ -76,8 +76,8 @@ part-is c ts vs at n {r} e = subst (λ (k : ℕ). r ≡ rowOf c (take k (drop at
     back : (a b : ℕ) → a + b - a ≡ b
     back a b = omega arith
 
-pub added-is : (t : Totals) (r : Summary) {e : Ratio} → e ≡ greater (over (t .p) (t .q)) (over (r .p) (r .q)) → _≡_ {A = Totals} (record { samples = t .samples + r .samples; kept = t .kept + r .kept; p = e .p; q = e .q }) (added t r)
-added-is t r e = rw e
+pub totals-with : (t : Totals) (r : Summary) {e : Ratio} → e ≡ greater (over (t .p) (t .q)) (over (r .p) (r .q)) → _≡_ {A = Totals} (record { samples = t .samples + r .samples; kept = t .kept + r .kept; p = e .p; q = e .q }) (totalsWith t r)
+totals-with t r e = rw e
 
 pub zero-bounded : Bounded (record { p = 0; q = 1 })
 zero-bounded = record { positive = omega arith; q-bound = omega arith; p-bound = omega arith }
@@ -162,7 +162,7 @@ pub record Surveying (c : Criterion) (ts : List ℕ) (vs : List ℤ) (ls : List 
   pub upto : i ≤ length ls
   pub rest : at + sum (drop i ls) ≡ sum ls
   pub rows-are : take i rows ++ rowsFrom c ts vs at (drop i ls) ≡ rowsFrom c ts vs 0 ls
-  pub totals-are : addedAll t (rowsFrom c ts vs at (drop i ls)) ≡ totalsOf (rowsFrom c ts vs 0 ls)
+  pub totals-are : totalsWithAll t (rowsFrom c ts vs at (drop i ls)) ≡ totalsOf (rowsFrom c ts vs 0 ls)
   pub bounds : TotalBounds i t
 
 pub surveying-none : (c : Criterion) (ts : List ℕ) (vs : List ℤ) (ls : List ℕ) (rows : List Summary) → length rows ≡ 64 → Surveying c ts vs ls rows (record { samples = 0; kept = 0; p = 0; q = 1 }) 0 0
@@ -182,7 +182,7 @@ module _ {c : Criterion} {ts : List ℕ} {vs : List ℤ} {ls : List ℕ} {rows :
   pub surveying-few : length ls ≤ 64 → (t .samples ≤ 262144) × (t .kept ≤ 262144)
   surveying-few few = (omega (arith, h .upto, few, h .bounds .samples), omega (arith, h .upto, few, h .bounds .kept))
 
-  pub surveying-more : {r : Summary} {u : Totals} → i < length ls → length ls ≤ 64 → r ≡ partRow c ts vs at (getD ls i 0) → RowBounds r → u ≡ added t r → Surveying c ts vs ls (set rows i r) u (at + getD ls i 0) (i + 1)
+  pub surveying-more : {r : Summary} {u : Totals} → i < length ls → length ls ≤ 64 → r ≡ partRow c ts vs at (getD ls i 0) → RowBounds r → u ≡ totalsWith t r → Surveying c ts vs ls (set rows i r) u (at + getD ls i 0) (i + 1)
   surveying-more {r} {u} lt few e b a =
       let d = drop-cons ls i 0 lt in
       let s = ap sum d in
@@ -191,7 +191,7 @@ module _ {c : Criterion} {ts : List ℕ} {vs : List ℤ} {ls : List ℕ} {rows :
         upto = omega (arith, lt);
         rest = rw (add-one i) (omega (arith, h .rest, s));
         rows-are = rw (add-one i, take-suc-set rows i r (omega (arith, lt, few, h .sized)), append-assoc, e) (subst (λ (z : List ℕ). take i rows ++ rowsFrom c ts vs at z ≡ rowsFrom c ts vs 0 ls) d (h .rows-are));
-        totals-are = rw (add-one i, a, e) (subst (λ (z : List ℕ). addedAll t (rowsFrom c ts vs at z) ≡ totalsOf (rowsFrom c ts vs 0 ls)) d (h .totals-are));
+        totals-are = rw (add-one i, a, e) (subst (λ (z : List ℕ). totalsWithAll t (rowsFrom c ts vs at z) ≡ totalsOf (rowsFrom c ts vs 0 ls)) d (h .totals-are));
         bounds = rw a (record {
           samples = omega (arith, h .bounds .samples, b .samples);
           kept = omega (arith, h .bounds .kept, b .kept);
@@ -205,7 +205,7 @@ module _ {c : Criterion} {ts : List ℕ} {vs : List ℤ} {ls : List ℕ} {rows :
       record {
         count = end (h .upto) ge;
         rows = sym (append-nil (take i rows)) ∙ subst (λ (z : List ℕ). take i rows ++ rowsFrom c ts vs at z ≡ rowsFrom c ts vs 0 ls) d (h .rows-are);
-        answer = ap Counted (subst (λ (z : List ℕ). addedAll t (rowsFrom c ts vs at z) ≡ totalsOf (rowsFrom c ts vs 0 ls)) d (h .totals-are));
+        answer = ap Counted (subst (λ (z : List ℕ). totalsWithAll t (rowsFrom c ts vs at z) ≡ totalsOf (rowsFrom c ts vs 0 ls)) d (h .totals-are));
       }
     where
       end : {i n : ℕ} → i ≤ n → n ≤ i → i ≡ n

@@ -24,7 +24,7 @@ use Rattle.reduction.specs.Walking.{walkList}
 use Rattle.reduction.proofs.ReductionLaws.{walk-list-greedy}
 use Rattle.sheet.specs.declared.Summary.{Summary}
 use Rattle.sheet.specs.declared.Totals.{Totals}
-use Rattle.sheet.specs.Report.{walkedRow, rowBy, rowOf, partRow, rowsFrom, placeOf, ofChannel, rowError, largestError, added, addedAll, totalled, totalsOf, zeros}
+use Rattle.sheet.specs.Report.{walkedRow, rowBy, rowOf, partRow, rowsFrom, placeOf, ofChannel, rowError, largestError, totalsWith, totalsWithAll, totalled, totalsOf, zeros}
 
 -- ---- a channel's own row
 
@@ -34,16 +34,16 @@ module _ (c : Criterion) (ts : List ℕ) (vs : List ℤ) where
   rows-length at (n ∷ ls) = ap suc (rows-length (at + n) ls)
 
   -- the row from a place, however the place is written
-  moved : (n : ℕ) {k m : ℕ} → k ≡ m → partRow c ts vs k n ≡ partRow c ts vs m n
-  moved n e = rw e
+  place-same : (n : ℕ) {k m : ℕ} → k ≡ m → partRow c ts vs k n ≡ partRow c ts vs m n
+  place-same n e = rw e
 
   rows-from : (at : ℕ) (ls : List ℕ) (i : ℕ) → i < length ls → getD (rowsFrom c ts vs at ls) i zeros ≡ partRow c ts vs (at + placeOf ls i) (getD ls i 0)
   rows-from at [] i h = absurd (omega arith)
-  rows-from at (n ∷ ls) zero h = moved n {k = at} {m = at + 0} (omega arith)
-  rows-from at (n ∷ ls) (suc i) h = rows-from (at + n) ls i (omega arith) ∙ moved (getD ls i 0) {k = at + n + placeOf ls i} {m = at + (n + placeOf ls i)} (omega arith)
+  rows-from at (n ∷ ls) zero h = place-same n {k = at} {m = at + 0} (omega arith)
+  rows-from at (n ∷ ls) (suc i) h = rows-from (at + n) ls i (omega arith) ∙ place-same (getD ls i 0) {k = at + n + placeOf ls i} {m = at + (n + placeOf ls i)} (omega arith)
 
   pub rows-own : (ls : List ℕ) (i : ℕ) → i < length ls → getD (rowsFrom c ts vs 0 ls) i zeros ≡ rowOf c (ofChannel ls i ts) (ofChannel ls i vs)
-  rows-own ls i h = rows-from 0 ls i h ∙ moved (getD ls i 0) {k = 0 + placeOf ls i} {m = placeOf ls i} (omega arith)
+  rows-own ls i h = rows-from 0 ls i h ∙ place-same (getD ls i 0) {k = 0 + placeOf ls i} {m = placeOf ls i} (omega arith)
 
   -- what holds of 0/1 and of the error of walk's list holds of the row's
   row-one : (P : Ratio → Type 0) → P (over 0 1) → (Trace ts vs → P (listError ts vs (walkList ts vs c))) → P (rowError (rowOf c ts vs))
@@ -78,12 +78,12 @@ each-after P r rs k i u = k (suc i) (omega arith)
 
 -- what holds of 0/1 and of the error of each row holds of the largest
 module _ (P : Ratio → Type 0) where
-  added-one : (t : Totals) (r : Summary) (rs : List Summary) → P (largestError t) → EachRow P (r ∷ rs) → P (largestError (added t r))
-  added-one t r rs h k = greater-one P (largestError t) (rowError r) h (k 0 (omega arith))
+  with-one : (t : Totals) (r : Summary) (rs : List Summary) → P (largestError t) → EachRow P (r ∷ rs) → P (largestError (totalsWith t r))
+  with-one t r rs h k = greater-one P (largestError t) (rowError r) h (k 0 (omega arith))
 
-  all-one : (rs : List Summary) (t : Totals) → P (largestError t) → EachRow P rs → P (largestError (addedAll t rs))
+  all-one : (rs : List Summary) (t : Totals) → P (largestError t) → EachRow P rs → P (largestError (totalsWithAll t rs))
   all-one [] t h k = h
-  all-one (r ∷ rs) t h k = all-one rs (added t r) (added-one t r rs h k) (each-after P r rs k)
+  all-one (r ∷ rs) t h k = all-one rs (totalsWith t r) (with-one t r rs h k) (each-after P r rs k)
 
   pub largest-one : (rs : List Summary) → P (over 0 1) → EachRow P rs → P (largestError (totalsOf rs))
   largest-one rs h k = all-one rs (totalled 0 0 (over 0 1)) h k
@@ -91,18 +91,18 @@ module _ (P : Ratio → Type 0) where
 abbrev Positive : Ratio → Type 0
 Positive x = 0 < x .q
 
-all-more : (rs : List Summary) (t : Totals) → Positive (largestError t) → EachRow Positive rs → AtMost (largestError t) (largestError (addedAll t rs))
+all-more : (rs : List Summary) (t : Totals) → Positive (largestError t) → EachRow Positive rs → AtMost (largestError t) (largestError (totalsWithAll t rs))
 all-more [] t h k = omega arith
 all-more (r ∷ rs) t h k =
-    let g = added-one Positive t r rs h k in
-    at-most-trans (largestError t) (largestError (added t r)) _ g (greater-left (largestError t) (rowError r)) (all-more rs (added t r) g (each-after Positive r rs k))
+    let g = with-one Positive t r rs h k in
+    at-most-trans (largestError t) (largestError (totalsWith t r)) _ g (greater-left (largestError t) (rowError r)) (all-more rs (totalsWith t r) g (each-after Positive r rs k))
 
-all-least : (rs : List Summary) (t : Totals) → Positive (largestError t) → EachRow Positive rs → EachRow (λ x. AtMost x (largestError (addedAll t rs))) rs
+all-least : (rs : List Summary) (t : Totals) → Positive (largestError t) → EachRow Positive rs → EachRow (λ x. AtMost x (largestError (totalsWithAll t rs))) rs
 all-least [] t h k i u = absurd (omega arith)
 all-least (r ∷ rs) t h k zero u =
-    let g = added-one Positive t r rs h k in
-    at-most-trans (rowError r) (largestError (added t r)) _ g (greater-right (largestError t) (rowError r)) (all-more rs (added t r) g (each-after Positive r rs k))
-all-least (r ∷ rs) t h k (suc i) u = all-least rs (added t r) (added-one Positive t r rs h k) (each-after Positive r rs k) i (omega arith)
+    let g = with-one Positive t r rs h k in
+    at-most-trans (rowError r) (largestError (totalsWith t r)) _ g (greater-right (largestError t) (rowError r)) (all-more rs (totalsWith t r) g (each-after Positive r rs k))
+all-least (r ∷ rs) t h k (suc i) u = all-least rs (totalsWith t r) (with-one Positive t r rs h k) (each-after Positive r rs k) i (omega arith)
 
 -- the largest error is at least each row's
 pub largest-least : (rs : List Summary) → EachRow Positive rs → EachRow (λ x. AtMost x (largestError (totalsOf rs))) rs

@@ -7,7 +7,7 @@
 --   sum, placeOf, ofChannel  the sum of lengths; where a channel begins; its entries of a list
 --   rowError, largestError   the error of a row, and of totals
 --   totalled                 totals, from their numbers
---   added, addedAll          totals with one row more, and with several
+--   totalsWith, totalsWithAll   totals with one row more, and with several
 --   totalsOf                 the totals of rows: sums of samples and of kept numbers, and the greatest error, 0/1 where there is none
 --   crateRow                 row 11
 --   Divided                  what it shows: at most 64 channels, whose lengths add up to each list
@@ -91,15 +91,15 @@ largestError t = over (t .p) (t .q)
 abbrev pub totalled : ℕ → ℕ → Ratio → Totals
 totalled n l e = record { samples = n; kept = l; p = e .p; q = e .q }
 
-abbrev pub added : Totals → Summary → Totals
-added t r = totalled (t .samples + r .samples) (t .kept + r .kept) (greater (largestError t) (rowError r))
+abbrev pub totalsWith : Totals → Summary → Totals
+totalsWith t r = totalled (t .samples + r .samples) (t .kept + r .kept) (greater (largestError t) (rowError r))
 
-abbrev pub addedAll : Totals → List Summary → Totals
-addedAll t [] = t
-addedAll t (r ∷ rs) = addedAll (added t r) rs
+abbrev pub totalsWithAll : Totals → List Summary → Totals
+totalsWithAll t [] = t
+totalsWithAll t (r ∷ rs) = totalsWithAll (totalsWith t r) rs
 
 abbrev pub totalsOf : List Summary → Totals
-totalsOf rs = addedAll (totalled 0 0 (over 0 1)) rs
+totalsOf rs = totalsWithAll (totalled 0 0 (over 0 1)) rs
 
 -- ---- row 11
 

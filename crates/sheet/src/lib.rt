@@ -6,7 +6,7 @@ ghost use lib.Dec.{eqb};
 ghost use lib.ListN.{length};
 ghost use Rattle.trace.specs.Trace.{Trace};
 ghost use Rattle.trace.specs.Link.{Bounded};
-ghost use Rattle.sheet.specs.Report.{sum, crateRow, walkedRow, declinedRow, rowOf, partRow, RowBounds, added, TotalBounds, Divided, Rows, Declined, rowAt, Fits, filled};
+ghost use Rattle.sheet.specs.Report.{sum, crateRow, walkedRow, declinedRow, rowOf, partRow, RowBounds, totalsWith, TotalBounds, Divided, Rows, Declined, rowAt, Fits, filled};
 use ratio::Ratio;
 use ratio::order::greater;
 use refusal::Checked;
@@ -139,7 +139,7 @@ fn part_row(ticks: &[u32], values: &[i16], c: Criterion, at: usize, n: usize) ->
 // The totals with one row more.
 fn add(t: Totals, r: Summary) -> Totals
     requires { ⌜ (t .samples ≤ 262144) × (t .kept ≤ 262144) × Bounded (record { p = t .p; q = t .q }) × RowBounds r ⌝ }
-    ensures { λ u. ⌜ u ≡ added t r ⌝ }
+    ensures { λ u. ⌜ u ≡ totalsWith t r ⌝ }
 {
     let worst = greater(Ratio { p: t.p, q: t.q }, Ratio { p: r.p, q: r.q });
     Totals {
