@@ -1,8 +1,8 @@
 /* Kovrelna: reduced traces. For C99, C++11 and later; link with libkovrelna.a or libkovrelna.so
  * (x86-64, System V ABI), as `pkg-config --cflags --libs kovrelna` says once they are installed.
  *
- * Contents, in order: version and limits; refusals; tolerances; lists; reductions; range codes;
- * records.
+ * Contents, in order: version and limits; refusals; tolerances; lists; reductions; crates; range
+ * codes; records.
  *
  * A trace is two lists of equal length: ticks and values (ADC counts). It has 1 to 4,096 samples,
  * numbered from 0. Ticks rise strictly; the last minus the first is at most 1,048,575.
@@ -23,7 +23,8 @@
  * - Any content is allowed: what does not fit is refused with a number, as listed below.
  * - Nothing is allocated and nothing is kept after the call returns. There is no global state: calls
  *   may run at the same time on any threads.
- * - kovrelna_minimum and kovrelna_least take up to 18 KiB of stack, every other call under 1 KiB.
+ * - kovrelna_minimum and kovrelna_least take up to 18 KiB of stack, kovrelna_report up to 14 KiB,
+ *   every other call under 1 KiB.
  */
 #ifndef KOVRELNA_H
 #define KOVRELNA_H
@@ -45,6 +46,8 @@ extern "C" {
 /* The most samples of a trace, and of one for kovrelna_least. */
 #define KOVRELNA_SAMPLES_MAX 4096
 #define KOVRELNA_LEAST_SAMPLES_MAX 256
+/* The most channels of a crate. */
+#define KOVRELNA_CHANNELS_MAX 64
 /* The most bytes of a record of so many samples, from 1 on, and of any record: 24,589. */
 #define KOVRELNA_RECORD_BYTES(samples) (13 + 6 * (samples))
 #define KOVRELNA_RECORD_MAX KOVRELNA_RECORD_BYTES(KOVRELNA_SAMPLES_MAX)
@@ -52,8 +55,8 @@ extern "C" {
 /* ---- Refusals ----
  *
  * Each answer has a number, 0 if the call succeeded, and a value. A call checks the rows that
- * concern it in rising number and answers with the first that fits. A refused call leaves every
- * list and buffer as it was.
+ * concern it in rising number, only 11 before all others, and answers with the first that fits. A
+ * refused call leaves every list and buffer as it was.
  */
 enum kovrelna_refusal {
   /* No samples or codes, too many, or ticks and values differ in length. Value: 0. */
@@ -77,7 +80,10 @@ enum kovrelna_refusal {
   /* The second record of a comparison is faulty. Value: the fault's byte. */
   KOVRELNA_REFUSED_SECOND_RECORD = 9,
   /* The output is too short. Value: the entries or bytes needed. */
-  KOVRELNA_REFUSED_ROOM = 10
+  KOVRELNA_REFUSED_ROOM = 10,
+  /* There are no channels, more than 64, or their lengths do not add up to the length of ticks and
+   * to that of values. Value: 0. */
+  KOVRELNA_REFUSED_CRATE = 11
 };
 
 /* The cause in words, for a message; "none" for a number that is no refusal's. */
@@ -103,6 +109,8 @@ static inline const char *kovrelna_cause(uint32_t number) {
     return "second record of a comparison faulty";
   case KOVRELNA_REFUSED_ROOM:
     return "output too short";
+  case KOVRELNA_REFUSED_CRATE:
+    return "no channels, more than 64, or lengths that do not add up to the lists";
   default:
     return "none";
   }
@@ -247,6 +255,46 @@ kovrelna_closest kovrelna_least(const uint32_t *ticks, size_t ticks_len,
                                 const int16_t *values, size_t values_len,
                                 uint64_t allowance,
                                 uint16_t *out, size_t out_len);
+
+/* ---- Crates ----
+ *
+ * A crate has 1 to 64 channels, each with a trace of its own. The traces come end to end in two
+ * lists, ticks and values; the list of lengths has the number of samples of each channel.
+ */
+
+/* A channel's row. number 0: its samples, the kept number of kovrelna_walk, and the error p/q of
+ * walk's list in lowest terms (zero is 0/1). Otherwise the channel's trace is refused as 1, 2 or 3:
+ * number says which, samples and kept are 0, and p/q is 0/1. */
+typedef struct kovrelna_summary {
+  size_t samples;
+  size_t kept;
+  uint64_t p;
+  uint64_t q;
+  uint32_t number;
+} kovrelna_summary;
+
+/* number 0: the sums of the rows' samples and kept numbers and the greatest of their errors, p/q
+ * (zero is 0/1); value is 0.
+ * Otherwise: the refusal's number and value; all else is 0. */
+typedef struct kovrelna_totals {
+  uint32_t number;
+  uint64_t value;
+  uint64_t samples;
+  uint64_t kept;
+  uint64_t p;
+  uint64_t q;
+} kovrelna_totals;
+
+/* Reports on a crate: the first entries of out are the rows, one for each channel; the entries after
+ * them are as they were. A row depends on its channel's trace and on the tolerance, on nothing else
+ * in the crate. Refusals: 11, before all others; 4; 10 with the number of channels. A channel whose
+ * trace is refused, such as one of no samples or of more than 4,096, has its number in its row, and
+ * the call goes on. */
+kovrelna_totals kovrelna_report(const uint32_t *ticks, size_t ticks_len,
+                                const int16_t *values, size_t values_len,
+                                const size_t *lengths, size_t lengths_len,
+                                kovrelna_tolerance tolerance,
+                                kovrelna_summary *out, size_t out_len);
 
 /* ---- Range codes ----
  *

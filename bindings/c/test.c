@@ -2,7 +2,7 @@
  * says what differs and returns 1.
  *
  * Contents, in order: lent lists and where they are placed; the table of calls; cases of each call;
- * empty lists; the longest trace; the version and the causes in words.
+ * empty lists; the longest trace and crate; the version and the causes in words.
  *
  * Each case is called once in every placement of its lists: against a page that cannot be read or
  * written, between guard bytes, and at exact size on the heap. Where the program is built with
@@ -130,6 +130,13 @@ static void lend(struct list *list, enum placement placement) {
   if (placement == AT_END || placement == AT_START) protect(list, placement);
 }
 
+/* Whether the byte at k belongs to no field; only summaries have such bytes, behind their last field.
+ * A call that writes an element may change them. */
+static int is_padding(const struct list *list, size_t k) {
+  return list->size == sizeof(kovrelna_summary) &&
+         k % list->size >= offsetof(kovrelna_summary, number) + sizeof(uint32_t);
+}
+
 /* Checks what the list holds after the call, and frees it. */
 static void take_back(struct list *list, enum placement placement) {
   const unsigned char *content = (const unsigned char *)list->content,
@@ -137,7 +144,10 @@ static void take_back(struct list *list, enum placement placement) {
   size_t bytes = list->size * list->len, changed = 0, k;
   for (k = 0; k < bytes; k++) {
     unsigned char expected = content != NULL ? content[k] : filler(placement, k);
-    if (k >= list->at && k < list->at + list->count) expected = written[k - list->at];
+    if (k >= list->at && k < list->at + list->count) {
+      if (is_padding(list, k)) continue;
+      expected = written[k - list->at];
+    }
     changed += list->first[k] != expected;
   }
   differ(content != NULL ? "bytes of an input changed" : "wrong bytes of an output", changed, 0);
@@ -158,16 +168,16 @@ static void take_back(struct list *list, enum placement placement) {
 /* The answer of any call; fields that it does not have are 0. */
 struct answer {
   uint32_t number;
-  uint64_t value, passed, probes, p, q;
+  uint64_t value, passed, probes, p, q, samples, kept;
 };
 
 static struct answer plain(kovrelna_answer from) {
-  struct answer answer = {from.number, from.value, 0, 0, 0, 0};
+  struct answer answer = {from.number, from.value, 0, 0, 0, 0, 0, 0};
   return answer;
 }
 
 static struct answer verdict(kovrelna_verdict from) {
-  struct answer answer = {from.number, from.value, from.passed, 0, 0, 0};
+  struct answer answer = {from.number, from.value, from.passed, 0, 0, 0, 0, 0};
   return answer;
 }
 
@@ -175,6 +185,8 @@ static struct answer verdict(kovrelna_verdict from) {
 #define U16(k) (uint16_t *)(void *)lists[k].first, lists[k].len
 #define I16(k) (int16_t *)(void *)lists[k].first, lists[k].len
 #define U32(k) (uint32_t *)(void *)lists[k].first, lists[k].len
+#define LENGTHS(k) (size_t *)(void *)lists[k].first, lists[k].len
+#define SUMMARIES(k) (kovrelna_summary *)(void *)lists[k].first, lists[k].len
 
 static struct answer call_judge(const struct list *lists, kovrelna_tolerance tolerance,
                                 size_t place) {
@@ -191,7 +203,7 @@ static struct answer call_walk(const struct list *lists, kovrelna_tolerance tole
 static struct answer call_gallop(const struct list *lists, kovrelna_tolerance tolerance,
                                  size_t place) {
   kovrelna_galloped from = kovrelna_gallop(U32(0), I16(1), tolerance, U16(2));
-  struct answer answer = {from.number, from.value, 0, from.probes, 0, 0};
+  struct answer answer = {from.number, from.value, 0, from.probes, 0, 0, 0, 0};
   (void)place;
   return answer;
 }
@@ -205,7 +217,7 @@ static struct answer call_minimum(const struct list *lists, kovrelna_tolerance t
 static struct answer call_least(const struct list *lists, kovrelna_tolerance tolerance,
                                 size_t allowance) {
   kovrelna_closest from = kovrelna_least(U32(0), I16(1), allowance, U16(2));
-  struct answer answer = {from.number, from.value, 0, 0, from.p, from.q};
+  struct answer answer = {from.number, from.value, 0, 0, from.p, from.q, 0, 0};
   (void)tolerance;
   return answer;
 }
@@ -224,7 +236,7 @@ static struct answer call_write(const struct list *lists, kovrelna_tolerance tol
 static struct answer call_read(const struct list *lists, kovrelna_tolerance tolerance,
                                size_t place) {
   kovrelna_content from = kovrelna_read(U8(0), U32(1), I16(2));
-  struct answer answer = {from.number, from.value, 0, 0, from.p, from.q};
+  struct answer answer = {from.number, from.value, 0, 0, from.p, from.q, 0, 0};
   (void)tolerance, (void)place;
   return answer;
 }
@@ -233,6 +245,14 @@ static struct answer call_same(const struct list *lists, kovrelna_tolerance tole
                                size_t place) {
   (void)tolerance, (void)place;
   return verdict(kovrelna_same(U8(0), U8(1)));
+}
+
+static struct answer call_report(const struct list *lists, kovrelna_tolerance tolerance,
+                                 size_t place) {
+  kovrelna_totals from = kovrelna_report(U32(0), I16(1), LENGTHS(2), tolerance, SUMMARIES(3));
+  struct answer answer = {from.number, from.value, 0, 0, from.p, from.q, from.samples, from.kept};
+  (void)place;
+  return answer;
 }
 
 /* Document 01's fifth and sixth figures: a trace, its list and their record at tolerance 2/3. */
@@ -244,6 +264,9 @@ static const uint8_t figure[] = {0x54, 0, 0, 0, 0, 2, 0, 0, 3, 0x41, 0, 0, 0, 0,
 /* The samples of that record. */
 static const uint32_t kept_ticks[] = {0, 3};
 static const int16_t kept_values[] = {0, 1};
+/* That trace as a crate of one channel, and its row. */
+static const size_t lengths[] = {3};
+static const kovrelna_summary summary[] = {{3, 2, 2, 3, 0}};
 /* The codes of the seventh figure, and their values. */
 static const uint8_t some_codes[] = {31, 32, 63, 64, 255};
 static const int16_t code_values[] = {31, 32, 94, 96, 8032};
@@ -265,7 +288,7 @@ struct parameter {
 
 /* Every call that is lent lists, as it is made on the figures at tolerance 4/6, place 0 and
  * allowance 2, and its answer. */
-enum { JUDGE_CALL, WALK, GALLOP, MINIMUM, LEAST, EXPAND, WRITE_CALL, READ_CALL, SAME_CALL };
+enum { JUDGE_CALL, WALK, GALLOP, MINIMUM, LEAST, EXPAND, WRITE_CALL, READ_CALL, SAME_CALL, REPORT };
 enum { LISTS = 4 };
 static const struct call {
   const char *name;
@@ -276,30 +299,33 @@ static const struct call {
 } calls[] = {
     {"judge", call_judge, 3,
      {IN(uneven, 1, 0), IN(step, 1, 0), IN(pair, 6, 0)},
-     {0, 0, 1, 0, 0, 0}},
+     {0, 0, 1, 0, 0, 0, 0, 0}},
     {"walk", call_walk, 3,
      {IN(uneven, 1, 0), IN(step, 1, 0), OUT(3, pair, 10, 3)},
-     {0, 2, 0, 0, 0, 0}},
+     {0, 2, 0, 0, 0, 0, 0, 0}},
     {"gallop", call_gallop, 3,
      {IN(uneven, 1, 0), IN(step, 1, 0), OUT(3, pair, 10, 3)},
-     {0, 2, 0, 3, 0, 0}},
+     {0, 2, 0, 3, 0, 0, 0, 0}},
     {"minimum", call_minimum, 3,
      {IN(uneven, 1, 0), IN(step, 1, 0), OUT(3, pair, 10, 3)},
-     {0, 2, 0, 0, 0, 0}},
+     {0, 2, 0, 0, 0, 0, 0, 0}},
     {"least", call_least, 3,
      {IN(uneven, 1, 0), IN(step, 1, 0), OUT(3, pair, 10, 3)},
-     {0, 2, 0, 0, 2, 3}},
+     {0, 2, 0, 0, 2, 3, 0, 0}},
     {"expand", call_expand, 2,
      {IN(some_codes, 1, 0), OUT(5, code_values, 10, 5)},
-     {0, 5, 0, 0, 0, 0}},
+     {0, 5, 0, 0, 0, 0, 0, 0}},
     {"write", call_write, 4,
      {IN(uneven, 1, 0), IN(step, 1, 0), IN(pair, 6, 0),
       OUT(22, figure, 10, 22)},
-     {0, 22, 0, 0, 0, 0}},
+     {0, 22, 0, 0, 0, 0, 0, 0}},
     {"read", call_read, 3,
      {IN(figure, 8, 0), OUT(2, kept_ticks, 10, 2), OUT(2, kept_values, 10, 2)},
-     {0, 2, 0, 0, 2, 3}},
-    {"same", call_same, 2, {IN(figure, 8, 0), IN(figure, 9, 0)}, {0, 0, 1, 0, 0, 0}},
+     {0, 2, 0, 0, 2, 3, 0, 0}},
+    {"same", call_same, 2, {IN(figure, 8, 0), IN(figure, 9, 0)}, {0, 0, 1, 0, 0, 0, 0, 0}},
+    {"report", call_report, 4,
+     {IN(uneven, 11, 0), IN(step, 11, 0), IN(lengths, 11, 0), OUT(1, summary, 10, 1)},
+     {0, 0, 0, 0, 2, 3, 3, 2}},
 };
 
 /* Makes the call in every placement, with this place or allowance: it answers so, and the lists
@@ -321,6 +347,8 @@ static void run(int line, int which, struct list *lists, kovrelna_tolerance tole
     differ("probes", answer.probes, expected.probes);
     differ("p", answer.p, expected.p);
     differ("q", answer.q, expected.q);
+    differ("samples", answer.samples, expected.samples);
+    differ("kept", answer.kept, expected.kept);
     for (k = 0; k < call->lists; k++) take_back(&lists[k], (enum placement)placement);
   }
 }
@@ -341,7 +369,7 @@ static void hold(int line, kovrelna_tolerance tolerance, uint32_t number, uint64
 static void judge(int line, const uint32_t *ticks, size_t ticks_len, const int16_t *values,
                   size_t values_len, const uint16_t *list, size_t list_len,
                   kovrelna_tolerance tolerance, uint32_t number, uint32_t passed, uint64_t value) {
-  struct answer expected = {number, value, passed, 0, 0, 0};
+  struct answer expected = {number, value, passed, 0, 0, 0, 0, 0};
   struct list lists[3];
   lists[0] = input(ticks, ticks_len, sizeof(uint32_t));
   lists[1] = input(values, values_len, sizeof(int16_t));
@@ -358,7 +386,7 @@ static void reduce(int line, int method, const uint32_t *ticks, size_t ticks_len
                    const int16_t *values, size_t values_len, kovrelna_tolerance tolerance,
                    size_t out_len, uint32_t number, uint64_t value, uint64_t probes,
                    const uint16_t *list) {
-  struct answer expected = {number, value, 0, probes, 0, 0};
+  struct answer expected = {number, value, 0, probes, 0, 0, 0, 0};
   struct list lists[3];
   lists[0] = input(ticks, ticks_len, sizeof(uint32_t));
   lists[1] = input(values, values_len, sizeof(int16_t));
@@ -388,7 +416,7 @@ static void refuse(int line, const uint32_t *ticks, size_t ticks_len, const int1
 static void least(int line, const uint32_t *ticks, size_t ticks_len, const int16_t *values,
                   size_t values_len, size_t allowance, size_t out_len, uint32_t number,
                   uint64_t value, uint64_t p, uint64_t q, const uint16_t *list) {
-  struct answer expected = {number, value, 0, 0, p, q};
+  struct answer expected = {number, value, 0, 0, p, q, 0, 0};
   struct list lists[3];
   lists[0] = input(ticks, ticks_len, sizeof(uint32_t));
   lists[1] = input(values, values_len, sizeof(int16_t));
@@ -410,7 +438,7 @@ static void least(int line, const uint32_t *ticks, size_t ticks_len, const int16
 /* With number 0 expand writes these values, `value` of them. */
 static void expand(int line, const uint8_t *codes, size_t codes_len, size_t out_len,
                    uint32_t number, uint64_t value, const int16_t *values) {
-  struct answer expected = {number, value, 0, 0, 0, 0};
+  struct answer expected = {number, value, 0, 0, 0, 0, 0, 0};
   struct list lists[2];
   lists[0] = input(codes, codes_len, 1);
   lists[1] = number != 0 ? output(out_len, sizeof(int16_t))
@@ -423,7 +451,7 @@ static void write_record(int line, const uint32_t *ticks, size_t ticks_len, cons
                          size_t values_len, const uint16_t *list, size_t list_len,
                          kovrelna_tolerance tolerance, size_t size, size_t place, uint32_t number,
                          uint64_t value, const uint8_t *record) {
-  struct answer expected = {number, value, 0, 0, 0, 0};
+  struct answer expected = {number, value, 0, 0, 0, 0, 0, 0};
   struct list lists[4];
   lists[0] = input(ticks, ticks_len, sizeof(uint32_t));
   lists[1] = input(values, values_len, sizeof(int16_t));
@@ -440,7 +468,7 @@ static void write_record(int line, const uint32_t *ticks, size_t ticks_len, cons
 static void read_record(int line, const uint8_t *record, size_t record_len, size_t ticks_len,
                         size_t values_len, uint32_t number, uint64_t value, uint64_t p, uint64_t q,
                         const uint32_t *ticks, const int16_t *values) {
-  struct answer expected = {number, value, 0, 0, p, q};
+  struct answer expected = {number, value, 0, 0, p, q, 0, 0};
   size_t count = number != 0 ? 0 : (size_t)value;
   struct list lists[3];
   lists[0] = input(record, record_len, 1);
@@ -459,7 +487,7 @@ static void faulty(int line, const uint8_t *record, size_t length, uint64_t byte
 
 static void same(int line, const uint8_t *first, size_t first_len, const uint8_t *second,
                  size_t second_len, uint32_t number, uint32_t passed, uint64_t value) {
-  struct answer expected = {number, value, passed, 0, 0, 0};
+  struct answer expected = {number, value, passed, 0, 0, 0, 0, 0};
   struct list lists[2];
   lists[0] = input(first, first_len, 1);
   lists[1] = input(second, second_len, 1);
@@ -468,6 +496,43 @@ static void same(int line, const uint8_t *first, size_t first_len, const uint8_t
 
 #define SAME(first, first_len, second, second_len, number, passed, value)                         \
   same(__LINE__, first, first_len, second, second_len, number, passed, value)
+
+/* With number 0 report writes these rows, one for each length, and these are the totals. */
+static void report(int line, const uint32_t *ticks, size_t ticks_len, const int16_t *values,
+                   size_t values_len, const size_t *lengths, size_t lengths_len,
+                   kovrelna_tolerance tolerance, size_t out_len, struct answer expected,
+                   const kovrelna_summary *rows) {
+  struct list lists[4];
+  lists[0] = input(ticks, ticks_len, sizeof(uint32_t));
+  lists[1] = input(values, values_len, sizeof(int16_t));
+  lists[2] = input(lengths, lengths_len, sizeof(size_t));
+  lists[3] = expected.number != 0 ? output(out_len, sizeof(kovrelna_summary))
+                                  : filled(out_len, sizeof(kovrelna_summary), rows, 0, lengths_len);
+  run(line, REPORT, lists, tolerance, 0, expected);
+}
+
+static struct answer totals(uint64_t samples, uint64_t kept, uint64_t p, uint64_t q) {
+  struct answer answer = {0, 0, 0, 0, p, q, samples, kept};
+  return answer;
+}
+
+static struct answer refusal(uint32_t number, uint64_t value) {
+  struct answer answer = {number, value, 0, 0, 0, 0, 0, 0};
+  return answer;
+}
+
+#define REPORT_ROWS(ticks, values, lengths, tolerance, out_len, expected, rows)                    \
+  report(__LINE__, ticks, COUNT(ticks), values, COUNT(values), lengths, COUNT(lengths), tolerance, \
+         out_len, expected, rows)
+
+/* Refused, without an output and with one. */
+#define NO_REPORT(ticks, ticks_len, values, values_len, lengths, lengths_len, tolerance, number)   \
+  do {                                                                                             \
+    report(__LINE__, ticks, ticks_len, values, values_len, lengths, lengths_len, tolerance, 0,     \
+           refusal(number, 0), NULL);                                                              \
+    report(__LINE__, ticks, ticks_len, values, values_len, lengths, lengths_len, tolerance, 70,    \
+           refusal(number, 0), NULL);                                                              \
+  } while (0)
 
 /* The record is cut off after each of its bytes: the fault is at the command that is cut, or at the
  * end where one is missing. `commands` has the first byte of each. */
@@ -757,17 +822,123 @@ static void records(void) {
   SAME(figure, 15, figure, 21, KOVRELNA_REFUSED_RECORD, 0, 9);
 }
 
-/* Each set of a call's lists is empty in turn: the lowest of their refusals answers. */
+static void summary_layout(void) {
+  now_name = "layout of a summary";
+  now_line = __LINE__;
+  differ("size", sizeof(kovrelna_summary), 40);
+  differ("samples", offsetof(kovrelna_summary, samples), 0);
+  differ("kept", offsetof(kovrelna_summary, kept), 8);
+  differ("p", offsetof(kovrelna_summary, p), 16);
+  differ("q", offsetof(kovrelna_summary, q), 24);
+  differ("number", offsetof(kovrelna_summary, number), 32);
+  now_name = "layout of totals";
+  differ("size", sizeof(kovrelna_totals), 48);
+  differ("number", offsetof(kovrelna_totals, number), 0);
+  differ("value", offsetof(kovrelna_totals, value), 8);
+  differ("samples", offsetof(kovrelna_totals, samples), 16);
+  differ("kept", offsetof(kovrelna_totals, kept), 24);
+  differ("p", offsetof(kovrelna_totals, p), 32);
+  differ("q", offsetof(kovrelna_totals, q), 40);
+}
+
+static void reports(void) {
+  enum { CHANNELS = KOVRELNA_CHANNELS_MAX, SAMPLES = 3 * (CHANNELS + 1) };
+  /* Channels of 5, 0, 2 and 1 samples: a wave, none, a tick that does not rise, one sample. */
+  const uint32_t ticks[] = {0, 1, 2, 3, 4, 5, 5, 7};
+  const int16_t values[] = {0, 2, 0, -2, 0, 1, 1, 9};
+  const size_t parts[] = {5, 0, 2, 1}, less[] = {5, 0, 1, 1}, more[] = {5, 0, 2, 2};
+  const kovrelna_summary rows[] = {
+      {5, 3, 2, 1, 0}, {0, 0, 0, 1, 1}, {0, 0, 0, 1, 2}, {1, 1, 0, 1, 0}};
+  /* Errors 2/3, 3/4 and 1/2, at tolerance 1; a span that is too long. */
+  const uint32_t thirds[] = {0, 1, 3, 7, 8, 11, 20, 21, 22, 0, 1048576};
+  const int16_t steps[] = {0, 1, 1, 0, 1, 1, 0, 0, 1, 0, 0};
+  const size_t three[] = {3, 3, 3, 2};
+  const kovrelna_summary errors[] = {
+      {3, 2, 2, 3, 0}, {3, 2, 3, 4, 0}, {3, 2, 1, 2, 0}, {0, 0, 0, 1, 3}};
+  /* Sums that would come round to the length of the lists, 8 or 0. */
+  const size_t round[] = {SIZE_MAX, 9}, halves[] = {SIZE_MAX / 2 + 1, 4, SIZE_MAX / 2 + 1, 4},
+               none[] = {0}, two_none[] = {0, 0};
+  const kovrelna_summary empty[] = {{0, 0, 0, 1, 1}, {0, 0, 0, 1, 1}};
+  static uint32_t many_ticks[SAMPLES];
+  static int16_t many_values[SAMPLES];
+  static size_t many[CHANNELS + 1], zeros[CHANNELS + 1], huge[CHANNELS];
+  static kovrelna_summary many_rows[CHANNELS];
+  kovrelna_tolerance two = kovrelna_ratio(2, 1), bad = kovrelna_ratio(0, 0);
+  uint64_t kept = 0;
+  size_t k, good = 0, out_len;
+
+  for (out_len = 4; out_len <= 9; out_len++)
+    REPORT_ROWS(ticks, values, parts, two, out_len, totals(6, 4, 2, 1), rows);
+  REPORT_ROWS(ticks, values, parts, kovrelna_counts(2.0), 4, totals(6, 4, 2, 1), rows);
+  REPORT_ROWS(ticks, values, parts, kovrelna_noise(0.5, 4.0), 4, totals(6, 4, 2, 1), rows);
+  REPORT_ROWS(thirds, steps, three, kovrelna_ratio(1, 1), 5, totals(9, 6, 3, 4), errors);
+  /* Every channel is refused. */
+  report(__LINE__, NULL, 0, NULL, 0, none, 1, two, 1, totals(0, 0, 0, 1), empty);
+  report(__LINE__, NULL, 0, NULL, 0, two_none, 2, two, 3, totals(0, 0, 0, 1), empty);
+
+  /* 11 before 4 before 10. */
+  NO_REPORT(ticks, 8, values, 8, NULL, 0, bad, KOVRELNA_REFUSED_CRATE);
+  NO_REPORT(ticks, 8, values, 8, NULL, 0, two, KOVRELNA_REFUSED_CRATE);
+  NO_REPORT(ticks, 8, values, 8, less, 4, bad, KOVRELNA_REFUSED_CRATE);
+  NO_REPORT(ticks, 8, values, 8, less, 4, two, KOVRELNA_REFUSED_CRATE);
+  NO_REPORT(ticks, 8, values, 8, more, 4, two, KOVRELNA_REFUSED_CRATE);
+  NO_REPORT(ticks, 7, values, 8, parts, 4, two, KOVRELNA_REFUSED_CRATE);
+  NO_REPORT(ticks, 8, values, 7, parts, 4, two, KOVRELNA_REFUSED_CRATE);
+  NO_REPORT(ticks, 8, values, 8, round, 2, two, KOVRELNA_REFUSED_CRATE);
+  NO_REPORT(ticks, 8, values, 8, halves, 4, bad, KOVRELNA_REFUSED_CRATE);
+  NO_REPORT(ticks, 8, values, 8, parts, 4, bad, KOVRELNA_REFUSED_TOLERANCE);
+  for (out_len = 0; out_len < 4; out_len++)
+    report(__LINE__, ticks, 8, values, 8, parts, 4, two, out_len,
+           refusal(KOVRELNA_REFUSED_ROOM, 4), NULL);
+
+  /* 64 channels of 3 samples, of which every third has a tick that does not rise. */
+  for (k = 0; k < CHANNELS + 1; k++) {
+    int fits = k % 3 != 2;
+    many[k] = 3;
+    zeros[k] = 0;
+    many_ticks[3 * k] = (uint32_t)k;
+    many_ticks[3 * k + 1] = (uint32_t)(fits ? k + 1 : k);
+    many_ticks[3 * k + 2] = (uint32_t)k + 2;
+    many_values[3 * k + 1] = (int16_t)k;
+    if (k == CHANNELS) break;
+    huge[k] = SIZE_MAX / CHANNELS + 1;
+    good += fits ? 1 : 0;
+    many_rows[k].samples = fits ? 3 : 0;
+    many_rows[k].kept = fits ? (k <= 32 ? 2 : 3) : 0;
+    many_rows[k].p = fits && k <= 32 ? k : 0;
+    many_rows[k].q = 1;
+    many_rows[k].number = fits ? 0 : 2;
+    kept += many_rows[k].kept;
+  }
+  report(__LINE__, many_ticks, 3 * CHANNELS, many_values, 3 * CHANNELS, many, CHANNELS,
+         kovrelna_ratio(32, 1), CHANNELS + 1, totals(3 * good, kept, 31, 1), many_rows);
+  report(__LINE__, many_ticks, 3 * CHANNELS, many_values, 3 * CHANNELS, many, CHANNELS, two,
+         CHANNELS - 1, refusal(KOVRELNA_REFUSED_ROOM, CHANNELS), NULL);
+  NO_REPORT(many_ticks, SAMPLES, many_values, SAMPLES, many, CHANNELS + 1, bad,
+            KOVRELNA_REFUSED_CRATE);
+  NO_REPORT(many_ticks, SAMPLES, many_values, SAMPLES, many, CHANNELS + 1, two,
+            KOVRELNA_REFUSED_CRATE);
+  NO_REPORT(NULL, 0, NULL, 0, zeros, CHANNELS + 1, two, KOVRELNA_REFUSED_CRATE);
+  NO_REPORT(NULL, 0, NULL, 0, huge, CHANNELS, two, KOVRELNA_REFUSED_CRATE);
+}
+
+/* Whether a refusal is checked before another one: 11 before all others. */
+static int comes_before(uint32_t number, uint32_t other) {
+  return other != KOVRELNA_REFUSED_CRATE && (number == KOVRELNA_REFUSED_CRATE || number < other);
+}
+
+/* Each set of a call's lists is empty in turn: the first of their refusals answers. */
 static void empty_lists(void) {
   size_t which, set, k;
   for (which = 0; which < COUNT(calls); which++) {
     const struct call *call = &calls[which];
     for (set = 0; set < (size_t)1 << call->lists; set++) {
-      struct answer expected = call->answer, none = {0, 0, 0, 0, 0, 0};
+      struct answer expected = call->answer, none = {0, 0, 0, 0, 0, 0, 0, 0};
       struct list lists[LISTS];
       for (k = 0; k < call->lists; k++) {
         const struct parameter *parameter = &call->parameters[k];
-        if ((set >> k & 1) == 0 || (expected.number != 0 && expected.number <= parameter->number))
+        if ((set >> k & 1) == 0 ||
+            (expected.number != 0 && !comes_before(parameter->number, expected.number)))
           continue;
         expected = none;
         expected.number = parameter->number;
@@ -817,8 +988,36 @@ static void longest(void) {
   SAME(record, BYTES, record, BYTES, 0, 1, 0);
 }
 
+/* A crate of 64 channels of 4,096 samples that are all kept; then two channels, of which the second
+ * has a sample too many. */
+static void longest_crate(void) {
+  enum { CHANNELS = KOVRELNA_CHANNELS_MAX, SAMPLES = KOVRELNA_SAMPLES_MAX };
+  static uint32_t ticks[CHANNELS * SAMPLES];
+  static int16_t values[CHANNELS * SAMPLES];
+  static size_t parts[CHANNELS];
+  static kovrelna_summary rows[CHANNELS];
+  const kovrelna_summary row = {SAMPLES, SAMPLES, 0, 1, 0}, refused = {0, 0, 0, 1, 1};
+  size_t k;
+  for (k = 0; k < CHANNELS * SAMPLES; k++) {
+    ticks[k] = (uint32_t)(256 * (k % SAMPLES) + k / SAMPLES);
+    values[k] = (int16_t)(k % 2 * 10000);
+  }
+  for (k = 0; k < CHANNELS; k++) {
+    parts[k] = SAMPLES;
+    rows[k] = row;
+  }
+  REPORT_ROWS(ticks, values, parts, kovrelna_ratio(0, 1), CHANNELS,
+              totals(CHANNELS * SAMPLES, CHANNELS * SAMPLES, 0, 1), rows);
+  parts[1] = SAMPLES + 1;
+  rows[1] = refused;
+  report(__LINE__, ticks, 2 * SAMPLES + 1, values, 2 * SAMPLES + 1, parts, 2, kovrelna_ratio(0, 1),
+         2, totals(SAMPLES, SAMPLES, 0, 1), rows);
+}
+
 /* The version's numbers are those of its text. Every cause has words of its own. */
 static void words(void) {
+  /* By a pointer that no compiler sees through, since some warn of words that always differ. */
+  const char *(*volatile cause)(uint32_t) = kovrelna_cause;
   char version[40];
   uint32_t number, other;
   now_name = "version";
@@ -827,11 +1026,11 @@ static void words(void) {
            KOVRELNA_VERSION_PATCH);
   differ("its text", strcmp(version, KOVRELNA_VERSION) != 0, 0);
   now_name = "cause";
-  differ("no refusal", strcmp(kovrelna_cause(0), "none") != 0, 0);
-  differ("no refusal", strcmp(kovrelna_cause(UINT32_MAX), "none") != 0, 0);
-  for (number = 0; number <= KOVRELNA_REFUSED_ROOM; number++)
+  differ("no refusal", strcmp(cause(0), "none") != 0, 0);
+  differ("no refusal", strcmp(cause(UINT32_MAX), "none") != 0, 0);
+  for (number = 0; number <= KOVRELNA_REFUSED_CRATE; number++)
     for (other = 0; other < number; other++)
-      differ("the same words", strcmp(kovrelna_cause(number), kovrelna_cause(other)) == 0, 0);
+      differ("the same words", strcmp(cause(number), cause(other)) == 0, 0);
 }
 
 int main(void) {
@@ -844,8 +1043,11 @@ int main(void) {
   least_errors();
   codes();
   records();
+  summary_layout();
+  reports();
   empty_lists();
   longest();
+  longest_crate();
   words();
   if (failures != 0) return 1;
   puts("c: ok");
