@@ -4,6 +4,7 @@
 - `Verdict`, `judge`: whether every link of a proposed list is valid.
 - `walk`, `Galloped`, `gallop`, `minimum`: kept lists with every link valid.
 - `Least`, `least`: the least error that so many samples allow.
+- `Summary`, `Report`, `report`: a row for each channel of a crate, and totals.
 - `expand`: the values of range codes.
 - `write`, `Content`, `read`, `same`: records of kept samples.
 - `Checked`, `check`: whether a record may stand for its trace, before that is erased.
@@ -24,7 +25,8 @@ Its links join neighbouring entries and are counted from 0.
 Lists are lent as buffers and not copied: arrays of numpy, array.array, bytes, bytearray,
 memoryview, or anything else with a one-dimensional, contiguous, aligned buffer of these elements.
 Other elements and masked arrays raise TypeError; nothing is converted. Only a list, a tuple or a
-range of whole numbers is copied into such a buffer; a number that does not fit raises OverflowError.
+range of whole numbers is copied into such a buffer, and the few lengths of `report`, whatever holds
+them; a number that does not fit raises OverflowError.
 
 An output is a buffer that the caller lends, or is made anew: an array of numpy if the ticks (the
 codes, the record) are one or if that is asked for (`expand`, `read`), otherwise an array.array. Of a
@@ -32,7 +34,8 @@ lent output only the entries used change, and the call returns a view of these. 
 list; one that does raises ValueError.
 
 A call may run at the same time as others on any threads. Nothing else may write to a lent list
-before the call returns. minimum and least take up to 18 KiB of stack, every other call under 1 KiB.
+before the call returns. minimum and least take up to 18 KiB of stack, report up to 14 KiB, every
+other call under 1 KiB.
 
 >>> ticks, values = [0, 1, 3], [0, 1, 1]
 >>> kept = walk(ticks, values, Ratio(4, 6))
@@ -48,13 +51,15 @@ kovrelna.Refusal: refused as 6: no kept list: it ends with 1, not with the last 
 
 from __future__ import annotations
 
+import ctypes
 import operator
 from dataclasses import dataclass
 from fractions import Fraction
-from typing import Any, NamedTuple, Optional, SupportsIndex, overload
+from typing import Any, List, NamedTuple, Optional, SupportsIndex, overload
 
 from . import _library, _tolerance
-from ._lists import BYTE, ENTRY, TICK, VALUE, Lent, Loan, Numbers, Output, new, used
+from ._lists import BYTE, ENTRY, LENGTH, SPARE, TICK, VALUE, Lent, Loan, Numbers, Output, Whole
+from ._lists import new, used, whole
 from ._tolerance import Counts, Noise, Ratio, Tolerance
 from ._words import words
 
@@ -69,6 +74,8 @@ __all__ = [
     "Noise",
     "Ratio",
     "Refusal",
+    "Report",
+    "Summary",
     "Verdict",
     "check",
     "expand",
@@ -78,20 +85,22 @@ __all__ = [
     "least",
     "minimum",
     "read",
+    "report",
     "same",
     "walk",
     "write",
 ]
 
-# The most samples that a trace has, and one for `least`.
+# The most samples that a trace has, and one for `least`; the most channels of a crate.
 _SAMPLES = 4096
 _LEAST_SAMPLES = 256
+_CHANNELS = 64
 
 
 class Refusal(ValueError):
-    """A call declined. It checks the rows that concern it in rising number and answers with the
-    first that fits; a refused call leaves every list as it was. `number` and `value` are the row's;
-    `words` say what is wrong with what was given.
+    """A call declined. It checks the rows that concern it in rising number, only 11 before all
+    others, and answers with the first that fits; a refused call leaves every list as it was.
+    `number` and `value` are the row's; `words` say what is wrong with what was given.
 
     | Number | Cause | Value |
     |---|---|---|
@@ -106,6 +115,7 @@ if it only stops short; 0 if it is empty |
     | 8 | the record is faulty | the fault's byte |
     | 9 | the second record of a comparison is faulty | the fault's byte |
     | 10 | the output is too short | the entries or bytes needed |
+    | 11 | there are no channels, more than 64, or lengths that do not add up to the lists | 0 |
 
     A bad entry is a first one that is not 0, one that is not above the entry before it, or one beyond
     the trace.
@@ -294,6 +304,72 @@ def least(
         _library.least, ticks, values, lent, out, most=_LEAST_SAMPLES, allowance=allowance
     )
     return Least(kept, Fraction(answer.p, answer.q))
+
+
+class Summary(NamedTuple):
+    """A channel's row in a `Report`. If its trace is refused, all else is 0."""
+
+    samples: int
+    """Its samples."""
+    kept: int
+    """How many of them `walk` keeps."""
+    error: Fraction
+    """The error of walk's list: that of its worst link."""
+    number: int
+    """0, or the number under which its trace is refused: 1, 2 or 3."""
+
+
+class Report(NamedTuple):
+    """What `report` returns."""
+
+    rows: List[Summary]
+    """A row for each channel."""
+    samples: int
+    """The sum of the rows' samples."""
+    kept: int
+    """The sum of their kept numbers."""
+    error: Fraction
+    """The greatest of their errors."""
+
+
+def report(ticks: Lent, values: Lent, lengths: Whole, tolerance: Tolerance) -> Report:
+    """Reports on a crate of 1 to 64 channels, whose traces come end to end in ticks and values;
+    `lengths` has the number of samples of each: whole numbers in a list, an array of any kind, or
+    anything else that gives them in turn. The rows are a list of named tuples, also where the ticks
+    are an array of numpy.
+
+    A row depends on its channel's trace and on the tolerance, on nothing else in the crate. A
+    channel whose trace is refused, such as one of no samples or of more than 4,096, has the number
+    in its row, and the call goes on. Refusals: 11, before all others; 4.
+
+    >>> crate = report([0, 1, 2, 5, 5], [0, 3, 0, 1, 1], [3, 2], 3)
+    >>> crate.rows[0]
+    Summary(samples=3, kept=2, error=Fraction(3, 1), number=0)
+    >>> crate.rows[1]
+    Summary(samples=0, kept=0, error=Fraction(0, 1), number=2)
+    >>> crate.samples, crate.kept, crate.error
+    (3, 2, Fraction(3, 1))
+    """
+    # One channel too many is refused as more are.
+    parts = whole("lengths", lengths, LENGTH, _CHANNELS + 1)
+    most = sum(parts) + SPARE
+    rows = (_library.Summary * len(parts))()
+    with Loan() as loan:
+        answer = _library.report(
+            *loan.input("ticks", ticks, TICK, most),
+            *loan.input("values", values, VALUE, most),
+            *loan.input("lengths", parts, LENGTH),
+            _tolerance.lend(tolerance),
+            ctypes.addressof(rows),
+            len(rows),
+        )
+        _check(answer, loan, tolerance=tolerance)
+    return Report(
+        [Summary(row.samples, row.kept, Fraction(row.p, row.q), row.number) for row in rows],
+        answer.samples,
+        answer.kept,
+        Fraction(answer.p, answer.q),
+    )
 
 
 def expand(codes: Lent, out: Optional[Output] = None, *, numpy: bool = False) -> Numbers:

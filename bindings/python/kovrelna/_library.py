@@ -39,6 +39,29 @@ class Fractional(Structure):
     _fields_ = [("number", c_uint32), ("value", c_uint64), ("p", c_uint64), ("q", c_uint64)]
 
 
+class Summary(Structure):
+    """A row of a report."""
+
+    _fields_ = [
+        ("samples", c_size_t),
+        ("kept", c_size_t),
+        ("p", c_uint64),
+        ("q", c_uint64),
+        ("number", c_uint32),
+    ]
+
+
+class Totals(Structure):
+    _fields_ = [
+        ("number", c_uint32),
+        ("value", c_uint64),
+        ("samples", c_uint64),
+        ("kept", c_uint64),
+        ("p", c_uint64),
+        ("q", c_uint64),
+    ]
+
+
 def _load() -> ctypes.CDLL:
     """The library that KOVRELNA_LIBRARY names, else the one beside this file, else the one that the
     system's loader finds."""
@@ -74,6 +97,7 @@ walk = _declare("walk", Answer, *_LIST, *_LIST, Tolerance, *_LIST)
 gallop = _declare("gallop", Galloped, *_LIST, *_LIST, Tolerance, *_LIST)
 minimum = _declare("minimum", Answer, *_LIST, *_LIST, Tolerance, *_LIST)
 least = _declare("least", Fractional, *_LIST, *_LIST, c_uint64, *_LIST)
+report = _declare("report", Totals, *_LIST, *_LIST, *_LIST, Tolerance, *_LIST)
 expand = _declare("expand", Answer, *_LIST, *_LIST)
 write = _declare("write", Answer, *_LIST, *_LIST, *_LIST, Tolerance, *_LIST, c_size_t)
 read = _declare("read", Fractional, *_LIST, *_LIST, *_LIST)

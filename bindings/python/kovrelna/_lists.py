@@ -2,8 +2,10 @@
 
 - `Lent`, `Output`, `Numbers`: the types of a list that is lent, of one that is to be written, and of
   one that comes back.
-- `Item`: what the elements of a list are; `TICK`, `VALUE`, `ENTRY`, `BYTE`.
+- `Whole`: the type of whole numbers that are copied, of any kind.
+- `Item`: what the elements of a list are; `TICK`, `VALUE`, `ENTRY`, `BYTE`, `LENGTH`.
 - `Loan`: the lists lent to one call, as addresses and lengths. Buffers are not copied.
+- `whole`: a copy of whole numbers.
 - `new`, `used`: a new output; the elements that a call has written.
 
 Assumes CPython, whose buffers are reached through its C interface.
@@ -12,10 +14,11 @@ Assumes CPython, whose buffers are reached through its C interface.
 import array
 import ctypes
 import importlib
+import itertools
 import operator
 import sys
-from typing import TYPE_CHECKING, Any, Dict, FrozenSet, List, NamedTuple, Optional, Protocol
-from typing import Sequence, SupportsIndex, Tuple, Union
+from typing import TYPE_CHECKING, Any, Dict, FrozenSet, Iterable, List, NamedTuple, Optional
+from typing import Protocol, Sequence, SupportsIndex, Tuple, Union
 
 if TYPE_CHECKING:
     from _typeshed import ReadableBuffer, WriteableBuffer
@@ -31,6 +34,7 @@ class Array(Protocol):
 # A buffer, or a list, a tuple or a range of whole numbers; a buffer that can be written.
 Lent = Union[Sequence[SupportsIndex], "ReadableBuffer", Array]
 Output = Union["WriteableBuffer", Array]
+Whole = Union[Iterable[SupportsIndex], Array]
 # What comes back: an array of numpy or of module array, or a memoryview.
 Numbers = Any
 
@@ -69,9 +73,13 @@ TICK = Item("I", 4, 0, 2**32 - 1, UNSIGNED)
 VALUE = Item("h", 2, -(2**15), 2**15 - 1, SIGNED)
 ENTRY = Item("H", 2, 0, 2**16 - 1, UNSIGNED)
 BYTE = Item("B", 1, 0, 2**8 - 1, UNSIGNED | {"c"})
+LENGTH = Item("Q", 8, 0, 2**64 - 1, UNSIGNED)
 
-# No call takes more elements of a list: one that has more is refused as its beginning is.
+# No list of one trace, and no record, has more elements: one that has more is refused as its
+# beginning is.
 MOST = 2**16
+# The same of a crate: so many elements more than the lengths add up to.
+SPARE = 2**20
 
 
 class _Buffer(ctypes.Structure):
@@ -127,11 +135,13 @@ class Loan:
                 _release_buffer(lent.buffer)
             lent.view.release()
 
-    def input(self, name: str, given: Any, item: Item) -> Tuple[Optional[int], int]:
+    def input(
+        self, name: str, given: Any, item: Item, most: int = MOST
+    ) -> Tuple[Optional[int], int]:
         """The address and the length of a buffer, or of a copy of a list, a tuple or a range: of its
-        first `MOST` elements."""
+        first `most` elements."""
         if isinstance(given, (list, tuple, range)):
-            given = _converted(name, given[:MOST], item)
+            given = _converted(name, given[:most], item)
         return self._lend(name, given, item, False)
 
     def output(self, name: str, given: Any, item: Item) -> Tuple[Optional[int], int]:
@@ -226,6 +236,18 @@ def _converted(name: str, given: Any, item: Item) -> "array.array[int]":
                 message = f"{name}[{position}] must be from {item.least} to {item.most}"
                 raise OverflowError(f"{message}, not {element}") from None
         raise
+
+
+def whole(name: str, given: Any, item: Item, most: int) -> "array.array[int]":
+    """A copy of the first `most` whole numbers, whatever holds them."""
+    if hasattr(given, "mask"):
+        raise TypeError(f"{name} must be whole numbers: it has a mask, which would be lost")
+    try:
+        numbers = iter(given)
+    except TypeError:
+        message = f"{name} must be whole numbers, such as a list of them, not {given!r}"
+        raise TypeError(message) from None
+    return _converted(name, list(itertools.islice(numbers, most)), item)
 
 
 def _is_numpy(given: Any) -> bool:

@@ -3,7 +3,7 @@
 from typing import SupportsIndex
 
 from . import _tolerance
-from ._lists import ENTRY, TICK, Loan
+from ._lists import ENTRY, LENGTH, SPARE, TICK, Loan
 
 
 def words(
@@ -36,6 +36,8 @@ def words(
         entries = loan.numbers(ENTRY)
         link = f"from sample {entries[value]} to sample {entries[value + 1]}"
         return f"link {value}, {link}, is invalid at this tolerance"
+    if number == 11:
+        return _crate(loan)
     if number in (8, 9):
         return f"the {'second ' if number == 9 else ''}record is faulty at byte {value}"
     return f"the output is too short: {_room(loan, value, place)}"
@@ -49,6 +51,19 @@ def _length(loan: Loan, most: int) -> str:
     if any(length != inputs[0][1] for _, length in inputs):
         return "not as many values as ticks: " + " and ".join(f"{n} {name}" for name, n in inputs)
     return f"no {what}"
+
+
+def _crate(loan: Loan) -> str:
+    """What keeps the first two lists from being those of the channels."""
+    lengths = loan.numbers(LENGTH)
+    if len(lengths) == 0:
+        return "no channels"
+    if len(lengths) > 64:
+        return "too many channels: at most 64 are allowed"
+    total = sum(lengths)
+    counts = [(lent.name, len(lent.view)) for lent in loan.lists[:2]]
+    there = " and ".join(f"{n if n < total + SPARE else 'more'} {name}" for name, n in counts)
+    return f"the lengths add up to {total}, and there are {there}"
 
 
 def _entry(loan: Loan, position: int) -> str:

@@ -1,9 +1,10 @@
-"""The slow reference: document 01 once more, with fractions, clear before fast. It knows nothing of
-the library that is compared with it.
+"""The slow reference: document 01 and wish 1 of document 02 once more, with fractions, clear before
+fast. It knows nothing of the library that is compared with it.
 
 - `Refused`: a row of the table of refusals.
 - `held`: a tolerance. Its forms are ("ratio", p, q), ("counts", x) and ("noise", noise, multiple).
-- `judge`, `walk`, `gallop`, `minimum`, `least`, `expand`, `write`, `read`, `same`: the calls.
+- `judge`, `walk`, `gallop`, `minimum`, `least`, `report`, `expand`, `write`, `read`, `same`: the
+  calls.
 """
 
 import itertools
@@ -11,6 +12,7 @@ from fractions import Fraction
 
 SAMPLES = 4096
 SPAN = 1048575
+CHANNELS = 64
 
 
 class Refused(Exception):
@@ -168,6 +170,28 @@ def least(ticks, values, allowance, room):
     for kept in kept_lists(len(ticks), len(ticks)):
         if list_error(ticks, values, kept) <= error:
             return kept, error
+
+
+def row(ticks, values, tolerance):
+    """A channel's samples, walk's kept number, the error of its list, and a refusal's number or 0."""
+    try:
+        kept = walk(ticks, values, tolerance, len(ticks))
+    except Refused as refused:
+        return 0, 0, Fraction(0), refused.args[0]
+    return len(ticks), len(kept), list_error(ticks, values, kept), 0
+
+
+def report(ticks, values, lengths, tolerance, room):
+    """The rows, both sums and the largest error. Row 11, then 4 and 10."""
+    if not 1 <= len(lengths) <= CHANNELS or not len(ticks) == len(values) == sum(lengths):
+        raise Refused(11, 0)
+    held(tolerance)
+    check_room(room, len(lengths))
+    ends = list(itertools.accumulate(lengths))
+    parts = [slice(end - length, end) for end, length in zip(ends, lengths)]
+    rows = [row(ticks[part], values[part], tolerance) for part in parts]
+    samples, kept, errors, _ = zip(*rows)
+    return rows, sum(samples), sum(kept), max(errors)
 
 
 def expand(codes, room):

@@ -99,6 +99,20 @@ class Figures(Case):
         self.assertEqual((list(content.ticks), list(content.values)), ([0, 3], [0, 1]))
         self.assertEqual(content.tolerance, Fraction(2, 3))
 
+    def test_report(self):
+        crate = [0, 1, 2, 3, 4, 5, 5, 7], WAVE + [1, 1, 9], [5, 0, 2, 1]
+        rows = [(5, 3, 2, 0), (0, 0, 0, 1), (0, 0, 0, 2), (1, 1, 0, 0)]
+        for form in (2, Ratio(4, 2), Counts(2), Noise(0.5, 4)):
+            answer = kovrelna.report(*crate, form)
+            self.assertEqual(answer, (rows, 6, 4, 2))
+            self.assertEqual({type(row.error) for row in answer.rows}, {Fraction})
+            self.assertIs(type(answer.error), Fraction)
+        two_thirds = kovrelna.report([0, 1, 3], [0, 1, 1], [3], Ratio(4, 6))
+        self.assertEqual(two_thirds.rows[0].error, Fraction(2, 3))
+        self.assertEqual((two_thirds.samples, two_thirds.kept), (3, 2))
+        # Every channel is refused.
+        self.assertEqual(kovrelna.report([], [], [0], 1), ([(0, 0, 0, 1)], 0, 0, 0))
+
     def test_codes(self):
         values = [31, 32, 94, 96, 8032]
         self.assertEqual(list(kovrelna.expand([31, 32, 63, 64, 255])), values)
@@ -198,6 +212,9 @@ class Refusals(Case):
                 self.refused(number, value, kovrelna.least, ticks, values, allowance)
                 out = array.array("H")
                 self.refused(number, value, kovrelna.least, ticks, values, allowance, out)
+            if len(ticks) == len(values) and tolerance == 0:
+                crate = kovrelna.report(ticks, values, [len(ticks)], tolerance)
+                self.assertEqual(crate, ([(0, 0, 0, number)], 0, 0, 0))
             for kept in ([0, 4], [], [1]):
                 self.refused(number, value, kovrelna.judge, ticks, values, kept, tolerance)
                 self.refused(number, value, kovrelna.write, ticks, values, kept, tolerance)
@@ -210,6 +227,18 @@ class Refusals(Case):
             self.refused(4, 0, call, EVEN, self.flat, none, array.array("H"))
         self.refused(4, 0, kovrelna.judge, EVEN, self.flat, [1], none)
         self.refused(4, 0, kovrelna.write, EVEN, self.flat, [1], none, bytearray(0))
+        self.refused(4, 0, kovrelna.report, EVEN, self.flat, [5], none)
+
+    def test_crates(self):
+        for lengths in ([], [4], [6], [5, 1], [2**64 - 1, 6], [2**63, 2**63, 5], [1] * 65):
+            for tolerance in (0, Ratio(0, 0)):
+                self.refused(11, 0, kovrelna.report, EVEN, self.flat, lengths, tolerance)
+                self.refused(11, 0, kovrelna.report, [0] * 65, self.flat, lengths, tolerance)
+        self.refused(11, 0, kovrelna.report, EVEN, [0] * 4, [5], 0)
+        self.refused(11, 0, kovrelna.report, EVEN, [0] * 4, [4], 0)
+        self.refused(11, 0, kovrelna.report, [], [], [0] * 65, 0)
+        self.refused(11, 0, kovrelna.report, [], [], [2**58] * 64, 0)
+        self.assertEqual(kovrelna.report([], [], [0] * 64, 0).rows, [(0, 0, 0, 1)] * 64)
 
     def test_allowances(self):
         out = array.array("H")
@@ -339,6 +368,17 @@ class Words(Case):
             self.says(4, words, kovrelna.judge, EVEN, self.flat, [0, 4], tolerance)
             self.says(4, words, kovrelna.write, EVEN, self.flat, [0, 4], tolerance)
 
+    def test_crates(self):
+        self.says(11, "no channels", kovrelna.report, EVEN, self.flat, [], 1)
+        words = "too many channels: at most 64 are allowed"
+        self.says(11, words, kovrelna.report, EVEN, self.flat, range(10**12), 1)
+        words = "the lengths add up to 7, and there are 5 ticks and 5 values"
+        self.says(11, words, kovrelna.report, EVEN, self.flat, [3, 4], 1)
+        words = "the lengths add up to 5, and there are 5 ticks and 70000 values"
+        self.says(11, words, kovrelna.report, EVEN, [0] * 70000, [5], 1)
+        words = "the lengths add up to 5, and there are more ticks and 5 values"
+        self.says(11, words, kovrelna.report, range(10**30), self.flat, [5], 1)
+
     def test_allowances(self):
         words = "the allowance must be from 2 to 4,096, not 1"
         self.says(5, words, kovrelna.least, EVEN, self.flat, 1)
@@ -402,6 +442,11 @@ class Longest(Case):
         self.assertEqual(kovrelna.read(record), (ticks, values, 0))
         self.assertTrue(kovrelna.same(record, record))
         self.assertEqual(len(kovrelna.expand(bytes(4096))), 4096)
+        crate = kovrelna.report(64 * ticks, 64 * values, [4096] * 64, 0)
+        self.assertEqual(crate, ([(4096, 4096, 0, 0)] * 64, 64 * 4096, 64 * 4096, 0))
+        # Plain lists: a channel may be longer than a trace.
+        crate = kovrelna.report(range(10**5), [0] * 10**5, [10**5 - 4096, 4096], 0)
+        self.assertEqual(crate, ([(0, 0, 0, 1), (4096, 2, 0, 0)], 4096, 2, 0))
 
 
 class Buffers(Case):
@@ -463,6 +508,28 @@ class Buffers(Case):
             self.assertEqual(view, RECORD)
             event[place] = 0
             self.assertEqual(view[0], 0)
+
+    def test_crates(self):
+        ticks, values = array.array("I", [0, 1, 3, 5]), array.array("h", [0, 1, 1, 9])
+        expected = [(3, 2, Fraction(2, 3), 0), (1, 1, 0, 0)]
+        lengths = [array.array(code, [3, 1]) for code in "bBhHiIlLqQ"]
+        lengths += [[3, 1], (3, 1), range(3, 0, -2), b"\3\1", iter([3, 1]), memoryview(lengths[3])]
+        for given in lengths:
+            self.assertEqual(kovrelna.report(ticks, values, given, 1).rows, expected)
+        lent = self.lent("report", kovrelna.report, ticks, values, [3, 1], 1)
+        self.assertEqual(lent[:2], [ticks.buffer_info(), values.buffer_info()])
+        self.assertEqual([length for _, length in lent[2:]], [2, 2])
+        for given, kind, words in [
+            ([3, -1], OverflowError, r"^lengths\[1\] must be from 0 to 18446744073709551615, not -1$"),
+            ([2**64], OverflowError, r"^lengths\[0\] must be from 0 to"),
+            ([3, 1.0], TypeError, r"^lengths\[1\] must be a whole number, not 1.0$"),
+            ("31", TypeError, r"^lengths\[0\] must be a whole number, not '3'$"),
+            (4, TypeError, "^lengths must be whole numbers, such as a list of them, not 4$"),
+            (None, TypeError, "^lengths must be whole numbers, .*, not None$"),
+        ]:
+            with self.assertRaisesRegex(kind, words):
+                kovrelna.report(ticks, values, given, 1)
+        ticks.append(6)
 
     def test_kinds_of_buffers(self):
         words = (ctypes.c_uint32 * 3)(0, 1, 3)
@@ -534,6 +601,8 @@ class Buffers(Case):
         ]:
             with self.assertRaisesRegex(TypeError, "it has a mask, which would be lost$"):
                 kovrelna.walk(ticks, values, 1, out)
+        with self.assertRaisesRegex(TypeError, "^lengths must be .* which would be lost$"):
+            kovrelna.report(*trace, Masked("H", [2]), 1)
 
     def test_wrong_buffers(self):
         wrong = [
@@ -739,6 +808,19 @@ class Numpy(NumpyArrays, Case):
         with self.assertRaisesRegex(TypeError, "read-only"):
             kovrelna.walk(ticks, values, 1, out)
 
+    def test_crates(self):
+        ticks = numpy.array([0, 1, 3, 5], numpy.uint32)
+        values = numpy.array([0, 1, 1, 9], numpy.int16)
+        expected = [(3, 2, Fraction(2, 3), 0), (1, 1, 0, 0)]
+        for kind in ("i1", "u1", "i2", "u2", "i4", "u4", "i8", "u8", ">i8", ">u2"):
+            for lengths in (numpy.array([3, 1], kind), numpy.array([3, 9, 1], kind)[::2]):
+                crate = kovrelna.report(ticks, values, lengths, 1)
+                self.assertEqual(crate.rows, expected)
+                self.assertEqual({type(row) for row in crate.rows}, {kovrelna.Summary})
+        for lengths in (numpy.array([3.0, 1.0]), numpy.array([[3], [1]]), numpy.array(4)):
+            with self.assertRaisesRegex(TypeError, "^lengths"):
+                kovrelna.report(ticks, values, lengths, 1)
+
     def test_what_to_write_instead(self):
         two = numpy.array([[0, 7], [1, 7], [3, 7]])
         words = "ticks.astype(numpy.uint32), if all are from 0 to 4294967295"
@@ -870,6 +952,34 @@ class Reference(Case):
                 found = found.link
             self.assertEqual(found, expected, (ticks, values, kept, form))
         self.assertEqual(seen, {0, 1, 2, 3, 4, 5, 10})
+
+    def crate(self):
+        """A crate, sometimes one with channels or lengths that are at fault."""
+        choose = self.random.choice
+        ticks, values, lengths = [], [], []
+        for _ in range(choose([0, 1, 2, 3, 4, 5, 64, 65] if choose(range(8)) == 0 else [1, 2, 3, 4])):
+            channel = self.trace()
+            length = choose([len(channel[0])] * 8 + [0])
+            if choose(range(30)) == 0:
+                length, channel = 4097, (list(range(4097)), [0] * 4097)
+            ticks += channel[0][:length]
+            values += channel[1][:length]
+            lengths.append(length)
+        if choose(range(12)) == 0 and lengths:
+            lengths[self.random.randrange(len(lengths))] += choose([-1, 1, 2**63])
+        return ticks, values, [max(length, 0) for length in lengths]
+
+    def test_crates(self):
+        seen, rows = set(), set()
+        for _ in range(600):
+            (ticks, values, lengths), (form, tolerance) = self.crate(), self.tolerance()
+            expected = answer(reference.report, ticks, values, lengths, form, len(lengths))
+            found = answer(kovrelna.report, ticks, values, lengths, tolerance)
+            self.assertEqual(found, expected, (ticks, values, lengths, form))
+            refused = expected[0] == "refused"
+            seen.add(expected[1][0] if refused else 0)
+            rows.update([] if refused else [row[3] for row in expected[0]])
+        self.assertEqual((seen, rows), ({0, 4, 11}, {0, 1, 2, 3}))
 
     def test_records(self):
         seen = set()

@@ -24,6 +24,9 @@ kovrelna.gallop(Array(), Array(), Counts(2.5), Array()).kept.tolist()
 kovrelna.minimum(range(3), b"", Noise(1.5, 2.125))
 kovrelna.judge(ticks, values, kept, Ratio(1, 10)).link
 kovrelna.least(ticks, values, 2).error.denominator
+kovrelna.report(ticks, values, kept, 1).rows[0].error.denominator
+kovrelna.report(Array(), Array(), Array(), 1).kept.bit_length()
+kovrelna.report(ticks, values, (n for n in ticks), 1).error.denominator
 kovrelna.expand(b"", numpy=True)
 kovrelna.write(ticks, values, kept, 0.5).hex()
 kovrelna.write(ticks, values, kept, 0.5, bytearray(40), 8)
@@ -43,6 +46,9 @@ kovrelna.walk(ticks, values, 1, [0, 0, 0])  # type: ignore[arg-type]
 kovrelna.gallop(ticks, values, 1).samples  # type: ignore[attr-defined]
 kovrelna.judge(ticks, values, None, 1)  # type: ignore[arg-type]
 kovrelna.least(ticks, values, 2.0)  # type: ignore[arg-type]
+kovrelna.report(ticks, values, "31", 1)  # type: ignore[arg-type]
+kovrelna.report(ticks, values, 3, 1)  # type: ignore[arg-type]
+kovrelna.report(ticks, values, [3], 1).rows.samples  # type: ignore[attr-defined]
 kovrelna.expand("codes")  # type: ignore[arg-type]
 kovrelna.write(ticks, values, kept, 1, place=8)  # type: ignore[call-overload]
 kovrelna.read(7)  # type: ignore[arg-type]
