@@ -130,8 +130,8 @@ static void lend(struct list *list, enum placement placement) {
   if (placement == AT_END || placement == AT_START) protect(list, placement);
 }
 
-/* Whether the byte at k belongs to no field; only summaries have such bytes, behind their last field.
- * A call that writes an element may change them. */
+/* Whether the byte at k belongs to no field: a summary has such bytes behind its last one. A call
+ * that writes an element may change them. */
 static int is_padding(const struct list *list, size_t k) {
   return list->size == sizeof(kovrelna_summary) &&
          k % list->size >= offsetof(kovrelna_summary, number) + sizeof(uint32_t);

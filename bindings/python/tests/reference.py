@@ -173,7 +173,7 @@ def least(ticks, values, allowance, room):
 
 
 def row(ticks, values, tolerance):
-    """A channel's samples, walk's kept number, the error of its list, and a refusal's number or 0."""
+    """A channel's samples, walk's kept number, its list's error, and a refusal's number or 0."""
     try:
         kept = walk(ticks, values, tolerance, len(ticks))
     except Refused as refused:

@@ -520,7 +520,7 @@ class Buffers(Case):
         self.assertEqual(lent[:2], [ticks.buffer_info(), values.buffer_info()])
         self.assertEqual([length for _, length in lent[2:]], [2, 2])
         for given, kind, words in [
-            ([3, -1], OverflowError, r"^lengths\[1\] must be from 0 to 18446744073709551615, not -1$"),
+            ([3, -1], OverflowError, r"^lengths\[1\] must be from 0 to \d+, not -1$"),
             ([2**64], OverflowError, r"^lengths\[0\] must be from 0 to"),
             ([3, 1.0], TypeError, r"^lengths\[1\] must be a whole number, not 1.0$"),
             ("31", TypeError, r"^lengths\[0\] must be a whole number, not '3'$"),
@@ -957,7 +957,7 @@ class Reference(Case):
         """A crate, sometimes one with channels or lengths that are at fault."""
         choose = self.random.choice
         ticks, values, lengths = [], [], []
-        for _ in range(choose([0, 1, 2, 3, 4, 5, 64, 65] if choose(range(8)) == 0 else [1, 2, 3, 4])):
+        for _ in range(choose([0, 1, 2, 3, 4, 64, 65] if choose(range(8)) == 0 else [1, 2, 3, 4])):
             channel = self.trace()
             length = choose([len(channel[0])] * 8 + [0])
             if choose(range(30)) == 0:
