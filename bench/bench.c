@@ -3,9 +3,10 @@
  * bench: prints a table of times for each call, and the kept numbers.
  * bench kept: prints the kept numbers.
  * bench summary: prints each call's microseconds and its ratio to C on the pulse trace at tolerance
- *   7.5, with walk's list; for least with allowance 20.
+ *   7.5, with walk's list; for least with allowance 20; for report on crates of pulse traces.
  * bench trace, bench part: prints that trace, and the part of it for least.
- * bench once KIND FUNCTION: calls one function once, so that instructions can be counted. */
+ * bench once KIND FUNCTION [SAMPLES]: calls one function once, so that instructions can be counted;
+ *   report with so many samples a channel, 4,096 unless given. */
 #define _POSIX_C_SOURCE 199309L
 #include "kovrelna.h"
 #include "peers.h"
@@ -468,6 +469,107 @@ static void print_least(void) {
   }
 }
 
+/* ---- Crates ---- */
+
+/* A crate of SMALL samples a channel is reported on SMALL_CALLS times in each repetition. */
+enum { CHANNELS = KOVRELNA_CHANNELS_MAX, SMALL = 2, SMALL_CALLS = 64 };
+
+/* Traces end to end, and the rows that each of the two writes. */
+static uint32_t crate_ticks[CHANNELS * SAMPLES];
+static int16_t crate_values[CHANNELS * SAMPLES];
+static size_t crate_lengths[CHANNELS];
+static kovrelna_summary crate_rows[CHANNELS];
+static channel_row crate_rows_c[CHANNELS];
+
+/* So many samples a channel of the trace, from another sample on in each. */
+static void make_crate(size_t kind, size_t samples) {
+  size_t channel, k;
+  for (channel = 0; channel < CHANNELS; channel++) {
+    crate_lengths[channel] = samples;
+    for (k = 0; k < samples; k++) {
+      crate_ticks[channel * samples + k] = ticks[k];
+      crate_values[channel * samples + k] = values[kind][(k + 61 * channel) % SAMPLES];
+    }
+  }
+}
+
+static crate_totals library_report(size_t n, const int64_t *tolerance) {
+  kovrelna_totals found = kovrelna_report(
+      crate_ticks, n, crate_values, n, crate_lengths, CHANNELS,
+      kovrelna_ratio((uint64_t)tolerance[0], (uint64_t)tolerance[1]), crate_rows, CHANNELS);
+  crate_totals totals = {(size_t)found.samples, (size_t)found.kept, (int64_t)found.p,
+                         (int64_t)found.q};
+  return totals;
+}
+
+static crate_totals plain_report(size_t n, const int64_t *tolerance) {
+  return report_c(crate_ticks, crate_values, n, crate_lengths, CHANNELS, tolerance[0], tolerance[1],
+                  crate_rows_c, CHANNELS);
+}
+
+enum { REPORT, REPORT_C, REPORTS };
+
+static const struct {
+  const char *name;
+  crate_totals (*call)(size_t, const int64_t *);
+} REPORTER[REPORTS] = {{"kovrelna_report", library_report}, {"report_c", plain_report}};
+
+static void same_report(const crate_totals *found) {
+  const crate_totals *a = &found[REPORT], *b = &found[REPORT_C];
+  size_t k;
+  int same = a->samples == b->samples && a->kept == b->kept && a->p == b->p && a->q == b->q;
+  for (k = 0; k < CHANNELS; k++) {
+    const kovrelna_summary *x = &crate_rows[k];
+    const channel_row *y = &crate_rows_c[k];
+    same = same && x->samples == y->samples && x->kept == y->kept && x->p == (uint64_t)y->p &&
+           x->q == (uint64_t)y->q && x->number == y->number;
+  }
+  if (!same || b->q == 0) fail("report and its peer differ");
+}
+
+/* Microseconds of each, their ratio, and the totals. */
+typedef struct report_row {
+  double times[REPORTS], ratio;
+  crate_totals totals;
+} report_row;
+
+static report_row measure_report(size_t kind, size_t samples, const int64_t *tolerance) {
+  static double list[REPORTS][REPETITIONS];
+  crate_totals found[REPORTS];
+  report_row row;
+  int calls = samples == SMALL ? SMALL_CALLS : 1, repetition, x, k;
+  make_crate(kind, samples);
+  for (repetition = 0; repetition < REPETITIONS; repetition++) {
+    for (x = 0; x < REPORTS; x++) {
+      double start = now();
+      for (k = 0; k < calls; k++) found[x] = REPORTER[x].call(CHANNELS * samples, tolerance);
+      list[x][repetition] = 1e-3 * (now() - start) / calls;
+    }
+  }
+  same_report(found);
+  for (x = 0; x < REPORTS; x++) row.times[x] = median_of(list[x], NULL, REPETITIONS);
+  row.ratio = median_of(list[REPORT], list[REPORT_C], REPETITIONS);
+  row.totals = found[REPORT];
+  return row;
+}
+
+static void print_report(size_t kind, size_t samples, const int64_t *tolerance) {
+  report_row row = measure_report(kind, samples, tolerance);
+  printf("%-8s %7zu %9.2f %7zu %9.2f %7.2f %7.2f\n", KINDS[kind], samples,
+         (double)tolerance[0] / (double)tolerance[1], row.totals.kept, row.times[REPORT],
+         row.times[REPORT_C], row.ratio);
+}
+
+static void print_reports(void) {
+  size_t kind, t;
+  printf("\nreport, %d channels of %d samples, and of 2. Microseconds a call.\n"
+         "         samples tolerance    kept  kovrelna       C   ratio\n",
+         CHANNELS, SAMPLES);
+  for (kind = 0; kind < COUNT(KINDS); kind++)
+    for (t = 0; t < COUNT(TOLERANCES); t++) print_report(kind, SAMPLES, TOLERANCES[t]);
+  print_report(0, SMALL, TOLERANCES[1]);
+}
+
 /* ---- Tables ---- */
 
 static void print_times(void) {
@@ -554,6 +656,7 @@ static void print_shortest(void) {
 static void print_summary(void) {
   static kept_record r;
   least_row least;
+  report_row report, small;
   int x;
   measure(&rows[0], 0, TOLERANCES[1]);
   for (x = WALK; x <= MINIMUM; x += 2)
@@ -561,6 +664,10 @@ static void print_summary(void) {
                median(&rows[0], x, x + 1));
   least = measure_least(0, 20);
   print_line(LEASTER[LEAST].name, 1e3 * least.times[LEAST], least.ratio);
+  report = measure_report(0, SAMPLES, TOLERANCES[1]);
+  print_line(REPORTER[REPORT].name, report.times[REPORT], report.ratio);
+  small = measure_report(0, SMALL, TOLERANCES[1]);
+  print_line("kovrelna_small", small.times[REPORT], small.ratio);
   measure_records(&r, 0, 0);
   for (x = 0; x < RECORDERS; x += 2)
     print_line(RECORDER[x].name, median_of(record_times[x], NULL, REPETITIONS),
@@ -580,8 +687,9 @@ int main(int argc, char **argv) {
   int x;
   make_traces();
   make_few();
-  if (argc == 4 && strcmp(argv[1], "once") == 0) {
+  if ((argc == 4 || argc == 5) && strcmp(argv[1], "once") == 0) {
     static kept_record record;
+    size_t samples = argc == 5 ? (size_t)atoi(argv[4]) : SAMPLES;
     for (kind = 0; kind < COUNT(KINDS); kind++) {
       if (strcmp(argv[2], KINDS[kind]) != 0) continue;
       for (x = 0; x < REDUCERS; x++)
@@ -593,6 +701,10 @@ int main(int argc, char **argv) {
       }
       for (x = 0; x < LEASTS; x++)
         if (strcmp(argv[3], LEASTER[x].name) == 0) call_least(x, kind, 20);
+      make_crate(kind, samples);
+      for (x = 0; x < REPORTS; x++)
+        if (strcmp(argv[3], REPORTER[x].name) == 0)
+          REPORTER[x].call(CHANNELS * samples, TOLERANCES[1]);
     }
     return 0;
   }
@@ -605,6 +717,7 @@ int main(int argc, char **argv) {
       measure(&rows[kind * COUNT(TOLERANCES) + t], kind, TOLERANCES[t]);
   print_times();
   print_least();
+  print_reports();
   print_records();
   puts("");
   print_kept();

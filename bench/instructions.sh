@@ -7,7 +7,7 @@ if ! command -v valgrind >/dev/null; then
 fi
 kinds="pulse noise ramp zigzag spike"
 
-# table SAMPLES CALL..
+# table SAMPLES CALL..: calls of so many samples in all; where `each` is set, so many a channel.
 table() {
   samples=$1
   shift
@@ -19,7 +19,7 @@ table() {
       printf '%-16s' "$function"
       for kind in $kinds; do
         valgrind --tool=callgrind --callgrind-out-file=/dev/null --toggle-collect="$function" \
-          "$bench" once "$kind" "$function" 2>&1 |
+          "$bench" once "$kind" "$function" ${each:-} 2>&1 |
           awk -v samples="$samples" '/Collected/ { printf " %10.1f", $NF / samples }'
       done
       echo
@@ -34,3 +34,10 @@ table 4096 walk gallop minimum write read judge expand
 echo
 echo "Instructions a sample, whole call, 256 samples, allowance 20"
 table 256 least
+echo
+echo "Instructions a sample, whole call, 64 channels of 4096 samples, tolerance 7.50"
+table 262144 report
+echo
+echo "The same, 64 channels of 2 samples"
+kinds=pulse each=2
+table 128 report

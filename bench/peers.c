@@ -2,7 +2,7 @@
 
 #include <string.h>
 
-enum { SAMPLES = 4096, SPAN = 1048575 };
+enum { SAMPLES = 4096, SPAN = 1048575, CHANNELS = 64 };
 
 static int is_trace(const uint32_t *ticks, size_t n) {
   unsigned stuck = 0;
@@ -199,7 +199,7 @@ reduced douglas_peucker_c(const uint32_t *ticks, const int16_t *values, size_t n
   return answer;
 }
 
-/* The fraction p/q, q from 1 to SPAN. */
+/* The fraction p/q, p below 2^38 and q from 1 to SPAN. */
 typedef struct fraction {
   int64_t p, q;
 } fraction;
@@ -247,16 +247,88 @@ static void neighbours(int64_t p, int64_t q, fraction *left, fraction *right) {
   *right = r;
 }
 
+/* Not in lowest terms. */
 static fraction link_error(const uint32_t *ticks, const int16_t *values, size_t i, size_t j) {
-  int64_t run = ticks[j] - (int64_t)ticks[i], change = values[j] - values[i], greatest = 0;
+  int64_t run = ticks[j] - (int64_t)ticks[i], change = values[j] - values[i];
+  fraction greatest = {0, run};
   size_t k;
   for (k = i + 1; k < j; k++) {
     int64_t rise = values[k] - values[i];
     int64_t deviation = rise * run - change * (ticks[k] - (int64_t)ticks[i]);
     if (deviation < 0) deviation = -deviation;
-    if (deviation > greatest) greatest = deviation;
+    if (deviation > greatest.p) greatest.p = deviation;
   }
-  return lowest(greatest, run);
+  return greatest;
+}
+
+/* The error of a kept list, in lowest terms. */
+static fraction list_error(const uint32_t *ticks, const int16_t *values, const uint16_t *list,
+                           size_t kept) {
+  fraction worst = {0, 1};
+  size_t k;
+  for (k = 1; k < kept; k++) {
+    fraction error = link_error(ticks, values, list[k - 1], list[k]);
+    if (at_most(worst, error)) worst = error;
+  }
+  return lowest(worst.p, worst.q);
+}
+
+/* The number under which a trace that is none is refused. */
+static unsigned refused_as(const uint32_t *ticks, size_t n) {
+  size_t k;
+  if (n == 0 || n > SAMPLES) return 1;
+  for (k = 1; k < n; k++)
+    if (ticks[k] <= ticks[k - 1]) return 2;
+  return 3;
+}
+
+static channel_row row_of(const uint32_t *ticks, const int16_t *values, size_t n, int64_t p,
+                          int64_t q) {
+  uint16_t list[SAMPLES];
+  channel_row row = {0, 0, 0, 1, 0};
+  fraction error;
+  row.kept = walk_c(ticks, values, n, p, q, list).kept;
+  if (row.kept == 0) {
+    row.number = refused_as(ticks, n);
+    return row;
+  }
+  error = list_error(ticks, values, list, row.kept);
+  row.samples = n;
+  row.p = error.p;
+  row.q = error.q;
+  return row;
+}
+
+/* Whether the lengths add up to n. */
+static int adds_up(const size_t *lengths, size_t channels, size_t n) {
+  size_t k;
+  for (k = 0; k < channels; k++) {
+    if (lengths[k] > n) return 0;
+    n -= lengths[k];
+  }
+  return n == 0;
+}
+
+crate_totals report_c(const uint32_t *ticks, const int16_t *values, size_t n, const size_t *lengths,
+                      size_t channels, int64_t p, int64_t q, channel_row *rows, size_t room) {
+  crate_totals totals = {0, 0, 0, 0};
+  fraction worst = {0, 1};
+  size_t k, at = 0;
+  if (channels == 0 || channels > CHANNELS || !adds_up(lengths, channels, n) || room < channels)
+    return totals;
+  for (k = 0; k < channels; k++) {
+    fraction error;
+    rows[k] = row_of(ticks + at, values + at, lengths[k], p, q);
+    at += lengths[k];
+    totals.samples += rows[k].samples;
+    totals.kept += rows[k].kept;
+    error.p = rows[k].p;
+    error.q = rows[k].q;
+    if (at_most(worst, error)) worst = error;
+  }
+  totals.p = worst.p;
+  totals.q = worst.q;
+  return totals;
 }
 
 /* A trace with the allowance, the list tried last, and the number of lists tried. */
@@ -270,15 +342,10 @@ typedef struct search {
 
 /* Whether the minimum's list at x has at most m samples; x is then its error. */
 static int fits(search *s, fraction *x) {
-  size_t kept = minimum_c(s->ticks, s->values, s->n, x->p, x->q, s->out).kept, k;
-  fraction worst = {0, 1};
+  size_t kept = minimum_c(s->ticks, s->values, s->n, x->p, x->q, s->out).kept;
   s->runs++;
   if (kept > s->m) return 0;
-  for (k = 1; k < kept; k++) {
-    fraction error = link_error(s->ticks, s->values, s->out[k - 1], s->out[k]);
-    if (at_most(worst, error)) worst = error;
-  }
-  *x = worst;
+  *x = list_error(s->ticks, s->values, s->out, kept);
   return 1;
 }
 
@@ -307,7 +374,10 @@ least_found least_c(const uint32_t *ticks, const int16_t *values, size_t n, size
   least_found found = {0, 0, 0, 0};
   int turn;
   if (n > 256 || !is_trace(ticks, n)) return found;
-  if (!fits(&s, &high)) high = link_error(ticks, values, 0, n - 1);
+  if (!fits(&s, &high)) {
+    high = link_error(ticks, values, 0, n - 1);
+    high = lowest(high.p, high.q);
+  }
   for (turn = 0; turn < 44 && !is_narrow(low, high); turn++) halve(&s, &low, &high);
   while (high.p > 0) {
     fraction x, right;

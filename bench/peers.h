@@ -49,6 +49,26 @@ typedef struct least_found {
 least_found least_c(const uint32_t *ticks, const int16_t *values, size_t n, size_t m,
                     uint16_t *out);
 
+/* A row of a report: the samples of a channel, walk's kept number and the error p/q of its list in
+ * lowest terms; or the number under which its trace is refused, with zeros and 0/1. */
+typedef struct channel_row {
+  size_t samples, kept;
+  int64_t p, q;
+  unsigned number;
+} channel_row;
+
+/* The sums of the rows' samples and kept numbers, and the greatest of their errors; q is 0 if the
+ * crate is refused. */
+typedef struct crate_totals {
+  size_t samples, kept;
+  int64_t p, q;
+} crate_totals;
+
+/* Reports on the channels whose traces of n samples come end to end: walk and the error of its list
+ * for each. Writes a row for each into the first of so many rows. */
+crate_totals report_c(const uint32_t *ticks, const int16_t *values, size_t n, const size_t *lengths,
+                      size_t channels, int64_t p, int64_t q, channel_row *rows, size_t room);
+
 /* Whether the list is a kept list of the trace and each link is valid. */
 int judge_c(const uint32_t *ticks, const int16_t *values, size_t n, const uint16_t *list,
             size_t kept, int64_t p, int64_t q);

@@ -13,6 +13,9 @@ from array import array
 import kovrelna
 
 
+CHANNELS = 64
+
+
 def lines(mode):
     """What the program prints in this mode, each line split."""
     ran = subprocess.run([sys.argv[1], mode], stdout=subprocess.PIPE, check=True)
@@ -23,6 +26,13 @@ def trace(mode):
     """Ticks and values."""
     columns = zip(*lines(mode))
     return [array(code, map(int, column)) for code, column in zip("Ih", columns)]
+
+
+def crate(ticks, values, samples):
+    """So many samples a channel of the trace, from another sample on in each, as in bench.c."""
+    twice = values + values
+    channels = [twice[start : start + samples] for start in range(0, 61 * CHANNELS, 61)]
+    return CHANNELS * ticks[:samples], sum(channels, array("h")), CHANNELS * [samples]
 
 
 def microseconds(call, *arguments):
@@ -62,11 +72,13 @@ def main():
         "gallop": (samples, kovrelna.gallop, *whole, 7.5),
         "minimum": (samples, kovrelna.minimum, *whole, 7.5),
         "least": (f"{len(part[0])} samples, allowance 20", kovrelna.least, *part, 20),
+        "report": (f"{CHANNELS} channels of {samples}", kovrelna.report, *crate(*whole, 4096), 7.5),
         "judge": (listed, kovrelna.judge, *whole, kept, 7.5),
         "write": (listed, kovrelna.write, *whole, kept, 7.5),
         "read": (f"a record of {len(kept)} samples", kovrelna.read, record),
         "expand": (f"{len(codes):,} codes", kovrelna.expand, codes),
         "shortest": ("2 samples", kovrelna.walk, *two, 7.5),
+        "small": (f"{CHANNELS} channels of 2 samples", kovrelna.report, *crate(*whole, 2), 7.5),
     }
     measured = {name: map(float, numbers) for name, *numbers in lines("summary")}
     print("| Call | Input | Library | × C | From Python |\n|---|---|---|---|---|")
