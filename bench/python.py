@@ -12,7 +12,6 @@ from array import array
 
 import kovrelna
 
-
 CHANNELS = 64
 
 

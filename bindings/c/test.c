@@ -265,8 +265,8 @@ static const uint8_t figure[] = {0x54, 0, 0, 0, 0, 2, 0, 0, 3, 0x41, 0, 0, 0, 0,
 static const uint32_t kept_ticks[] = {0, 3};
 static const int16_t kept_values[] = {0, 1};
 /* That trace as a crate of one channel, and its row. */
-static const size_t lengths[] = {3};
-static const kovrelna_summary summary[] = {{3, 2, 2, 3, 0}};
+static const size_t one_length[] = {3};
+static const kovrelna_summary one_row[] = {{3, 2, 2, 3, 0}};
 /* The codes of the seventh figure, and their values. */
 static const uint8_t some_codes[] = {31, 32, 63, 64, 255};
 static const int16_t code_values[] = {31, 32, 94, 96, 8032};
@@ -324,7 +324,7 @@ static const struct call {
      {0, 2, 0, 0, 2, 3, 0, 0}},
     {"same", call_same, 2, {IN(figure, 8, 0), IN(figure, 9, 0)}, {0, 0, 1, 0, 0, 0, 0, 0}},
     {"report", call_report, 4,
-     {IN(uneven, 11, 0), IN(step, 11, 0), IN(lengths, 11, 0), OUT(1, summary, 10, 1)},
+     {IN(uneven, 11, 0), IN(step, 11, 0), IN(one_length, 11, 0), OUT(1, one_row, 10, 1)},
      {0, 0, 0, 0, 2, 3, 3, 2}},
 };
 
@@ -855,10 +855,11 @@ static void reports(void) {
   const size_t three[] = {3, 3, 3, 2};
   const kovrelna_summary errors[] = {
       {3, 2, 2, 3, 0}, {3, 2, 3, 4, 0}, {3, 2, 1, 2, 0}, {0, 0, 0, 1, 3}};
-  /* Sums that would come round to the length of the lists, 8 or 0. */
-  const size_t round[] = {SIZE_MAX, 9}, halves[] = {SIZE_MAX / 2 + 1, 4, SIZE_MAX / 2 + 1, 4},
-               none[] = {0}, two_none[] = {0, 0};
+  /* Channels without samples. */
+  const size_t none[] = {0, 0};
   const kovrelna_summary empty[] = {{0, 0, 0, 1, 1}, {0, 0, 0, 1, 1}};
+  /* Sums that would come round to 8 in the type's range; `huge` has one that would come to 0. */
+  const size_t round[] = {SIZE_MAX, 9}, halves[] = {SIZE_MAX / 2 + 1, 4, SIZE_MAX / 2 + 1, 4};
   static uint32_t many_ticks[SAMPLES];
   static int16_t many_values[SAMPLES];
   static size_t many[CHANNELS + 1], zeros[CHANNELS + 1], huge[CHANNELS];
@@ -874,7 +875,7 @@ static void reports(void) {
   REPORT_ROWS(thirds, steps, three, kovrelna_ratio(1, 1), 5, totals(9, 6, 3, 4), errors);
   /* Every channel is refused. */
   report(__LINE__, NULL, 0, NULL, 0, none, 1, two, 1, totals(0, 0, 0, 1), empty);
-  report(__LINE__, NULL, 0, NULL, 0, two_none, 2, two, 3, totals(0, 0, 0, 1), empty);
+  report(__LINE__, NULL, 0, NULL, 0, none, 2, two, 3, totals(0, 0, 0, 1), empty);
 
   /* 11 before 4 before 10. */
   NO_REPORT(ticks, 8, values, 8, NULL, 0, bad, KOVRELNA_REFUSED_CRATE);
