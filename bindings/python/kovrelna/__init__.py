@@ -51,7 +51,6 @@ kovrelna.Refusal: refused as 6: no kept list: it ends with 1, not with the last 
 
 from __future__ import annotations
 
-import ctypes
 import operator
 from dataclasses import dataclass
 from fractions import Fraction
@@ -310,7 +309,7 @@ class Summary(NamedTuple):
     """A channel's row in a `Report`. If its trace is refused, all else is 0."""
 
     samples: int
-    """Its samples."""
+    """How many samples it has."""
     kept: int
     """How many of them `walk` keeps."""
     error: Fraction
@@ -350,7 +349,7 @@ def report(ticks: Lent, values: Lent, lengths: Whole, tolerance: Tolerance) -> R
     >>> crate.samples, crate.kept, crate.error
     (3, 2, Fraction(3, 1))
     """
-    # One channel too many is refused as more are.
+    # Where there are more channels, one too many is refused as well.
     parts = whole("lengths", lengths, LENGTH, _CHANNELS + 1)
     most = sum(parts) + SPARE
     rows = (_library.Summary * len(parts))()
@@ -360,7 +359,7 @@ def report(ticks: Lent, values: Lent, lengths: Whole, tolerance: Tolerance) -> R
             *loan.input("values", values, VALUE, most),
             *loan.input("lengths", parts, LENGTH),
             _tolerance.lend(tolerance),
-            ctypes.addressof(rows),
+            rows,
             len(rows),
         )
         _check(answer, loan, tolerance=tolerance)

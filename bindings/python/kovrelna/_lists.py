@@ -2,10 +2,9 @@
 
 - `Lent`, `Output`, `Numbers`: the types of a list that is lent, of one that is to be written, and of
   one that comes back.
-- `Whole`: the type of whole numbers that are copied, of any kind.
+- `Whole`, `whole`: the type of whole numbers that are copied, whatever holds them; the copy.
 - `Item`: what the elements of a list are; `TICK`, `VALUE`, `ENTRY`, `BYTE`, `LENGTH`.
 - `Loan`: the lists lent to one call, as addresses and lengths. Buffers are not copied.
-- `whole`: a copy of whole numbers.
 - `new`, `used`: a new output; the elements that a call has written.
 
 Assumes CPython, whose buffers are reached through its C interface.
@@ -34,6 +33,7 @@ class Array(Protocol):
 # A buffer, or a list, a tuple or a range of whole numbers; a buffer that can be written.
 Lent = Union[Sequence[SupportsIndex], "ReadableBuffer", Array]
 Output = Union["WriteableBuffer", Array]
+# Whole numbers, in whatever gives them in turn.
 Whole = Union[Iterable[SupportsIndex], Array]
 # What comes back: an array of numpy or of module array, or a memoryview.
 Numbers = Any
