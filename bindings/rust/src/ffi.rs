@@ -1,5 +1,7 @@
 //! The C interface, call by call, as safe functions. `kovrelna.h` describes the structs.
 
+use crate::Summary;
+
 #[repr(C)]
 pub struct Answer {
     pub number: u32,
@@ -49,6 +51,16 @@ pub struct Least {
 pub struct Content {
     pub number: u32,
     pub value: u64,
+    pub p: u64,
+    pub q: u64,
+}
+
+#[repr(C)]
+pub struct Report {
+    pub number: u32,
+    pub value: u64,
+    pub samples: u64,
+    pub kept: u64,
     pub p: u64,
     pub q: u64,
 }
@@ -128,6 +140,17 @@ extern "C" {
         second: *const u8,
         second_len: usize,
     ) -> Verdict;
+    fn kovrelna_report(
+        ticks: *const u32,
+        ticks_len: usize,
+        values: *const i16,
+        values_len: usize,
+        lengths: *const usize,
+        lengths_len: usize,
+        tolerance: Tolerance,
+        out: *mut Summary,
+        out_len: usize,
+    ) -> Report;
 }
 
 // Each pointer and length passed below are those of one slice, which is aligned, valid for reads and
@@ -254,4 +277,27 @@ pub fn read(record: &[u8], ticks: &mut [u32], values: &mut [i16]) -> Content {
 pub fn same(first: &[u8], second: &[u8]) -> Verdict {
     // SAFETY: as above; there is no output.
     unsafe { kovrelna_same(first.as_ptr(), first.len(), second.as_ptr(), second.len()) }
+}
+
+pub fn report(
+    ticks: &[u32],
+    values: &[i16],
+    lengths: &[usize],
+    tolerance: Tolerance,
+    out: &mut [Summary],
+) -> Report {
+    // SAFETY: as above; the output is `out`, whose entries are laid out as C's.
+    unsafe {
+        kovrelna_report(
+            ticks.as_ptr(),
+            ticks.len(),
+            values.as_ptr(),
+            values.len(),
+            lengths.as_ptr(),
+            lengths.len(),
+            tolerance,
+            out.as_mut_ptr(),
+            out.len(),
+        )
+    }
 }

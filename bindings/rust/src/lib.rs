@@ -6,6 +6,7 @@
 //! - [`Least`], [`least`]: the least error that a list of so many samples can have.
 //! - [`expand`]: the values of range codes.
 //! - [`write()`], [`Content`], [`read`], [`same`]: records of kept samples.
+//! - [`Summary`], [`Totals`], [`report`]: what walk does with each channel of a crate.
 //! - [`Refusal`]: why a call declined.
 //!
 //! A trace is two slices of equal length: ticks and values (ADC counts). It has 1 to 4,096 samples,
@@ -20,7 +21,7 @@
 //! neighbouring entries and are counted from 0.
 //!
 //! Every call accepts every input, allocates nothing and may run at the same time on any threads.
-//! [`minimum`] and [`least`] take up to 18 KiB of stack, every other call under 1 KiB.
+//! [`minimum`], [`least`] and [`report`] take up to 18 KiB of stack, every other call under 1 KiB.
 //!
 //! ```
 //! use kovrelna::{judge, walk, Refusal, Tolerance, Verdict};
@@ -41,8 +42,8 @@ mod ffi;
 
 use std::fmt;
 
-/// Why a call declined. A call checks the rows that concern it in the order below and answers with
-/// the first that fits; a refused call leaves every slice as it was.
+/// Why a call declined. A call checks the rows that concern it in the order below, [`Refusal::Crate`]
+/// before all others, and answers with the first that fits; a refused call leaves every slice as it was.
 #[derive(Clone, Copy, Debug, PartialEq, Eq, Hash)]
 pub enum Refusal {
     /// 1: no samples or codes, too many, or ticks and values differ in length.
@@ -67,10 +68,12 @@ pub enum Refusal {
     SecondRecord(usize),
     /// 10: the output is too short; the entries or bytes needed.
     Room(usize),
+    /// 11: a crate has no channels, more than 64, or lengths that do not add up to the lists.
+    Crate,
 }
 
 impl Refusal {
-    /// The refusal's number, 1 to 10.
+    /// The refusal's number, 1 to 11.
     pub fn number(self) -> u32 {
         match self {
             Refusal::Length => 1,
@@ -83,13 +86,14 @@ impl Refusal {
             Refusal::Record(_) => 8,
             Refusal::SecondRecord(_) => 9,
             Refusal::Room(_) => 10,
+            Refusal::Crate => 11,
         }
     }
 
     /// What is returned with the number: the payload, 0 where there is none.
     pub fn returned(self) -> usize {
         match self {
-            Refusal::Length | Refusal::Tolerance | Refusal::Allowance => 0,
+            Refusal::Length | Refusal::Tolerance | Refusal::Allowance | Refusal::Crate => 0,
             Refusal::Tick(value)
             | Refusal::Span(value)
             | Refusal::List(value)
@@ -115,6 +119,7 @@ impl Refusal {
             8 => Refusal::Record(value),
             9 => Refusal::SecondRecord(value),
             10 => Refusal::Room(value),
+            11 => Refusal::Crate,
             _ => unreachable!("there is no refusal {number}"),
         })
     }
@@ -162,6 +167,12 @@ impl fmt::Display for Refusal {
                     "the output is too short: {needed} entries or bytes are needed"
                 )
             }
+            Refusal::Crate => {
+                write!(
+                    f,
+                    "no channels, more than 64, or lengths that do not add up to the lists"
+                )
+            }
         }
     }
 }
@@ -202,11 +213,19 @@ impl From<Tolerance> for ffi::Tolerance {
 
 /// p/q in lowest terms; zero is 0/1.
 #[derive(Clone, Copy, Debug, PartialEq, Eq, Hash)]
+#[repr(C)]
 pub struct Ratio {
     /// The numerator.
     pub p: u64,
     /// The denominator.
     pub q: u64,
+}
+
+impl Default for Ratio {
+    /// Zero, 0/1.
+    fn default() -> Self {
+        Ratio { p: 0, q: 1 }
+    }
 }
 
 /// The tolerance as the reduced ratio under which it is held. Refusal: [`Refusal::Tolerance`].
@@ -537,4 +556,80 @@ pub fn same(first: &[u8], second: &[u8]) -> Result<bool, Refusal> {
     let verdict = ffi::same(first, second);
     Refusal::check(verdict.number, verdict.value)?;
     Ok(verdict.passed != 0)
+}
+
+/// What [`report`] says of a channel: its samples, what [`walk`] keeps of them, and the error of that
+/// list; or a refusal's number beside zeros. The default is all zeros.
+#[derive(Clone, Copy, Debug, Default, PartialEq, Eq, Hash)]
+#[repr(C)]
+pub struct Summary {
+    /// The number of samples; 0 if the channel is refused.
+    pub samples: usize,
+    /// Walk's kept number; 0 if the channel is refused.
+    pub kept: usize,
+    /// The error of the worst link of walk's list, in lowest terms; 0/1 if the channel is refused.
+    pub error: Ratio,
+    /// 0; or 1, 2 or 3 if the channel is refused, the number of [`Refusal::Length`], [`Refusal::Tick`]
+    /// or [`Refusal::Span`].
+    pub number: u32,
+}
+
+/// What [`report`] returns. A refused channel adds nothing.
+#[derive(Clone, Copy, Debug, PartialEq, Eq, Hash)]
+pub struct Totals {
+    /// The samples of all channels.
+    pub samples: usize,
+    /// Walk's kept numbers, added up.
+    pub kept: usize,
+    /// The largest error of a channel, in lowest terms; 0/1 where there is none.
+    pub error: Ratio,
+}
+
+/// Reports on a crate: up to 64 channels, whose traces come end to end in `ticks` and in `values`, with
+/// the number of samples of each in `lengths`.
+///
+/// The first entries of `out` are a summary for each channel, and those after them are as they were. A
+/// summary depends on the channel's own trace and on the tolerance alone. A channel that is no trace is
+/// refused in its own summary and does not end the report.
+///
+/// Refusals: [`Refusal::Crate`] if there are no channels, more than 64, or the lengths do not add up to
+/// the length of `ticks` and to that of `values`; then [`Refusal::Tolerance`]; then [`Refusal::Room`] if
+/// `out` has fewer entries than there are channels.
+///
+/// ```
+/// use kovrelna::{report, Ratio, Refusal, Summary, Tolerance, Totals};
+///
+/// let ticks = [0, 1, 2, 3, 4, 5, 5, 7];
+/// let values = [0, 2, 0, -2, 0, 1, 1, 9];
+/// let lengths = [5, 0, 2, 1];
+/// let two = Tolerance::Counts(2.0);
+/// let mut out = [Summary::default(); 4];
+/// let error = Ratio { p: 2, q: 1 };
+/// let totals = Totals { samples: 6, kept: 4, error };
+/// assert_eq!(report(&ticks, &values, &lengths, two, &mut out), Ok(totals));
+/// assert_eq!(out[0], Summary { samples: 5, kept: 3, error, number: 0 });
+/// // No samples; a tick not above the one before.
+/// assert_eq!(out[1], Summary { number: 1, ..Summary::default() });
+/// assert_eq!(out[2], Summary { number: 2, ..Summary::default() });
+/// assert_eq!(out[3], Summary { samples: 1, kept: 1, ..Summary::default() });
+/// let answer = report(&ticks, &values, &lengths[..3], two, &mut out);
+/// assert_eq!(answer, Err(Refusal::Crate));
+/// ```
+pub fn report(
+    ticks: &[u32],
+    values: &[i16],
+    lengths: &[usize],
+    tolerance: Tolerance,
+    out: &mut [Summary],
+) -> Result<Totals, Refusal> {
+    let answer = ffi::report(ticks, values, lengths, tolerance.into(), out);
+    Refusal::check(answer.number, answer.value)?;
+    Ok(Totals {
+        samples: answer.samples as usize,
+        kept: answer.kept as usize,
+        error: Ratio {
+            p: answer.p,
+            q: answer.q,
+        },
+    })
 }
