@@ -1,5 +1,5 @@
-//! The calls of document 01, the rows of its table of refusals that each has, and how often each call
-//! was compared on this thread, by what was answered.
+//! The calls, the rows of the table of refusals that each has, and how often each call was compared on
+//! this thread, by what was answered.
 
 use kovrelna_reference::Row;
 use std::cell::RefCell;
@@ -17,10 +17,11 @@ pub enum Call {
     Write,
     Read,
     Same,
+    Report,
 }
 
 /// Every call.
-pub const CALLS: [Call; 10] = [
+pub const CALLS: [Call; 11] = [
     Call::Hold,
     Call::Judge,
     Call::Walk,
@@ -31,10 +32,11 @@ pub const CALLS: [Call; 10] = [
     Call::Write,
     Call::Read,
     Call::Same,
+    Call::Report,
 ];
 
 /// How many rows the table has.
-pub const ROWS: usize = 10;
+pub const ROWS: usize = 11;
 
 /// How often a call was compared: first with an answer, then with each row of the table.
 pub type Counts = [u64; ROWS + 1];
@@ -52,10 +54,11 @@ impl Call {
             Call::Write => "write",
             Call::Read => "read",
             Call::Same => "same",
+            Call::Report => "report",
         }
     }
 
-    /// The numbers of the rows with which it may refuse, rising.
+    /// The numbers of the rows with which it may refuse, in the order in which it checks them.
     pub fn rows(self) -> &'static [u32] {
         match self {
             Call::Hold => &[4],
@@ -66,6 +69,7 @@ impl Call {
             Call::Write => &[1, 2, 3, 4, 6, 7, 10],
             Call::Read => &[8, 10],
             Call::Same => &[8, 9],
+            Call::Report => &[11, 4, 10],
         }
     }
 

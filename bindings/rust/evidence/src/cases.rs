@@ -3,17 +3,17 @@
 //!
 //! - [`FAMILIES`], [`any`]: every sort, and one drawn from them.
 //! - [`held_tolerances`], [`judge_list`], [`codes`], [`round_trip`], [`random_commands`],
-//!   [`comparison`], [`random_faults`]: sorts that the tests run by themselves too.
+//!   [`comparison`], [`random_faults`], [`crates`]: sorts that the tests run by themselves too.
 
 use crate::compare::{
-    exactly, expand, form, hold, judge, least, noise, ratio, read, reduce, same, write,
+    exactly, expand, form, hold, judge, least, noise, ratio, read, reduce, report, same, write,
 };
 use crate::reductions::{
     any_tolerance, least_list, lists, shortest_lists, size_bounds, tolerances,
 };
 use kovrelna::Tolerance::Counts;
 use kovrelna_reference::generate::{
-    any_trace, content, damaged, just_below, kept_list, Random, Trace,
+    any_trace, channels, content, damaged, just_below, kept_list, Random, Trace,
 };
 use kovrelna_reference::record::{encode, end, first, long, short, tolerance, Content};
 use kovrelna_reference::{held, link_error, list_error, trace_refusal, Fraction, METHODS, TRIED};
@@ -26,7 +26,7 @@ pub struct Family {
 }
 
 /// Every sort.
-pub const FAMILIES: [Family; 15] = [
+pub const FAMILIES: [Family; 17] = [
     Family {
         name: "tolerances",
         weight: 40,
@@ -106,6 +106,16 @@ pub const FAMILIES: [Family; 15] = [
         name: "faults",
         weight: 150,
         case: random_faults,
+    },
+    Family {
+        name: "crates",
+        weight: 40,
+        case: |random| crates(64, 30, random),
+    },
+    Family {
+        name: "crates of long traces",
+        weight: 1,
+        case: |random| crates(3, 4_096, random),
     },
 ];
 
@@ -388,6 +398,43 @@ pub fn random_faults(random: &mut Random) {
     let _ = write(&ticks, &values, &list, tolerance, 6 * room + 13, at);
     let allowance = random.choose(&[2, 3, 4, 1, 0, 4_097]);
     let _ = least(&ticks, &values, allowance, room);
+}
+
+/// A crate of so many channels at most, of traces of up to so many samples, with none, one or two faults
+/// that the call refuses: in its lengths, its lists, the tolerance or the output.
+pub fn crates(most: i64, samples: usize, random: &mut Random) {
+    let any = random.within(1, most) as usize;
+    let count = random.choose(&[1, 2, 3, any, any, most as usize]);
+    let mut channels = channels(count, samples, random);
+    let mut room = count + random.choose(&[0, 0, 1, 7]);
+    let mut traces = channels.traces().into_iter();
+    let good = traces.find(|trace| trace_refusal(&trace.ticks, &trace.values).is_none());
+    let tolerances = match good {
+        Some(trace) => tolerances(&trace, random),
+        None => vec![any_tolerance(random)],
+    };
+    let mut tolerance = random.choose(&tolerances);
+    let at = random.below(count as u64) as usize;
+    let length = channels.lengths[at];
+    for _ in 0..random.below(6).saturating_sub(3) {
+        match random.below(12) {
+            0 => channels.lengths[at] = length + 1,
+            1 => channels.lengths[at] = length.wrapping_sub(1),
+            2 => channels.lengths.clear(),
+            3 => channels.lengths.resize(65, 0),
+            4 => drop(channels.ticks.pop()),
+            5 => channels.values.push(0),
+            // The sum is that of the lists if it is cut to 64 bits, or to 32.
+            6 => channels.lengths.extend([usize::MAX, 1]),
+            7 => channels.lengths.push(1 << 32),
+            8 | 9 => tolerance = random.choose(&[ratio(1, 0), noise(0.0, -1.0)]),
+            _ => room = at,
+        }
+        if channels.lengths.len() != count {
+            break;
+        }
+    }
+    let _ = report(&channels, tolerance, room);
 }
 
 #[cfg(test)]

@@ -3,8 +3,10 @@
 //! difference panics, with the input. Each function returns the answer that both gave.
 
 use crate::calls::Call;
-use kovrelna::{Refusal, Tolerance, Verdict};
+use kovrelna::{Ratio, Refusal, Summary, Tolerance, Totals, Verdict};
+use kovrelna_reference::generate::Channels;
 use kovrelna_reference::record::{self, Content};
+use kovrelna_reference::report::{self, Report};
 use kovrelna_reference::{Form, Fraction, Least, Method, Reduced, Row};
 use std::hint::black_box;
 
@@ -345,4 +347,76 @@ pub fn same(one: &[u8], other: &[u8]) -> Result<bool, Row> {
         assert!(one.as_expected() && other.as_expected(), "{}", records());
     }
     expected
+}
+
+/// Calls `report` with an output of `room` entries between two kinds of guard elements, compares with the
+/// reference, sees that the output begins with the summaries and that no other element changed, and
+/// returns the report or the refusal's row.
+pub fn report(channels: &Channels, tolerance: Tolerance, room: usize) -> Result<Report, Row> {
+    let Channels {
+        ticks,
+        values,
+        lengths,
+    } = channels;
+    let expected = report::report(ticks, values, lengths, form(tolerance), room);
+    Call::Report.count(&expected);
+    for guards in GUARDS {
+        let ticks = Guarded::new(ticks, guards.0);
+        let values = Guarded::new(values, guards.1);
+        let lengths = Guarded::new(lengths, guards.2.into());
+        // No channel has such a summary.
+        let other = |k: usize| Summary {
+            samples: !k,
+            kept: !k,
+            error: Ratio { p: 7, q: 0 },
+            number: u32::MAX ^ guards.0,
+        };
+        let before: Vec<Summary> = (0..room).map(other).collect();
+        let mut out = Guarded::new(&before, other(room));
+        let (t, v, l) = (ticks.slice(), values.slice(), lengths.slice());
+        let answer = kovrelna::report(t, v, l, tolerance, out.slice_mut()).map_err(row);
+        let input = || {
+            format!(
+                "report on ticks, values, lengths: {t:?} {v:?} {l:?}\n{tolerance:?} room {room}"
+            )
+        };
+        let totals = match &expected {
+            Ok(report) => {
+                let summaries: Vec<Summary> = report.channels.iter().map(summary).collect();
+                out.expect(0, &summaries);
+                assert_eq!(out.slice()[..summaries.len()], summaries, "{}", input());
+                Ok(Totals {
+                    samples: report.samples,
+                    kept: report.kept,
+                    error: lowest(report.error),
+                })
+            }
+            Err(row) => Err(*row),
+        };
+        assert_eq!(answer, totals, "{}", input());
+        assert!(
+            ticks.as_expected()
+                && values.as_expected()
+                && lengths.as_expected()
+                && out.as_expected(),
+            "an input, a summary behind the last or an element beside a slice was changed\n{}",
+            input()
+        );
+    }
+    expected
+}
+
+/// The library's word for it.
+fn summary(channel: &report::Channel) -> Summary {
+    Summary {
+        samples: channel.samples,
+        kept: channel.kept,
+        error: lowest(channel.error),
+        number: channel.number,
+    }
+}
+
+fn lowest(Fraction { p, q }: Fraction) -> Ratio {
+    let (p, q) = (p as u64, q as u64);
+    Ratio { p, q }
 }

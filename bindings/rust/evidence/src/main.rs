@@ -1,4 +1,4 @@
-//! `evidence`: compares the library with the slow reference on random and adversarial traces and on
+//! `evidence`: compares the library with the slow reference on random and adversarial traces, crates and
 //! damaged records, for so many cases or minutes, and reports what was compared and what differed.
 
 use kovrelna_evidence::calls::{CALLS, ROWS};
@@ -14,9 +14,9 @@ use std::process::ExitCode;
 use std::time::{Duration, Instant};
 
 const HELP: &str = "\
-Compares the library with the slow reference on random and adversarial traces
-and on damaged records. Prints how often each call was compared, by answer and
-by refusal, and how many cases differed.
+Compares the library with the slow reference on random and adversarial traces,
+crates and damaged records. Prints how often each call was compared, by answer
+and by refusal, and how many cases differed.
 
 Usage: evidence [--cases N | --minutes M] [--seed S]
        evidence --seed S --case K

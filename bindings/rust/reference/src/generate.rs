@@ -1,4 +1,4 @@
-//! Repeatable random traces, lists and contents of records, chosen to find mistakes.
+//! Repeatable random traces, lists, contents of records and crates, chosen to find mistakes.
 //!
 //! - [`Random`]: numbers from a seed.
 //! - [`Trace`], [`Kind`], [`trace`]: traces within the limits, of several kinds.
@@ -7,9 +7,10 @@
 //! - [`kept_list`], [`damaged`]: kept lists, and lists with one or more faults.
 //! - [`just_below`]: the tolerance nearest below a link's error.
 //! - [`content`]: contents of records.
+//! - [`Channels`], [`channels`]: crates whose channels are traces and others.
 
 use crate::record::Content;
-use crate::{Fraction, DENOMINATOR, SPAN, TOLERANCE};
+use crate::{Fraction, DENOMINATOR, SAMPLES, SPAN, TOLERANCE};
 
 /// A generator (splitmix64): the same seed gives the same numbers.
 pub struct Random(u64);
@@ -295,6 +296,60 @@ pub fn content(samples: usize, random: &mut Random) -> Content {
     }
 }
 
+/// The channels of a crate, end to end, with the length of each.
+#[derive(Clone, Debug, Default)]
+pub struct Channels {
+    pub ticks: Vec<u32>,
+    pub values: Vec<i16>,
+    pub lengths: Vec<usize>,
+}
+
+impl Channels {
+    pub fn push(&mut self, trace: &Trace) {
+        self.ticks.extend(&trace.ticks);
+        self.values.extend(&trace.values);
+        self.lengths.push(trace.ticks.len());
+    }
+
+    /// The channels by themselves.
+    pub fn traces(&self) -> Vec<Trace> {
+        let mut from = 0;
+        let trace = |&length: &usize| {
+            let part = from..from + length;
+            from += length;
+            Trace {
+                ticks: self.ticks[part.clone()].to_vec(),
+                values: self.values[part].to_vec(),
+            }
+        };
+        self.lengths.iter().map(trace).collect()
+    }
+}
+
+/// A crate with so many channels: traces of up to `most` samples of any kind or shape, and among them
+/// channels without samples, with a tick that is not above the one before, with a span that is too long,
+/// and with too many samples.
+pub fn channels(count: usize, most: usize, random: &mut Random) -> Channels {
+    let mut channels = Channels::default();
+    for _ in 0..count {
+        let samples = random.within(1, most as i64) as usize;
+        let mut trace = any_trace(samples, random);
+        let at = random.below(samples as u64) as usize;
+        let Trace { ticks, values } = &mut trace;
+        match random.below(24) {
+            0..=2 => ticks.clear(),
+            3 => ticks.insert(at, ticks[at]),
+            4 => ticks[..=at].reverse(),
+            5..=7 => ticks[at..].iter_mut().for_each(|tick| *tick ^= 1 << 31),
+            8 => *ticks = (0..(SAMPLES + 1 + at % 2) as u32).collect(),
+            _ => (),
+        }
+        values.resize(ticks.len(), 7);
+        channels.push(&trace);
+    }
+    channels
+}
+
 /// The x from 0 to q - 1 with p x = 1 modulo q.
 fn inverse(p: i128, q: i128) -> i128 {
     let (mut r, mut x) = ((q, p.rem_euclid(q)), (0, 1));
@@ -335,6 +390,31 @@ mod tests {
             assert_eq!(trace_refusal(&ticks, &values), None, "{samples}");
             assert_eq!(values.len(), samples);
         }
+    }
+
+    /// Every sort of channel comes up, and the channels are end to end.
+    #[test]
+    fn channels_of_every_sort() {
+        let random = &mut Random::new(7);
+        let mut seen = [0; 4];
+        for _ in 0..100 {
+            let channels = channels(12, 9, random);
+            assert_eq!(channels.lengths.len(), 12);
+            assert_eq!(channels.lengths.iter().sum::<usize>(), channels.ticks.len());
+            assert_eq!(channels.ticks.len(), channels.values.len());
+            let mut again = Channels::default();
+            for trace in channels.traces() {
+                again.push(&trace);
+                let row = trace_refusal(&trace.ticks, &trace.values);
+                seen[row.map_or(0, |(number, _)| number as usize)] += 1;
+            }
+            assert_eq!(
+                (again.ticks, again.values),
+                (channels.ticks, channels.values)
+            );
+            assert_eq!(again.lengths, channels.lengths);
+        }
+        assert!(seen.iter().all(|&count| count > 20), "{seen:?}");
     }
 
     #[test]

@@ -1,0 +1,141 @@
+//! The report on a crate: the first request of document 02.
+
+use crate::{held, list_error, reduce, Form, Fraction, Method, Row};
+
+/// The most channels of a crate.
+pub const CHANNELS: usize = 64;
+
+const ZERO: Fraction = Fraction { p: 0, q: 1 };
+
+/// The summary of a channel: its samples, walk's kept number, the error of walk's list, and a refusal's
+/// number or 0.
+#[derive(Clone, Copy, Debug, PartialEq, Eq)]
+pub struct Channel {
+    pub samples: usize,
+    pub kept: usize,
+    pub error: Fraction,
+    pub number: u32,
+}
+
+/// The summary of each channel; the samples and kept numbers of all, and the largest error.
+#[derive(Clone, Debug, PartialEq, Eq)]
+pub struct Report {
+    pub channels: Vec<Channel>,
+    pub samples: usize,
+    pub kept: usize,
+    pub error: Fraction,
+}
+
+/// The first row that fits, or the report. The traces come end to end; the output has `room` entries.
+pub fn report(
+    ticks: &[u32],
+    values: &[i16],
+    lengths: &[usize],
+    form: Form,
+    room: usize,
+) -> Result<Report, Row> {
+    let channels = lengths.len();
+    let samples: i128 = lengths.iter().map(|&length| length as i128).sum();
+    let add_up = |list: usize| list as i128 == samples;
+    if channels == 0 || channels > CHANNELS || !add_up(ticks.len()) || !add_up(values.len()) {
+        return Err((11, 0));
+    }
+    held(form).ok_or((4, 0))?;
+    if room < channels {
+        return Err((10, channels as u64));
+    }
+    let mut report = Report {
+        channels: Vec::new(),
+        samples: 0,
+        kept: 0,
+        error: ZERO,
+    };
+    let (mut ticks, mut values) = (ticks, values);
+    for &length in lengths {
+        let channel = channel(&ticks[..length], &values[..length], form);
+        report.channels.push(channel);
+        report.samples += channel.samples;
+        report.kept += channel.kept;
+        if !channel.error.at_most(report.error) {
+            report.error = channel.error;
+        }
+        (ticks, values) = (&ticks[length..], &values[length..]);
+    }
+    Ok(report)
+}
+
+/// The summary of a channel with this trace, at an allowed tolerance.
+fn channel(ticks: &[u32], values: &[i16], form: Form) -> Channel {
+    let samples = ticks.len();
+    match reduce(Method::Walk, ticks, values, form, samples) {
+        Ok(walk) => Channel {
+            samples,
+            kept: walk.list.len(),
+            error: list_error(ticks, values, &walk.list),
+            number: 0,
+        },
+        Err((number, _)) => Channel {
+            samples: 0,
+            kept: 0,
+            error: ZERO,
+            number,
+        },
+    }
+}
+
+#[cfg(test)]
+mod tests {
+    use super::*;
+
+    /// A wave; no samples; two equal ticks; one sample.
+    #[test]
+    fn four_channels() {
+        let ticks = [0, 1, 2, 3, 4, 5, 5, 7];
+        let values = [0, 2, 0, -2, 0, 1, 1, 9];
+        let two = Form::Ratio(2, 1);
+        let report = |lengths: &[usize], form, room| report(&ticks, &values, lengths, form, room);
+        let row = |samples, kept, p, number| Channel {
+            samples,
+            kept,
+            error: Fraction { p, q: 1 },
+            number,
+        };
+        let expected = Report {
+            channels: vec![
+                row(5, 3, 2, 0),
+                row(0, 0, 0, 1),
+                row(0, 0, 0, 2),
+                row(1, 1, 0, 0),
+            ],
+            samples: 6,
+            kept: 4,
+            error: Fraction { p: 2, q: 1 },
+        };
+        assert_eq!(report(&[5, 0, 2, 1], two, 4), Ok(expected));
+        assert_eq!(report(&[5, 0, 2, 1], two, 3), Err((10, 4)));
+        assert_eq!(report(&[5, 0, 2, 1], Form::Ratio(2, 0), 3), Err((4, 0)));
+        for lengths in [&[5, 0, 2][..], &[5, 0, 2, 2], &[], &[usize::MAX, 9]] {
+            assert_eq!(report(lengths, Form::Ratio(2, 0), 0), Err((11, 0)));
+        }
+    }
+
+    /// The largest error is reduced, as each channel's is.
+    #[test]
+    fn largest_error() {
+        let report = report(
+            &[0, 1, 3, 0, 2, 6],
+            &[0, 1, 1, 0, 1, 1],
+            &[3, 3],
+            Form::Ratio(9, 1),
+            2,
+        );
+        let report = report.unwrap();
+        let errors: Vec<_> = report
+            .channels
+            .iter()
+            .map(|channel| channel.error)
+            .collect();
+        assert_eq!(errors, [Fraction { p: 2, q: 3 }; 2]);
+        assert_eq!(report.error, Fraction { p: 2, q: 3 });
+    }
+}
