@@ -8,6 +8,7 @@
 //! - `least`: least errors on random and adversarial traces.
 //! - `codes`: range codes.
 //! - `records`: records written, read, damaged and compared.
+//! - `report`: reports on crates.
 
 mod codes;
 mod figures;
@@ -17,6 +18,7 @@ mod least;
 mod records;
 mod reduce;
 mod refusals;
+mod report;
 
 /// Tolerances from 0 to 7/2, as p and q, for the tests of every small trace.
 const SMALL_TOLERANCES: [(u64, u64); 8] = [

@@ -1,14 +1,14 @@
-//! Document 01's table of refusals: every row of every call, alone, together with every set of later
-//! rows, and at its limits.
+//! The table of refusals: every row of every call, alone, together with every set of later rows, and at
+//! its limits.
 
 use kovrelna::{Refusal, Tolerance};
 use kovrelna_evidence::calls::Call::{self, *};
 use kovrelna_evidence::calls::CALLS;
 use kovrelna_evidence::cases::random_faults;
 use kovrelna_evidence::compare::{
-    expand, hold, judge, least, noise, ratio, read, reduce, same, write,
+    expand, hold, judge, least, noise, ratio, read, reduce, report, same, write,
 };
-use kovrelna_reference::generate::Random;
+use kovrelna_reference::generate::{Channels, Random};
 use kovrelna_reference::record::{end, first, short, tolerance};
 use kovrelna_reference::{Method, Row};
 
@@ -23,6 +23,8 @@ struct Input {
     codes: Vec<u8>,
     record: Vec<u8>,
     second: Vec<u8>,
+    /// The samples of each channel of a crate.
+    lengths: Vec<usize>,
     /// The entries of the output, and of the second one of read.
     rooms: (usize, usize),
     /// The bytes of the writer's buffer.
@@ -30,7 +32,7 @@ struct Input {
     place: usize,
 }
 
-/// Eight samples or codes, and outputs with exactly enough room: no call refuses it.
+/// Eight samples, codes or channels, and outputs with exactly enough room: no call refuses it.
 fn accepted() -> Input {
     let mut record = [tolerance(1, 2), first(7, 7)].concat();
     record.extend(short(1, 1).repeat(7));
@@ -44,6 +46,7 @@ fn accepted() -> Input {
         codes: vec![9; 8],
         second: record.clone(),
         record,
+        lengths: vec![1; 8],
         rooms: (8, 8),
         size: 22,
         place: 0,
@@ -75,16 +78,24 @@ fn refused(call: Call, input: &Input) -> Option<Row> {
         Write => write(ticks, values, list, tolerance, input.size, input.place).err(),
         Read => read(record, room, second_room).err(),
         Same => same(record, second).err(),
+        Report => {
+            let channels = Channels {
+                ticks: ticks.clone(),
+                values: values.clone(),
+                lengths: input.lengths.clone(),
+            };
+            report(&channels, tolerance, room).err()
+        }
     }
 }
 
 /// The calls that take a trace, one of up to 4,096 samples, a tolerance, a list; and those with an
-/// output of an entry for each sample or code.
+/// output of an entry for each sample, code or channel.
 const TRACES: &[Call] = &[Judge, Walk, Gallop, Minimum, Least, Write];
 const LONG_TRACES: &[Call] = &[Judge, Walk, Gallop, Minimum, Write];
-const TOLERANCES: &[Call] = &[Hold, Judge, Walk, Gallop, Minimum, Write];
+const TOLERANCES: &[Call] = &[Hold, Judge, Walk, Gallop, Minimum, Write, Report];
 const LISTS: &[Call] = &[Judge, Write];
-const OUTPUTS: &[Call] = &[Walk, Gallop, Minimum, Least, Expand, Read];
+const OUTPUTS: &[Call] = &[Walk, Gallop, Minimum, Least, Expand, Read, Report];
 
 /// A fault: the calls that refuse it, the row, and how it comes into an input. For each call and row
 /// there is one. They concern different things, so that any of them can come together.
@@ -92,6 +103,7 @@ type Fault = (&'static [Call], Row, Change);
 type Change = fn(&mut Input);
 
 const FAULTS: &[Fault] = &[
+    (&[Report], (11, 0), |input| input.lengths[3] = 2),
     (TRACES, (1, 0), |input| input.values.push(0)),
     (&[Expand], (1, 0), |input| input.codes = vec![9; 4_097]),
     (TRACES, (2, 6), |input| input.ticks[6] = input.ticks[5]),
@@ -165,6 +177,7 @@ fn limits() {
         lists(),
         links(),
         records(),
+        crates(),
         rooms(),
     ];
     for (calls, input, row) in parts.concat() {
@@ -458,6 +471,63 @@ fn records() -> Vec<Entry> {
     cases.map(entry).to_vec()
 }
 
+fn crates() -> Vec<Entry> {
+    const MAX: usize = usize::MAX;
+    const HALF: usize = MAX / 2 + 1;
+    let mut entries: Vec<Entry> = Vec::new();
+    let mut add = |lengths: &[usize], ticks: u32, values: usize, allowed: bool| {
+        let input = Input {
+            ticks: (0..ticks).collect(),
+            values: vec![0; values],
+            lengths: lengths.to_vec(),
+            rooms: (64, 0),
+            ..accepted()
+        };
+        entries.push((&[Report], input.clone(), (!allowed).then_some((11, 0))));
+        if !allowed {
+            // Later rows fail too.
+            let input = Input {
+                tolerance: ratio(0, 0),
+                rooms: (0, 0),
+                ..input
+            };
+            entries.push((&[Report], input, Some((11, 0))));
+        }
+    };
+    // The number of channels.
+    for (channels, allowed) in [(0, false), (1, true), (63, true), (64, true), (65, false)] {
+        add(&vec![1; channels], channels as u32, channels, allowed);
+        add(&vec![0; channels], 0, 0, allowed);
+    }
+    // What is wrong with a channel is said in its summary.
+    for length in [0, 1, 2, 4_096, 4_097, 70_000] {
+        add(&[length], length as u32, length, true);
+        add(&[length, 1], length as u32 + 1, length + 1, true);
+        add(&[1, length], length as u32 + 1, length + 1, true);
+        // The list of ticks, of values, and both.
+        add(&[length], length as u32 + 1, length, false);
+        add(&[length], length as u32, length + 1, false);
+        add(&[length], length as u32 + 1, length + 1, false);
+        add(&[length + 1], length as u32, length, false);
+    }
+    // Each length, and their sum, beyond what the lists may have.
+    for lengths in [
+        &[MAX][..],
+        &[MAX, 9],
+        &[9, MAX],
+        &[HALF, HALF, 8],
+        &[8, HALF, HALF],
+        &[MAX - 7, 16],
+        &[8, 1 << 32],
+    ] {
+        add(lengths, 8, 8, false);
+    }
+    add(&[MAX; 64], 0, 0, false);
+    // The sum is 2^64.
+    add(&[1 << 58; 64], 0, 0, false);
+    entries
+}
+
 fn rooms() -> Vec<Entry> {
     let rooms = |calls, rooms, enough: bool| -> Entry {
         let input = Input {
@@ -505,6 +575,7 @@ fn numbers() {
         (Refusal::Record(81), 8, 81),
         (Refusal::SecondRecord(91), 9, 91),
         (Refusal::Room(101), 10, 101),
+        (Refusal::Crate, 11, 0),
     ];
     for (refusal, number, returned) in cases {
         assert_eq!((refusal.number(), refusal.returned()), (number, returned));

@@ -1,0 +1,161 @@
+//! Reports on crates: random ones, the smallest and the largest, and what holds of each channel.
+
+use kovrelna_evidence::calls::Call;
+use kovrelna_evidence::cases::crates;
+use kovrelna_evidence::compare::{exactly, judge, ratio, reduce, report};
+use kovrelna_evidence::reductions::any_tolerance;
+use kovrelna_reference::generate::{channels, just_below, trace, Channels, Random, Trace, KINDS};
+use kovrelna_reference::report::{Channel, Report, CHANNELS};
+use kovrelna_reference::{Fraction, Method, TOLERANCE};
+
+fn crate_of(traces: &[Trace]) -> Channels {
+    let mut channels = Channels::default();
+    traces.iter().for_each(|trace| channels.push(trace));
+    channels
+}
+
+fn whole(p: i128) -> Fraction {
+    Fraction { p, q: 1 }
+}
+
+/// A wave, no samples, two equal ticks, and one sample.
+#[test]
+fn example() {
+    let channels = Channels {
+        ticks: vec![0, 1, 2, 3, 4, 5, 5, 7],
+        values: vec![0, 2, 0, -2, 0, 1, 1, 9],
+        lengths: vec![5, 0, 2, 1],
+    };
+    let row = |samples, kept, p, number| Channel {
+        samples,
+        kept,
+        error: whole(p),
+        number,
+    };
+    let expected = Report {
+        channels: vec![
+            row(5, 3, 2, 0),
+            row(0, 0, 0, 1),
+            row(0, 0, 0, 2),
+            row(1, 1, 0, 0),
+        ],
+        samples: 6,
+        kept: 4,
+        error: whole(2),
+    };
+    for room in [4, 5, 64, 100] {
+        let answer = report(&channels, ratio(2, 1), room);
+        assert_eq!(answer.as_ref(), Ok(&expected));
+    }
+}
+
+#[test]
+fn random_crates() {
+    let random = &mut Random::new(31);
+    (0..3_000).for_each(|_| crates(64, 30, random));
+    (0..30).for_each(|_| crates(3, 4_096, random));
+    let counts = Call::Report.counts();
+    let seen = |row: u32| counts[row as usize] > 50;
+    let rows = Call::Report.rows();
+    assert!(seen(0) && rows.iter().all(|&row| seen(row)), "{counts:?}");
+}
+
+/// Each summary is that of a crate of this channel alone. It has the number with which walk refuses the
+/// trace; or walk's kept number, and the least tolerance at which judge passes walk's list. The totals
+/// are those of the summaries.
+#[test]
+fn each_channel() {
+    let random = &mut Random::new(32);
+    // Summaries with 0 and with each refusal's number; the largest error is that of the first channel,
+    // of the last, and of another.
+    let (mut numbers, mut largest) = ([0; 4], [0; 3]);
+    for _ in 0..1_000 {
+        let count = random.within(1, 6) as usize;
+        let channels = channels(count, 30, random);
+        let tolerance = any_tolerance(random);
+        let report = |channels: &Channels| report(channels, tolerance, count).unwrap();
+        let all = report(&channels);
+        for (trace, channel) in channels.traces().iter().zip(&all.channels) {
+            let alone = report(&crate_of(std::slice::from_ref(trace)));
+            assert_eq!(alone.channels, [*channel]);
+            numbers[channel.number as usize] += 1;
+            let Trace { ticks, values } = trace;
+            let list = match reduce(Method::Walk, ticks, values, tolerance, ticks.len()) {
+                Ok(reduced) => reduced.list,
+                Err((number, _)) => {
+                    let error = whole(0);
+                    let (samples, kept) = (0, 0);
+                    let row = Channel {
+                        samples,
+                        kept,
+                        error,
+                        number,
+                    };
+                    assert_eq!(*channel, row);
+                    continue;
+                }
+            };
+            assert_eq!((channel.samples, channel.kept), (ticks.len(), list.len()));
+            let passes =
+                |error| judge(ticks, values, &list, exactly(error)).map(|link| link.is_none());
+            assert_eq!(passes(channel.error), Ok(true));
+            if channel.error.p > 0 {
+                assert_eq!(passes(just_below(channel.error)), Ok(false));
+            }
+        }
+        let sum = |number: fn(&Channel) -> usize| all.channels.iter().map(number).sum::<usize>();
+        assert_eq!(all.samples, sum(|channel| channel.samples));
+        assert_eq!(all.kept, sum(|channel| channel.kept));
+        let errors: Vec<Fraction> = all.channels.iter().map(|channel| channel.error).collect();
+        assert!(errors.iter().all(|error| error.at_most(all.error)));
+        match errors.iter().position(|&error| error == all.error).unwrap() {
+            0 => largest[0] += 1,
+            at if at == count - 1 => largest[1] += 1,
+            _ => largest[2] += 1,
+        }
+    }
+    assert!(numbers.iter().all(|&seen| seen > 100), "{numbers:?}");
+    assert!(largest.iter().all(|&seen| seen > 100), "{largest:?}");
+}
+
+/// The largest crates: 64 channels of 4,096 samples of every kind, with the greatest totals at tolerance
+/// 0 and the greatest errors at the greatest tolerance.
+#[test]
+fn largest_crates() {
+    let random = &mut Random::new(33);
+    let traces: Vec<Trace> = (0..CHANNELS)
+        .map(|channel| trace(KINDS[channel % KINDS.len()], 4_096, random))
+        .collect();
+    let channels = crate_of(&traces);
+    for tolerance in [ratio(0, 1), ratio(7, 2), ratio(TOLERANCE as u64, 1)] {
+        let report = report(&channels, tolerance, CHANNELS).unwrap();
+        assert_eq!(report.samples, 262_144);
+    }
+    // Every sample is kept.
+    let zigzag = Trace {
+        ticks: (0..4_096).collect(),
+        values: (0..4_096).map(|k| 3 * (k % 2)).collect(),
+    };
+    let channels = crate_of(&vec![zigzag; CHANNELS]);
+    let report = report(&channels, ratio(2, 1), CHANNELS).unwrap();
+    assert_eq!((report.samples, report.kept), (262_144, 262_144));
+    assert_eq!(report.error, whole(0));
+}
+
+/// Crates of refused channels alone, also of every number of channels.
+#[test]
+fn nothing_but_refused_channels() {
+    for count in 1..=CHANNELS {
+        let mut channels = Channels::default();
+        for channel in 0..count {
+            let ticks = [&[][..], &[5, 5], &[0, 1_048_576]][channel % 3].to_vec();
+            let values = vec![9; ticks.len()];
+            channels.push(&Trace { ticks, values });
+        }
+        let report = report(&channels, ratio(9, 1), count).unwrap();
+        let totals = (report.samples, report.kept, report.error);
+        assert_eq!(totals, (0, 0, whole(0)));
+        let numbers = report.channels.iter().map(|channel| channel.number);
+        assert!(numbers.eq([1, 2, 3].into_iter().cycle().take(count)));
+    }
+}
