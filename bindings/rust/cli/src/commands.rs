@@ -7,7 +7,7 @@ use crate::name::{joined, placed};
 use crate::records;
 use crate::source::Source;
 use crate::text::{self, List, Text};
-use crate::{budget, check, draw, help, near, output, summary};
+use crate::{budget, check, draw, help, near, output, report, summary};
 use kovrelna::{Least, Ratio, Refusal, Verdict};
 use std::ffi::{OsStr, OsString};
 use std::fmt::Display;
@@ -24,6 +24,7 @@ pub fn find(name: &str) -> Option<Command> {
         "least" => least,
         "near" => near::near,
         "summary" => summary::summary,
+        "report" => report::report,
         "draw" => draw::draw,
         _ => return None,
     })

@@ -16,6 +16,7 @@ Usage: kovrelna COMMAND [OPTION..] [FILE..]
   least     say how near a list of so many samples can come
   near      say how near the lists of walk and gallop are to the shortest
   summary   print a line for each record, and a total
+  report    print the sheet of a crate: a line for each channel, and totals
   draw      draw a trace, its lines and its tolerance band as SVG
 
 A trace is text: a line for each sample with its tick (0 to 4294967295) and its
@@ -150,6 +151,31 @@ Usage: kovrelna summary [-b] [FILE..]
 After a faulty record the others are still summarised.
 
 Exit status: 0 done, 2 error (also if one record is faulty).
+";
+
+pub const REPORT: &str = "\
+Prints the sheet of a crate of up to 64 channels: a line for each, with its
+samples, how many of them walk keeps at the tolerance, the error of what is
+kept, 0 or the number of a refusal, and the file; then the totals, with the
+largest error.
+
+Usage: kovrelna report -t TOLERANCE [--csv] [FILE..]
+
+  -t, --tolerance T   p/q, counts, or noise x multiple: 2/3, 1.5, 3.25x4
+      --csv           print CSV for a spreadsheet, with two columns for a ratio
+
+Each of several files is the trace of a channel; channels are counted from 0.
+One file may have all of them, with the channel's number (0 to 4294967295) in a
+third column: lines of a channel are in order, those of others may be between
+them, and channels are printed by rising number.
+
+A channel that is no trace is refused, which does not end the report: beside
+zeros its line has the number 1 (no samples, or more than 4,096), 2 (a tick not
+above the one before) or 3 (a span over 1,048,575 ticks), and the cause. Where
+a file cannot be read, is no such text, or has a line `# tolerance p/q`, there
+is no report.
+
+Exit status: 0 done, 2 error.
 ";
 
 pub const DRAW: &str = "\

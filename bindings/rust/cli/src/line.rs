@@ -19,6 +19,7 @@ pub const ALLOWANCE: Known = Known::valued("allowance", Some('a'));
 pub const FROM: Known = Known::valued("from", None);
 pub const TO: Known = Known::valued("to", None);
 pub const BUDGET: Known = Known::flag("budget", Some('b'));
+pub const CSV: Known = Known::flag("csv", None);
 
 /// A command line of a command.
 pub struct Line {
@@ -120,6 +121,11 @@ impl Line {
             operands => operands.iter().map(OsString::as_os_str).collect(),
         })
     }
+}
+
+/// The ratio as it is printed.
+pub fn ratio(Ratio { p, q }: Ratio) -> String {
+    format!("{p}/{q}")
 }
 
 /// Prints the answer for each input; says what is wrong with an input and goes on with the next.

@@ -17,7 +17,7 @@
 //! - `line`: what the commands share.
 //! - `budget`: what an error budget may say.
 //! - `commands`: one function for each command.
-//! - `check`, `draw`, `near`, `summary`: commands with a file of their own.
+//! - `check`, `draw`, `near`, `report`, `summary`: commands with a file of their own.
 //!
 //! Which samples are kept, whether a list is within a tolerance, what a tolerance is held as and what
 //! is in a record: all this is asked of the library.
@@ -39,6 +39,7 @@ mod near;
 mod number;
 mod output;
 mod records;
+mod report;
 mod source;
 mod summary;
 mod svg;

@@ -1,7 +1,7 @@
 //! The command `summary`.
 
 use crate::failure::{Failure, Status};
-use crate::line::{each, Line, BUDGET};
+use crate::line::{each, ratio, Line, BUDGET};
 use crate::name::joined;
 use crate::records::{self, Record};
 use crate::{budget, help, output};
@@ -100,8 +100,4 @@ fn print_budget(tolerances: &[Ratio], records: usize) -> Result<(), Failure> {
         _ => Failure::at("--budget", "none, as not every record could be read").report(),
     }
     Ok(())
-}
-
-fn ratio(Ratio { p, q }: Ratio) -> String {
-    format!("{p}/{q}")
 }

@@ -3,7 +3,8 @@
 //! A trace has a line for each sample with its tick and its value, between them a semicolon, a comma,
 //! a tab or spaces. What follows a `#` is skipped, as are blank lines; a first line of words is a
 //! heading. One line `# tolerance p/q` before the samples, as `show` prints it, is taken notice of. A
-//! carriage return at a line's end and a byte order mark are tolerated.
+//! carriage return at a line's end and a byte order mark are tolerated. Several traces may be in one
+//! file, with the number of its channel in a third column for each sample.
 
 use crate::failure::{line_of, Failure};
 use crate::name::plain;
@@ -11,7 +12,8 @@ use crate::number::{Decimal, Product};
 use crate::source::Source;
 use crate::{records, tolerance};
 use kovrelna::{Ratio, Refusal, Tolerance};
-use std::ffi::OsString;
+use std::collections::BTreeMap;
+use std::ffi::{OsStr, OsString};
 use std::fmt::Display;
 use std::io::{BufRead, BufReader, Read};
 
@@ -35,52 +37,59 @@ pub struct Text {
 impl Text {
     /// Reads a trace. It may break any rule of a trace, which the library is to say; of a trace that
     /// is too long only the beginning is read.
-    pub fn read(mut source: Source) -> Result<Text, Failure> {
-        let mut text = Text {
-            name: source.name.clone(),
-            ..Text::default()
-        };
-        let beginning = source.up_to(records::BEGINNING)?;
-        if records::begins(&beginning) {
-            return Err(Failure::at(&text.name, "a record, where a trace is wanted"));
-        }
-        let mut heading = true;
-        let mut lines = Lines::new(source.put_back(beginning));
-        while text.ticks.len() < ENOUGH {
-            let Some(line) = lines.next()? else {
-                break;
-            };
-            let (data, comment) = line.split_once('#').unwrap_or((line, ""));
-            if data.trim().is_empty() {
-                let tolerance = comment.trim().strip_prefix("tolerance ");
-                if let Some(ratio) = tolerance.map(str::trim).filter(|rest| is_ratio(rest)) {
-                    text.note_tolerance(ratio.to_string(), lines.number)?;
-                }
-                continue;
-            }
-            let fields = fields(data);
-            if heading && fields.iter().all(|field| is_word(field)) {
-                heading = false;
-                continue;
-            }
-            heading = false;
-            let (tick, value) = sample(&fields)
-                .map_err(|cause| Failure::at_line(&text.name, lines.number, cause))?;
-            text.ticks.push(tick);
-            text.values.push(value);
-            text.lines.push(lines.number);
-        }
+    pub fn read(source: Source) -> Result<Text, Failure> {
+        let mut text = Text::named(&source.name);
+        text.tolerance = rows(source, |fields, line| {
+            text.push(sample(fields)?, line);
+            Ok(text.ticks.len() < ENOUGH)
+        })?;
         Ok(text)
     }
 
-    /// Takes the tolerance of this line, if it is the only one and no sample is before it.
-    fn note_tolerance(&mut self, tolerance: String, line: usize) -> Result<(), Failure> {
-        if self.tolerance.is_some() || !self.ticks.is_empty() {
-            let cause = "a second record begins here, or its tolerance comes after its samples";
-            return Err(Failure::at_line(&self.name, line, cause));
+    /// Reads the channels of a crate, which are numbered in a third column and come in the order of
+    /// their numbers; without that column, the trace of channel 0. Each may break any rule of a trace.
+    /// Of one that is too long only the beginning is kept; where there are more than `most`, one more is
+    /// returned.
+    pub fn channels(source: Source, most: usize) -> Result<Vec<(u32, Text)>, Failure> {
+        let name = source.name.clone();
+        let mut channels: BTreeMap<u32, Text> = BTreeMap::new();
+        let mut numbered = None;
+        let tolerance = rows(source, |fields, line| {
+            let numbered = *numbered.get_or_insert(fields.len() == 3);
+            let (channel, sample) = match numbered {
+                true => sample_of_channel(fields)?,
+                false => (0, sample(fields)?),
+            };
+            let text = channels
+                .entry(channel)
+                .or_insert_with(|| Text::named(&name));
+            let is_enough = text.ticks.len() == ENOUGH;
+            if !is_enough {
+                text.push(sample, line);
+            }
+            Ok((numbered || !is_enough) && channels.len() <= most)
+        })?;
+        if channels.is_empty() {
+            channels.insert(0, Text::named(&name));
         }
-        self.tolerance = Some((tolerance, line));
-        Ok(())
+        let noted = |(channel, mut text): (u32, Text)| {
+            text.tolerance = tolerance.clone();
+            (channel, text)
+        };
+        Ok(channels.into_iter().map(noted).collect())
+    }
+
+    fn named(name: &OsStr) -> Text {
+        Text {
+            name: name.to_os_string(),
+            ..Text::default()
+        }
+    }
+
+    fn push(&mut self, (tick, value): (u32, i16), line: usize) {
+        self.ticks.push(tick);
+        self.values.push(value);
+        self.lines.push(line);
     }
 
     /// The tolerance of the trace's own line, and the ratio it is held as.
@@ -231,6 +240,51 @@ fn entries(line: &str) -> Result<Vec<u16>, String> {
         .collect()
 }
 
+/// Reads lines with samples: `take` is given the fields of each line and its number, and says whether
+/// more are wanted. Returns what stands after `# tolerance`, if there is such a line, and its number.
+fn rows(
+    mut source: Source,
+    mut take: impl FnMut(&[&str], usize) -> Result<bool, String>,
+) -> Result<Option<(String, usize)>, Failure> {
+    let name = source.name.clone();
+    let beginning = source.up_to(records::BEGINNING)?;
+    if records::begins(&beginning) {
+        return Err(Failure::at(name, "a record, where a trace is wanted"));
+    }
+    let mut lines = Lines::new(source.put_back(beginning));
+    let (mut begun, mut headed, mut tolerance) = (false, false, None);
+    loop {
+        let number = lines.number + 1;
+        let Some(line) = lines.next()? else {
+            break;
+        };
+        let wrong = |cause: &str| Failure::at_line(&name, number, cause);
+        let (data, comment) = line.split_once('#').unwrap_or((line, ""));
+        if data.trim().is_empty() {
+            let ratio = comment.trim().strip_prefix("tolerance ").map(str::trim);
+            if let Some(ratio) = ratio.filter(|rest| is_ratio(rest)) {
+                if tolerance.is_some() || begun {
+                    let cause =
+                        "a second record begins here, or its tolerance comes after its samples";
+                    return Err(wrong(cause));
+                }
+                tolerance = Some((ratio.to_string(), number));
+            }
+            continue;
+        }
+        let fields = fields(data);
+        if !headed && !begun && fields.iter().all(|field| is_word(field)) {
+            headed = true;
+            continue;
+        }
+        begun = true;
+        if !take(&fields, number).map_err(|cause| wrong(&cause))? {
+            break;
+        }
+    }
+    Ok(tolerance)
+}
+
 /// The lines of a source as text; what is not UTF-8 in them is replaced.
 struct Lines {
     name: OsString,
@@ -316,14 +370,26 @@ fn sample(fields: &[&str]) -> Result<(u32, i16), String> {
             whole("tick", tick, 0, u32::MAX)?,
             whole("value", value, i16::MIN, i16::MAX)?,
         )),
-        _ => Err(format!(
-            "a tick and a value are wanted, and there {} {}",
-            if fields.len() == 1 { "is" } else { "are" },
-            match fields.len() {
-                1 => "1 column".to_string(),
-                columns => format!("{columns} columns"),
-            }
-        )),
+        _ => Err(wanted("a tick and a value", fields)),
+    }
+}
+
+/// The channel, and the tick and the value, in the fields of a line.
+fn sample_of_channel(fields: &[&str]) -> Result<(u32, (u32, i16)), String> {
+    match fields {
+        [tick, value, channel] => {
+            let sample = sample(&[tick, value])?;
+            Ok((whole("channel", channel, 0, u32::MAX)?, sample))
+        }
+        _ => Err(wanted("a tick, a value and a channel", fields)),
+    }
+}
+
+/// These columns are wanted in place of the fields.
+fn wanted(columns: &str, fields: &[&str]) -> String {
+    match fields.len() {
+        1 => format!("{columns} are wanted, and there is 1 column"),
+        count => format!("{columns} are wanted, and there are {count} columns"),
     }
 }
 

@@ -5,6 +5,7 @@
 //! - `draw`: pictures.
 //! - `names`: names of files that are not UTF-8.
 //! - `near`: how near lists are to the shortest.
+//! - `report`: the sheet of a crate.
 //! - `signals`: runs that are ended while they write a file.
 
 mod budget;
@@ -12,8 +13,10 @@ mod check;
 mod draw;
 mod names;
 mod near;
+mod report;
 mod signals;
 
+use kovrelna_reference::generate::Trace;
 use std::ffi::OsStr;
 use std::fs::{self, File};
 use std::io::Write;
@@ -82,6 +85,14 @@ fn fails(arguments: &[&str], input: impl AsRef<[u8]>, message: &str) {
 
 fn path(path: &Path) -> &str {
     path.to_str().unwrap()
+}
+
+/// The trace as text.
+fn written(trace: &Trace) -> String {
+    let samples = trace.ticks.iter().zip(&trace.values);
+    samples
+        .map(|(tick, value)| format!("{tick},{value}\n"))
+        .collect()
 }
 
 #[test]

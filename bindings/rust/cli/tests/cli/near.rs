@@ -1,17 +1,9 @@
 //! How near lists are to the shortest, beside the slow reference.
 
-use super::{done, fails, folder, path, run, shipped, told, WAVE};
+use super::{done, fails, folder, path, run, shipped, told, written, WAVE};
 use kovrelna_reference::generate::{any_trace, Random, Trace};
 use kovrelna_reference::{fewest, reduce, Form, Fraction, METHODS};
 use std::fs;
-
-/// The trace as text.
-fn written(trace: &Trace) -> String {
-    let samples = trace.ticks.iter().zip(&trace.values);
-    samples
-        .map(|(tick, value)| format!("{tick},{value}\n"))
-        .collect()
-}
 
 /// The numbers of a line, and its name; -1 for `-`.
 fn row(line: &str) -> (Vec<i64>, String) {

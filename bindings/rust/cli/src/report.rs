@@ -1,0 +1,171 @@
+//! The command `report`: the sheet of a crate.
+
+use crate::failure::{Failure, Status};
+use crate::line::{ratio, Line, CSV, TOLERANCE};
+use crate::name::joined;
+use crate::source::Source;
+use crate::text::Text;
+use crate::{help, output};
+use kovrelna::{Ratio, Refusal, Summary, Tolerance};
+use std::ffi::{OsStr, OsString};
+use std::iter::repeat_n;
+use std::os::unix::ffi::{OsStrExt, OsStringExt};
+
+/// The most channels of a crate. With one more the library refuses it.
+const CHANNELS: usize = 64;
+
+pub fn report(arguments: &[OsString]) -> Result<Status, Failure> {
+    let line = Line::parse("report", &[TOLERANCE, CSV], arguments)?;
+    if line.arguments.help {
+        return output::print(help::REPORT);
+    }
+    let Some((tolerance, held)) = line.tolerance()? else {
+        return Err(line.wrong("--tolerance is missing"));
+    };
+    let inputs = line.inputs()?;
+    let channels = channels(&inputs)?;
+    let rows = rows(&channels, tolerance).map_err(|refusal| match refusal {
+        Refusal::Crate if inputs.len() > 1 => line.wrong("more than 64 files"),
+        Refusal::Crate => {
+            let cause = "more than 64 channels in the third column";
+            Failure::at(&channels[0].1.name, cause)
+        }
+        refusal => line.wrong(refusal.to_string()),
+    })?;
+    output::print(match line.value(CSV) {
+        Some(_) => csv(&rows, held),
+        None => aligned(&rows, held),
+    })
+}
+
+/// The channels, with their numbers: a file for each, or all of them in one.
+fn channels(inputs: &[&OsStr]) -> Result<Vec<(u32, Text)>, Failure> {
+    let channels = match inputs {
+        [input] => Text::channels(Source::open(Some(input))?, CHANNELS)?,
+        inputs => {
+            let inputs = (0..).zip(inputs.iter().take(CHANNELS + 1));
+            let channel = |(channel, input): (u32, &&OsStr)| {
+                let text = Text::read(Source::open(Some(input))?)?;
+                Ok((channel, text))
+            };
+            inputs.map(channel).collect::<Result<_, Failure>>()?
+        }
+    };
+    let original = |(channel, text): (u32, Text)| Ok((channel, text.original()?));
+    channels.into_iter().map(original).collect()
+}
+
+/// A line of the sheet.
+struct Row {
+    /// The channel's number, or `total`.
+    channel: String,
+    samples: usize,
+    kept: usize,
+    error: Ratio,
+    /// The number of the channel's refusal, or 0; none for the total.
+    refusal: Option<u32>,
+    /// Empty for the total.
+    file: OsString,
+    /// Why the channel is refused, with the file and the line; empty if it is not. For the total, how
+    /// many channels are refused.
+    cause: OsString,
+}
+
+/// The lines of the channels, and that of the total.
+fn rows(channels: &[(u32, Text)], tolerance: Tolerance) -> Result<Vec<Row>, Refusal> {
+    let (mut ticks, mut values, mut lengths) = (Vec::new(), Vec::new(), Vec::new());
+    for (_, text) in channels {
+        ticks.extend(&text.ticks);
+        values.extend(&text.values);
+        lengths.push(text.ticks.len());
+    }
+    let mut summaries = vec![Summary::default(); lengths.len()];
+    let totals = kovrelna::report(&ticks, &values, &lengths, tolerance, &mut summaries)?;
+    let row = |((channel, text), summary): (&(u32, Text), &Summary)| Row {
+        channel: channel.to_string(),
+        samples: summary.samples,
+        kept: summary.kept,
+        error: summary.error,
+        refusal: Some(summary.number),
+        file: text.name.clone(),
+        cause: match text.must_be_a_trace() {
+            Err(Failure::Told(cause)) => cause,
+            _ => OsString::new(),
+        },
+    };
+    let mut rows: Vec<Row> = channels.iter().zip(&summaries).map(row).collect();
+    let refused = rows.iter().filter(|row| row.refusal != Some(0)).count();
+    rows.push(Row {
+        channel: "total".to_string(),
+        samples: totals.samples,
+        kept: totals.kept,
+        error: totals.error,
+        refusal: None,
+        file: OsString::new(),
+        cause: format!("{refused} of {} refused", channels.len()).into(),
+    });
+    Ok(rows)
+}
+
+/// The sheet with columns of equal width.
+fn aligned(rows: &[Row], tolerance: Ratio) -> OsString {
+    let heading = ["channel", "samples", "kept", "error", "refusal"].map(String::from);
+    let mut lines = vec![(heading, OsStr::new("file"))];
+    for row in rows {
+        let fields = [
+            row.channel.clone(),
+            row.samples.to_string(),
+            row.kept.to_string(),
+            ratio(row.error),
+            row.refusal
+                .map_or("-".to_string(), |number| number.to_string()),
+        ];
+        let last = if row.cause.is_empty() {
+            &row.file
+        } else {
+            &row.cause
+        };
+        lines.push((fields, last));
+    }
+    let mut widths = [0; 5];
+    for (fields, _) in &lines {
+        for (width, field) in widths.iter_mut().zip(fields) {
+            *width = field.len().max(*width);
+        }
+    }
+    let mut sheet = OsString::from(format!("# kept by walk at {}\n", ratio(tolerance)));
+    for (fields, last) in &lines {
+        for (width, field) in widths.iter().zip(fields) {
+            sheet.push(format!("{field:>width$}  "));
+        }
+        sheet.push(joined(&[last, &"\n"]));
+    }
+    sheet
+}
+
+/// The sheet for a spreadsheet. A ratio has two columns, as p/q would be taken for a date.
+fn csv(rows: &[Row], tolerance: Ratio) -> OsString {
+    let heading =
+        "channel,samples,kept,error p,error q,tolerance p,tolerance q,refusal,file,cause\n";
+    let mut sheet = OsString::from(heading);
+    for row in rows {
+        let numbers = [row.error.p, row.error.q, tolerance.p, tolerance.q];
+        let numbers = numbers.map(|number| number.to_string()).join(",");
+        let refusal = row
+            .refusal
+            .map_or(String::new(), |number| number.to_string());
+        let (channel, samples, kept) = (&row.channel, row.samples, row.kept);
+        let fields = format!("{channel},{samples},{kept},{numbers},{refusal},");
+        let (file, cause) = (quoted(&row.file), quoted(&row.cause));
+        sheet.push(joined(&[&fields, &file, &",", &cause, &"\n"]));
+    }
+    sheet
+}
+
+/// The field in quotation marks.
+fn quoted(field: &OsStr) -> OsString {
+    let bytes = field.as_bytes().iter();
+    let doubled = bytes.flat_map(|&byte| repeat_n(byte, 1 + usize::from(byte == b'"')));
+    let field = OsString::from_vec(doubled.collect());
+    joined(&[&"\"", &field, &"\""])
+}
