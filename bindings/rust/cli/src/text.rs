@@ -489,6 +489,27 @@ mod tests {
         }
     }
 
+    /// Channels by their numbers; no more is kept of them than the library needs to refuse them.
+    #[test]
+    fn channels() {
+        let channels = |text: &str, most| {
+            let channels = Text::channels(Source::of("in", text.as_bytes()), most).unwrap();
+            let of = |(channel, text): (u32, Text)| (channel, text.ticks, text.lines);
+            channels.into_iter().map(of).collect::<Vec<_>>()
+        };
+        let two = "t,v,c\n5,0,9\n7,0,2\n\n6,0,9\n";
+        let expected = [(2, vec![7], vec![3]), (9, vec![5, 6], vec![2, 5])];
+        assert_eq!(channels(two, 2), expected);
+        assert_eq!(channels("5,0\n6,0\n", 2), [(0, vec![5, 6], vec![1, 2])]);
+        assert_eq!(channels("# c\n", 2), [(0, vec![], vec![])]);
+        let many: String = (0..9).map(|channel| format!("0,0,{channel}\n")).collect();
+        assert_eq!(channels(&many, 2).len(), 3);
+        for line in ["0,0\n", "0,0,7\n"] {
+            let long = channels(&line.repeat(5_000), 2);
+            assert_eq!((long.len(), long[0].1.len()), (1, 4_097), "{line}");
+        }
+    }
+
     #[test]
     fn a_record_is_no_text() {
         let record = b"T\0\0\0\0\x02\0\0\x01A\0\0\0\0\0\0E\0\x01";

@@ -40,7 +40,7 @@ fn columns() {
     let folder = files("report_columns", &CHANNELS);
     let names = CHANNELS.map(|(name, _)| name);
     let sheet = "\
-# kept by walk at 2/1
+# kept by walk at 5/2
 channel  samples  kept  error  refusal  file
       0        5     3    2/1        0  wave
       1        0     0    0/1        1  none: no samples
@@ -49,7 +49,7 @@ channel  samples  kept  error  refusal  file
       4        0     0    0/1        3  span:2: the tick is over 1,048,575 above that of the first sample
   total        6     4    2/1        -  3 of 5 refused
 ";
-    let arguments = [&["--tolerance", "2"], &names[..]].concat();
+    let arguments = [&["--tolerance", "10/4"], &names[..]].concat();
     assert_eq!(printed(&folder, &arguments), sheet);
     let sheet = "\
 channel,samples,kept,error p,error q,tolerance p,tolerance q,refusal,file,cause
