@@ -388,7 +388,7 @@ pub fn report(channels: &Channels, tolerance: Tolerance, room: usize) -> Result<
                 Ok(Totals {
                     samples: report.samples,
                     kept: report.kept,
-                    error: lowest(report.error),
+                    error: ratio_of(report.error),
                 })
             }
             Err(row) => Err(*row),
@@ -411,12 +411,12 @@ fn summary(channel: &report::Channel) -> Summary {
     Summary {
         samples: channel.samples,
         kept: channel.kept,
-        error: lowest(channel.error),
+        error: ratio_of(channel.error),
         number: channel.number,
     }
 }
 
-fn lowest(Fraction { p, q }: Fraction) -> Ratio {
+fn ratio_of(Fraction { p, q }: Fraction) -> Ratio {
     let (p, q) = (p as u64, q as u64);
     Ratio { p, q }
 }

@@ -104,13 +104,13 @@ fn files_as_the_reference() {
     let folder = folder("report_files");
     let random = &mut Random::new(8);
     for count in [2, 3, 17, 64] {
-        let crate_ = channels(count, 60, random);
+        let made = channels(count, 60, random);
         let mut arguments = vec![
             "report".to_string(),
             "-t7/2".to_string(),
             "--csv".to_string(),
         ];
-        for (channel, trace) in crate_.traces().iter().enumerate() {
+        for (channel, trace) in made.traces().iter().enumerate() {
             let file = folder.join(format!("channel {channel}"));
             fs::write(&file, written(trace)).unwrap();
             arguments.push(path(&file).to_string());
@@ -121,7 +121,7 @@ fn files_as_the_reference() {
             ticks,
             values,
             lengths,
-        } = &crate_;
+        } = &made;
         let report = report(ticks, values, lengths, Form::Ratio(7, 2), count).unwrap();
         let numbered: Vec<i128> = (0..count as i128).collect();
         assert_eq!(numbers(&sheet), expected(&report, &numbered), "{count}");
@@ -133,17 +133,17 @@ fn files_as_the_reference() {
 fn one_file_as_the_reference() {
     let random = &mut Random::new(9);
     for count in [1, 2, 17, 64] {
-        let mut crate_ = channels(count, 60, random);
-        while crate_.lengths.contains(&0) {
-            crate_ = channels(count, 60, random);
+        let mut made = channels(count, 60, random);
+        while made.lengths.contains(&0) {
+            made = channels(count, 60, random);
         }
         let numbered: Vec<i128> = (0..count as i128)
             .map(|channel| 5 * channel * channel)
             .collect();
-        let traces = crate_.traces();
+        let traces = made.traces();
         let mut next = vec![0; count];
         let mut text = "tick;value;channel\n".to_string();
-        while text.lines().count() <= crate_.ticks.len() {
+        while text.lines().count() <= made.ticks.len() {
             let channel = random.below(count as u64) as usize;
             for _ in 0..random.below(500) {
                 let (k, trace) = (next[channel], &traces[channel]);
@@ -159,7 +159,7 @@ fn one_file_as_the_reference() {
             ticks,
             values,
             lengths,
-        } = &crate_;
+        } = &made;
         let report = report(ticks, values, lengths, Form::Ratio(7, 2), count).unwrap();
         assert_eq!(numbers(&sheet), expected(&report, &numbered), "{count}");
     }
