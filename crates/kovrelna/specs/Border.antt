@@ -1,8 +1,8 @@
 -- What the structs of the C interface stand for: the enums of the public calls.
 --   toleranceOf   the tolerance that a form gives
---   heldOf, verdictOf, keptOf, gallopedOf, closestOf, writtenOf, readOf, comparedOf   an answer as numbers: 0 for success, or the refusal's number and value
---   HoldExport, JudgeExport, WalkExport, GallopExport, MinimumExport, LeastExport, ExpandExport, WriteExport, ReadExport, SameExport
---                 an export's answer is that of the public call, with its whole outcome
+--   heldOf, verdictOf, keptOf, gallopedOf, closestOf, writtenOf, readOf, comparedOf, reportOf   an answer as numbers: 0 for success, or the refusal's number and value
+--   HoldExport, JudgeExport, WalkExport, GallopExport, MinimumExport, LeastExport, ExpandExport, WriteExport, ReadExport, SameExport,
+--   ReportExport  an export's answer is that of the public call, with its whole outcome
 -- Assumes nothing.
 use mathlib.Core.Path.{_≡_}
 use mathlib.Core.Bool.{cond}
@@ -34,9 +34,13 @@ use Rattle.reader.specs.declared.Answer.the-variants.{Samples, Refused as NotRe
 use Rattle.reader.specs.declared.Comparison.{Comparison}
 use Rattle.reader.specs.declared.Comparison.the-variants.{Same, Different, Refused as NotCompared}
 use Rattle.reader.specs.Reading.{ReadOutcome, SameOutcome}
+use Rattle.sheet.specs.declared.Summary.{Summary}
+use Rattle.sheet.specs.declared.Reported.{Reported}
+use Rattle.sheet.specs.declared.Reported.the-variants.{Counted, Refused as NotCounted}
 use Rattle.engine.specs.Reduce.{WalkOutcome, GallopOutcome}
 use Rattle.engine.specs.Minimum.{MinimumOutcome}
 use Rattle.engine.specs.Least.{LeastOutcome}
+use Rattle.engine.specs.Report.{ReportOutcome}
 use Rattle.kovrelna.specs.declared.Tolerance.{Tolerance}
 use Rattle.kovrelna.specs.declared.Held.{Held}
 use Rattle.kovrelna.specs.declared.Verdict.{Verdict}
@@ -45,10 +49,6 @@ use Rattle.kovrelna.specs.declared.Closest.{Closest}
 use Rattle.kovrelna.specs.declared.Content.{Content}
 use Rattle.kovrelna.specs.declared.Galloped.{Galloped}
 use Rattle.kovrelna.specs.declared.Report.{Report}
-use Rattle.sheet.specs.declared.Summary.{Summary}
-use Rattle.sheet.specs.declared.Reported.{Reported}
-use Rattle.sheet.specs.declared.Reported.the-variants.{Counted, Refused as NotCounted}
-use Rattle.engine.specs.Report.{ReportOutcome}
 
 unfoldable pub toleranceOf : Tolerance → T.Tolerance
 toleranceOf t =

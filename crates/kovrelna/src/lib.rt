@@ -1,7 +1,7 @@
 // The C interface: each export is a public call of `engine`, with numbers and structs for its enums.
 ghost use mathlib.Core.Path.{_≡_};
-ghost use Rattle.kovrelna.specs.Border.{toleranceOf, heldOf, verdictOf, keptOf, gallopedOf, closestOf, writtenOf, readOf, comparedOf, HoldExport, JudgeExport, WalkExport, GallopExport, MinimumExport, LeastExport, ExpandExport, WriteExport, ReadExport, SameExport, reportOf, ReportExport};
 ghost use Rattle.engine.specs.Report.{Surveyed};
+ghost use Rattle.kovrelna.specs.Border.{toleranceOf, heldOf, verdictOf, keptOf, gallopedOf, closestOf, writtenOf, readOf, comparedOf, HoldExport, JudgeExport, WalkExport, GallopExport, MinimumExport, LeastExport, ExpandExport, WriteExport, ReadExport, SameExport, reportOf, ReportExport};
 use sheet::Sheet;
 use sheet::Summary;
 
@@ -248,6 +248,7 @@ fn compared_of(a: reader::Comparison) -> Verdict
     }
 }
 
+// The report by value, for a list of `room` summaries.
 fn border_sheet(
     ticks: &[u32],
     values: &[i16],

@@ -204,6 +204,7 @@ pub fn refuse(x: Refusal) -> Sheet
     }
 }
 
+// What the report answers.
 pub fn answer_of(sheet: Sheet) -> Reported
     ensures { λ r. ⌜ r ≡ sheet .answer ⌝ }
 {
