@@ -559,7 +559,7 @@ pub fn same(first: &[u8], second: &[u8]) -> Result<bool, Refusal> {
 }
 
 /// What [`report`] says of a channel: its samples, what [`walk`] keeps of them, and the error of that
-/// list; or a refusal's number beside zeros. The default is all zeros.
+/// list; or a refusal's number beside zeros. The default is zeros, with 0/1 as the error.
 #[derive(Clone, Copy, Debug, Default, PartialEq, Eq, Hash)]
 #[repr(C)]
 pub struct Summary {
