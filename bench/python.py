@@ -13,6 +13,8 @@ from array import array
 import kovrelna
 
 CHANNELS = 64
+# The machine's speed changes: the library and Python are timed in turn, and medians are printed.
+ROUNDS = 5
 
 
 def lines(mode):
@@ -35,13 +37,13 @@ def crate(ticks, values, samples):
 
 
 def microseconds(call, *arguments):
-    """The processor's time of a call: the median, over at least 0.4 seconds."""
+    """The processor's time of a call: the median, over at least 0.1 seconds."""
     start, calls = time.process_time(), 0
     while time.process_time() - start < 0.02:
         call(*arguments)
         calls += 1
     times = []
-    for _ in range(21):
+    for _ in range(5):
         start = time.process_time()
         for _ in range(calls):
             call(*arguments)
@@ -79,13 +81,16 @@ def main():
         "shortest": ("2 samples", kovrelna.walk, *two, 7.5),
         "small": (f"{CHANNELS} channels of 2 samples", kovrelna.report, *crate(*whole, 2), 7.5),
     }
-    measured = {name: map(float, numbers) for name, *numbers in lines("summary")}
+    rounds = {name: [] for name in calls}
+    for _ in range(ROUNDS):
+        measured = {name: map(float, numbers) for name, *numbers in lines("summary")}
+        for name, (_, call, *arguments) in calls.items():
+            rounds[name].append((*measured[name], microseconds(call, *arguments)))
     print("| Call | Input | Library | × C | From Python |\n|---|---|---|---|---|")
-    for name, (given, call, *arguments) in calls.items():
-        time_of, ratio = measured[name]
-        python = microseconds(call, *arguments)
-        name = call.__name__
-        print(f"| {name} | {given} | {shown(time_of)} | {ratio:.2f} | {shown(python)} |")
+    for name, (given, call, *_) in calls.items():
+        library, ratio, python = map(statistics.median, zip(*rounds[name]))
+        row = call.__name__, given, shown(library), f"{ratio:.2f}", shown(python)
+        print("| " + " | ".join(row) + " |")
 
 
 main()
