@@ -1,12 +1,13 @@
 // The report on a crate: a row for each channel, totals, and the lent list that receives the rows.
-// The sheet goes by value through covered functions; `fill` alone has the list, as `&mut [Summary]`, and is proved by hand.
+// The sheet goes by value through functions that the borrow checker covers; `fill` alone has the list, as `&mut [Summary]`, and is proved
+// by hand.
 ghost use mathlib.Core.Path.{_≡_};
-ghost use Prim.Native.Nat.{ℕ, _+_, _*_, _≤_, _<_};
+ghost use Prim.Native.Nat.{_+_, _≤_, _<_};
 ghost use lib.Dec.{eqb};
 ghost use lib.ListN.{length};
 ghost use Rattle.trace.specs.Trace.{Trace};
 ghost use Rattle.trace.specs.Link.{Bounded};
-ghost use Rattle.sheet.specs.Report.{sum, crateRow, walkedRow, declinedRow, rowOf, partRow, RowBounds, totalsWith, TotalBounds, Divided, Rows, Declined, rowAt, Fits, filled};
+ghost use Rattle.sheet.specs.Report.{sum, crateRow, walkedRow, declinedRow, rowOf, partRow, RowBounds, totalsWith, Divided, Rows, Declined, rowAt, Fits, filled};
 use ratio::Ratio;
 use ratio::order::greater;
 use refusal::Checked;
@@ -114,7 +115,7 @@ fn declined(x: Refusal) -> Summary
 }
 
 // The row of a channel: what it is depends on these ticks and values and on the criterion alone.
-pub fn channel(ticks: &[u32], values: &[i16], c: Criterion) -> Summary
+fn channel(ticks: &[u32], values: &[i16], c: Criterion) -> Summary
     requires { ⌜ Bounded c ⌝ }
     ensures is { λ r. ⌜ r ≡ rowOf c (now (ticks .entry)) (now (values .entry)) ⌝ }
     ensures bounds { λ r. ⌜ RowBounds r ⌝ }
