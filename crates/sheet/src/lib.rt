@@ -160,7 +160,7 @@ pub fn survey(ticks: &[u32], values: &[i16], lengths: &[usize], c: Criterion) ->
         samples: 0,
         kept: 0,
         p: 0,
-        q: 0,
+        q: 1,
         number: 0,
     };
     let mut rows = [none; 64];
@@ -195,7 +195,7 @@ pub fn refuse(x: Refusal) -> Sheet
         samples: 0,
         kept: 0,
         p: 0,
-        q: 0,
+        q: 1,
         number: 0,
     };
     Sheet {
