@@ -1,21 +1,19 @@
 -- Laws of the reductions: the lists of walk and gallop are greedy, and demand 3 holds of them; minimum's is the shortest.
 -- Assumes nothing.
-use mathlib.Core.Path.{_≡_, subst}
+use mathlib.Core.Path.{_≡_, _∙_, subst}
 use mathlib.Core.List.{List}
-use Prim.Native.Nat.{ℕ, _+_, _-_, _*_, _≤_}
-use native.Mathlib.Nat.{le-of-eq}
+use Prim.Native.Nat.{ℕ, _-_}
 use lib.IntN.{ℤ}
 use lib.ListN.{length}
 use Rattle.lists.specs.Overwrite.{Wrote}
+use Rattle.lists.proofs.OverwriteLaws.{wrote-read}
 use Rattle.kept.specs.Kept.{Greedy}
-use Rattle.kept.proofs.KeptLaws.{each-map}
-use Rattle.kept.specs.Gallop.{gallopSearch, floorLog2}
 use Rattle.tolerance.specs.declared.Tolerance.{Tolerance}
 use Rattle.trace.specs.declared.Criterion.{Criterion}
 use Rattle.trace.specs.Trace.{Trace}
 use Rattle.reduction.specs.Walking.{walkList}
 use Rattle.reduction.specs.Galloping.{gallopList, gallopTotal}
-use Rattle.reduction.proofs.ReductionLaws.{walk-list-greedy, gallop-list-greedy, greedy-short, gallop-stop-probes}
+use Rattle.reduction.proofs.ReductionLaws.{walk-list-greedy, gallop-list-greedy, greedy-short, gallop-stop-probes, gallop-total}
 use Rattle.shortest.specs.Shortest.{minimumList}
 use Rattle.shortest.proofs.ShortestLaws.{minimum-list}
 use Rattle.engine.specs.Prepare.{criterionOf, OutputReady}
@@ -40,14 +38,17 @@ module _ {ts : List ℕ} {vs : List ℤ} {t : Tolerance} {o o′ : List ℕ} {n 
   }
 
   pub gallop-kept : {p : ℕ} → Wrote (gallopList ts vs c) o n o′ → p ≡ gallopTotal ts vs c → GallopKept ts vs t o n p o′
-  gallop-kept {p} w e = record {
-    rows = r .rows;
-    wrote = at-tolerance r (λ x. Wrote (gallopList ts vs x) o n o′) w;
-    list = greedy-list t (r .ready .trace) (gallop-list-greedy ts vs (criterionOf t));
-    probes = at-tolerance r (λ x. p ≡ gallopTotal ts vs x) e;
-    bound = each-map {S = λ i j. gallopSearch (okOf ts vs t) (length ts - 1) i .probes ≤ 2 * floorLog2 64 (j - i) + 1} (λ i j x. le-of-eq x) (gallopList ts vs (criterionOf t))
-        (gallop-stop-probes ts vs (criterionOf t) (r .ready .trace));
-  }
+  gallop-kept {p} w e =
+      let wrote = at-tolerance r (λ x. Wrote (gallopList ts vs x) o n o′) w in
+      let probes = at-tolerance r (λ x. p ≡ gallopTotal ts vs x) e in
+      record {
+        rows = r .rows;
+        wrote = wrote;
+        list = greedy-list t (r .ready .trace) (gallop-list-greedy ts vs (criterionOf t));
+        probes = probes;
+        exact = rw (wrote-read wrote) (gallop-stop-probes ts vs (criterionOf t) (r .ready .trace));
+        total = rw (wrote-read wrote) (probes ∙ gallop-total ts vs (criterionOf t) (r .ready .trace));
+      }
 
   pub minimum-kept : Wrote (minimumList ts vs c) o n o′ → MinimumKept ts vs t o n o′
   minimum-kept w = record {

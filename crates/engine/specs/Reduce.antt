@@ -8,13 +8,13 @@
 use mathlib.Core.Path.{_≡_}
 use mathlib.Core.Bool.{Bool}
 use mathlib.Core.List.{List}
-use Prim.Native.Nat.{ℕ, _+_, _-_, _*_, _≤_}
+use Prim.Native.Nat.{ℕ, _-_}
 use lib.IntN.{ℤ}
-use lib.ListN.{length}
+use lib.ListN.{length, take}
 use Rattle.lists.specs.Overwrite.{Wrote}
 use Rattle.refusal.specs.declared.Checked.the-variants.{Fine, Refused}
 use Rattle.kept.specs.Kept.{KeptList, AllValid, MaximalStops, EachLink}
-use Rattle.kept.specs.Gallop.{gallopSearch, floorLog2}
+use Rattle.kept.specs.Gallop.{gallopSearch, stopProbes, listProbes}
 use Rattle.tolerance.specs.declared.Tolerance.{Tolerance}
 use Rattle.trace.specs.Link.{valid, NoLonger}
 use Rattle.reduction.specs.Walking.{walkList}
@@ -45,13 +45,15 @@ abbrev pub WalkOutcome : List ℕ → List ℤ → Tolerance → List ℕ → Re
 WalkOutcome ts vs t o (Kept n) o′ = WalkKept ts vs t o n o′
 WalkOutcome ts vs t o (Declined x) o′ = (outputRows ts vs t (length o) ≡ Refused x) × (o′ ≡ o)
 
--- gallop kept n samples by p probes: the method's own, at most 2 floor (log2 r) + 1 for a stop of r samples
+-- gallop kept n samples by p probes, the method's own. From each sample kept, the search for the next takes exactly 2 floor (log2 r) + 1 for
+-- a stop of r samples, so p is the sum of these over the list written (document 02, "Probes to the digit").
 pub record GallopKept (ts : List ℕ) (vs : List ℤ) (t : Tolerance) (o : List ℕ) (n p : ℕ) (o′ : List ℕ) : Type 0 where
   pub rows : outputRows ts vs t (length o) ≡ Fine
   pub wrote : Wrote (gallopList ts vs (criterionOf t)) o n o′
   pub list : GreedyList ts vs t (gallopList ts vs (criterionOf t))
   pub probes : p ≡ gallopTotal ts vs (criterionOf t)
-  pub bound : EachLink (λ i j. gallopSearch (okOf ts vs t) (length ts - 1) i .probes ≤ 2 * floorLog2 64 (j - i) + 1) (gallopList ts vs (criterionOf t))
+  pub exact : EachLink (λ i j. gallopSearch (okOf ts vs t) (length ts - 1) i .probes ≡ stopProbes (j - i)) (take n o′)
+  pub total : p ≡ listProbes (take n o′)
 
 abbrev pub GallopOutcome : List ℕ → List ℤ → Tolerance → List ℕ → Probed → List ℕ → Type 0
 GallopOutcome ts vs t o (Galloped g) o′ = GallopKept ts vs t o (g .kept) (g .probes) o′

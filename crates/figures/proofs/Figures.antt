@@ -4,8 +4,9 @@
 use mathlib.Core.Path.{_≡_, refl, ap}
 use mathlib.Core.Bool.{true, false}
 use mathlib.Core.List.{List, [], _∷_}
-use Prim.Native.Nat.{ℕ}
+use Prim.Native.Nat.{ℕ, _+_}
 use lib.IntN.{ℤ, pos, negsuc}
+use lib.Count.{leadingZeros}
 use Rattle.lists.specs.First.{first, firstOf}
 use Rattle.ratio.specs.Gcd.{gcd, euclid}
 use Rattle.ratio.specs.Order.{over, greater, lesser}
@@ -14,7 +15,7 @@ use Rattle.kept.specs.Stops.{stops}
 use Rattle.kept.specs.Walk.{walkFrom, walkOf}
 use Rattle.kept.specs.Minimum.{bestStop, linksIn, linksOf, nextOf, minimumOf}
 use Rattle.kept.specs.Least.{leastOver, leastFrom, leastOf}
-use Rattle.kept.specs.Gallop.{probeOf, doubling, bisection, searchBy, gallopSearch, gallopOf, gallopProbes, sumFrom}
+use Rattle.kept.specs.Gallop.{probeOf, doubling, bisection, searchBy, gallopSearch, gallopOf, gallopProbes, sumFrom, listProbes}
 use Rattle.refusal.specs.declared.Refusal.the-variants.{Length, Tick, Span}
 use Rattle.refusal.specs.declared.Checked.the-variants.{Fine, Refused}
 use Rattle.refusal.specs.Table.{numberOf, returnedOf}
@@ -238,3 +239,21 @@ crate-rows = refl
 crate-totals : totalsOf (reportRows crateTicks crateValues crateLengths (Ratio 2 1)) ≡ totalled 6 4 (over 2 1)
 unfolding greater
 crate-totals = ap totalsOf crate-rows
+
+-- ---- probes to the digit: from the lists alone, the totals of the figures above; of a single sample; of stops of 1, 2, 3 and 4 samples
+
+list-probes-all : listProbes (0 ∷ 1 ∷ 2 ∷ 3 ∷ 4 ∷ []) ≡ 4
+unfolding sumFrom leadingZeros
+list-probes-all = refl
+
+list-probes-ends : listProbes (0 ∷ 4 ∷ []) ≡ 5
+unfolding sumFrom leadingZeros
+list-probes-ends = refl
+
+list-probes-one : listProbes (0 ∷ []) ≡ 0
+unfolding sumFrom
+list-probes-one = refl
+
+list-probes-rising : listProbes (0 ∷ 1 ∷ 3 ∷ 6 ∷ 10 ∷ []) ≡ 1 + 3 + 3 + 5
+unfolding sumFrom leadingZeros
+list-probes-rising = refl

@@ -4,4 +4,5 @@ pub mod Heights
 pub mod Again
 pub mod Nearness
 pub mod NoFactor
+pub mod Probes
 pub mod Report

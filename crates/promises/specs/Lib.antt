@@ -1,3 +1,4 @@
 -- The definitions of the crate `promises`.
 pub mod Nearness
 pub mod NoFactor
+pub mod Probes

@@ -3,12 +3,12 @@
 -- Assumes nothing.
 use mathlib.Core.Path.{_≡_}
 use mathlib.Core.List.{List}
-use Prim.Native.Nat.{ℕ, _+_, _-_, _*_}
+use Prim.Native.Nat.{ℕ, _-_}
 use native.Mathlib.Omega.{arith}
 use lib.IntN.{ℤ}
 use lib.ListN.{length}
 use Rattle.kept.specs.Kept.{Greedy, EachLink}
-use Rattle.kept.specs.Gallop.{gallopSearch, linkSum, floorLog2}
+use Rattle.kept.specs.Gallop.{gallopSearch, stopProbes, listProbes}
 use Rattle.kept.proofs.KeptLaws.{greedy-size}
 use Rattle.kept.proofs.WalkLaws.{walk-greedy}
 use Rattle.kept.proofs.GallopLaws.{gallop-greedy, stop-probes, gallop-probes}
@@ -34,8 +34,9 @@ module _ (ts : List ℕ) (vs : List ℤ) (c : Criterion) where
       greedy-short = greedy-size (valid ts vs c) (length ts - 1) l g (valid ts vs (half c)) (halves (t .rising) vs c)
 
     -- a stop of r samples takes 2 floor (log2 r) + 1 probes
-    pub gallop-stop-probes : EachLink (λ i j. gallopSearch (valid ts vs c) (length ts - 1) i .probes ≡ 2 * floorLog2 64 (j - i) + 1) (gallopList ts vs c)
-    gallop-stop-probes = stop-probes (valid ts vs c) (steps-valid ts vs c) (length ts - 1) 64 (omega (arith, t .few))
+    pub gallop-stop-probes : EachLink (λ i j. gallopSearch (valid ts vs c) (length ts - 1) i .probes ≡ stopProbes (j - i)) (gallopList ts vs c)
+    gallop-stop-probes = stop-probes (valid ts vs c) (steps-valid ts vs c) (length ts - 1) (omega (arith, t .few))
 
-    pub gallop-total : gallopTotal ts vs c ≡ linkSum (λ i j. 2 * floorLog2 64 (j - i) + 1) (gallopList ts vs c)
-    gallop-total = gallop-probes (valid ts vs c) (steps-valid ts vs c) (length ts - 1) 64 (omega (arith, t .few))
+    -- and the total is their sum
+    pub gallop-total : gallopTotal ts vs c ≡ listProbes (gallopList ts vs c)
+    gallop-total = gallop-probes (valid ts vs c) (steps-valid ts vs c) (length ts - 1) (omega (arith, t .few))
