@@ -7,7 +7,7 @@ use crate::name::{joined, placed};
 use crate::records;
 use crate::source::Source;
 use crate::text::{self, List, Text};
-use crate::{budget, check, draw, help, near, output, report, summary};
+use crate::{budget, check, draw, help, near, output, probes, report, summary};
 use kovrelna::{Least, Ratio, Refusal, Verdict};
 use std::ffi::{OsStr, OsString};
 use std::fmt::Display;
@@ -23,6 +23,7 @@ pub fn find(name: &str) -> Option<Command> {
         "check" => check::check,
         "least" => least,
         "near" => near::near,
+        "probes" => probes::probes,
         "summary" => summary::summary,
         "report" => report::report,
         "draw" => draw::draw,
@@ -81,9 +82,7 @@ fn judge(arguments: &[OsString]) -> Result<Status, Failure> {
     if line.arguments.help {
         return output::print(help::JUDGE);
     }
-    let Some((tolerance, _)) = line.tolerance()? else {
-        return Err(line.wrong("--tolerance is missing"));
-    };
+    let (tolerance, _) = line.needed_tolerance()?;
     let input = line.input()?.unwrap_or(OsStr::new("-"));
     if line.value(LIST_FILE) == Some(OsStr::new("-")) && input == "-" {
         return Err(line.wrong("standard input is wanted twice"));

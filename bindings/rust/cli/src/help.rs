@@ -15,6 +15,7 @@ Usage: kovrelna COMMAND [OPTION..] [FILE..]
   check     say whether a record may stand for a trace
   least     say how near a list of so many samples can come
   near      say how near the lists of walk and gallop are to the shortest
+  probes    say how many probes gallop takes
   summary   print a line for each record, and a total
   report    print the sheet of a crate: a line for each channel, and totals
   draw      draw a trace, its lines and its tolerance band as SVG
@@ -128,6 +129,26 @@ tolerance. Half of p/q is p over 2q; where no denominator so great is allowed,
 `-` stands in its place. Samples with a line `# tolerance p/q` are refused.
 
 Usage: kovrelna near -t TOLERANCE [FILE..]
+
+  -t, --tolerance T   p/q, counts, or noise x multiple: 2/3, 1.5, 3.25x4
+
+After a faulty trace the others are still counted.
+
+Exit status: 0 done, 2 error (also if one trace is faulty).
+";
+
+pub const PROBES: &str = "\
+Prints how many probes gallop takes: for each trace, under a heading, its
+samples, the stops that gallop makes (the samples that it keeps after the
+first), its probes, and the file; for several traces also the total.
+
+A stop that advances by r samples takes exactly 2 floor(log2 r) + 1 probes, the
+last stop of a trace too, and the probes are the sum of these. For s stops of a
+trace of n samples they are at most s (2 floor(log2(n - 1)) + 1), and at most
+2 (n - 1) - s, as many exactly where no stop advances by more than 2 samples.
+Samples with a line `# tolerance p/q` are refused.
+
+Usage: kovrelna probes -t TOLERANCE [FILE..]
 
   -t, --tolerance T   p/q, counts, or noise x multiple: 2/3, 1.5, 3.25x4
 

@@ -70,6 +70,14 @@ impl Line {
         }
     }
 
+    /// The tolerance of a command that needs one.
+    pub fn needed_tolerance(&self) -> Result<(Tolerance, Ratio), Failure> {
+        match self.tolerance()? {
+            Some(tolerance) => Ok(tolerance),
+            None => Err(self.wrong("--tolerance is missing")),
+        }
+    }
+
     /// An option's value as a tick.
     pub fn tick(&self, option: Known) -> Result<Option<u32>, Failure> {
         let Some(written) = self.text(option)? else {

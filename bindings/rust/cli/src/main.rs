@@ -15,9 +15,10 @@
 //! - `svg`: pictures.
 //! - `curve`: curves of straight lines in them.
 //! - `line`: what the commands share.
+//! - `counts`: tables of counts.
 //! - `budget`: what an error budget may say.
 //! - `commands`: one function for each command.
-//! - `check`, `draw`, `near`, `report`, `summary`: commands with a file of their own.
+//! - `check`, `draw`, `near`, `probes`, `report`, `summary`: commands with a file of their own.
 //!
 //! Which samples are kept, whether a list is within a tolerance, what a tolerance is held as and what
 //! is in a record: all this is asked of the library.
@@ -27,6 +28,7 @@ mod args;
 mod budget;
 mod check;
 mod commands;
+mod counts;
 mod curve;
 mod draw;
 #[allow(unsafe_code)]
@@ -38,6 +40,7 @@ mod name;
 mod near;
 mod number;
 mod output;
+mod probes;
 mod records;
 mod report;
 mod source;

@@ -1,39 +1,34 @@
 //! The command `near`: how near the lists of walk and gallop are to the shortest.
 
 use crate::failure::{Failure, Status};
-use crate::line::{each, Line, METHODS, TOLERANCE};
-use crate::name::joined;
-use crate::text::Text;
-use crate::{help, output};
+use crate::line::{Line, Method, METHODS, TOLERANCE};
+use crate::{counts, help, output};
 use kovrelna::{hold, Ratio, Tolerance};
-use std::ffi::{OsStr, OsString};
+use std::ffi::OsString;
 
 pub fn near(arguments: &[OsString]) -> Result<Status, Failure> {
     let line = Line::parse("near", &[TOLERANCE], arguments)?;
     if line.arguments.help {
         return output::print(help::NEAR);
     }
-    let Some((tolerance, held)) = line.tolerance()? else {
-        return Err(line.wrong("--tolerance is missing"));
-    };
+    let (tolerance, held) = line.needed_tolerance()?;
     let inputs = line.inputs()?;
     let Ratio { p, q } = half(held);
     let half = Tolerance::Ratio { p, q };
     let half = hold(half).ok().map(|_| half);
     output::print(heading(held))?;
-    let mut total = Row {
-        half: half.map(|_| 0),
-        ..Row::default()
-    };
-    let status = each(&inputs, |source| {
-        let text = Text::read(source)?.original()?;
-        let row = Row::of(&text, tolerance, half)?;
-        total = total.plus(row);
-        Ok(row.line(&text.name))
+    let [walk, gallop, minimum] = METHODS;
+    let none = [Some(0), Some(0), Some(0), Some(0), half.map(|_| 0)];
+    let status = counts::print(&inputs, none, |text| {
+        let kept = |method: Method, tolerance| Ok(method.list(text, tolerance)?.len());
+        Ok([
+            Some(text.ticks.len()),
+            Some(kept(walk, tolerance)?),
+            Some(kept(gallop, tolerance)?),
+            Some(kept(minimum, tolerance)?),
+            half.map(|half| kept(minimum, half)).transpose()?,
+        ])
     })?;
-    if inputs.len() > 1 {
-        output::print(total.line("total"))?;
-    }
     if half.is_none() {
         let cause = "is no tolerance: its denominator is above 1,048,575";
         output::print(format!("# {p}/{q} {cause}\n"))?;
@@ -58,52 +53,4 @@ fn heading(held: Ratio) -> String {
          samples    walk  gallop minimum    half  file\n",
         half.p, half.q
     )
-}
-
-/// So many samples, and how many of them are kept.
-#[derive(Clone, Copy, Default)]
-struct Row {
-    samples: usize,
-    /// By each of the methods.
-    kept: [usize; METHODS.len()],
-    /// By minimum at half the tolerance, if that is a tolerance.
-    half: Option<usize>,
-}
-
-impl Row {
-    fn of(text: &Text, tolerance: Tolerance, half: Option<Tolerance>) -> Result<Row, Failure> {
-        let [_, _, minimum] = METHODS;
-        let mut kept = [0; METHODS.len()];
-        for (kept, method) in kept.iter_mut().zip(METHODS) {
-            *kept = method.list(text, tolerance)?.len();
-        }
-        let half = half.map(|half| minimum.list(text, half)).transpose()?;
-        Ok(Row {
-            samples: text.ticks.len(),
-            kept,
-            half: half.map(|list| list.len()),
-        })
-    }
-
-    fn plus(self, other: Row) -> Row {
-        let mut kept = self.kept;
-        for (kept, other) in kept.iter_mut().zip(other.kept) {
-            *kept += other;
-        }
-        Row {
-            samples: self.samples + other.samples,
-            kept,
-            half: self.half.zip(other.half).map(|(half, other)| half + other),
-        }
-    }
-
-    fn line(&self, name: impl AsRef<OsStr>) -> OsString {
-        let [walk, gallop, minimum] = self.kept;
-        let half = self.half.map_or("-".to_string(), |half| half.to_string());
-        let counts = format!(
-            "{:>7} {walk:>7} {gallop:>7} {minimum:>7} {half:>7}  ",
-            self.samples
-        );
-        joined(&[&counts, &name, &"\n"])
-    }
 }

@@ -19,9 +19,7 @@ pub fn report(arguments: &[OsString]) -> Result<Status, Failure> {
     if line.arguments.help {
         return output::print(help::REPORT);
     }
-    let Some((tolerance, held)) = line.tolerance()? else {
-        return Err(line.wrong("--tolerance is missing"));
-    };
+    let (tolerance, held) = line.needed_tolerance()?;
     let inputs = line.inputs()?;
     let channels = channels(&inputs)?;
     let rows = rows(&channels, tolerance).map_err(|refusal| match refusal {

@@ -2,17 +2,21 @@
 //!
 //! - `budget`: what an error budget may say.
 //! - `check`: whether a record may stand for a trace.
+//! - `counts`: tables of counts.
 //! - `draw`: pictures.
 //! - `names`: names of files that are not UTF-8.
 //! - `near`: how near lists are to the shortest.
+//! - `probes`: gallop's probes.
 //! - `report`: the sheet of a crate.
 //! - `signals`: runs that are ended while they write a file.
 
 mod budget;
 mod check;
+mod counts;
 mod draw;
 mod names;
 mod near;
+mod probes;
 mod report;
 mod signals;
 

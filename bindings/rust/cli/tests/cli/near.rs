@@ -1,68 +1,25 @@
 //! How near lists are to the shortest, beside the slow reference.
 
-use super::{done, fails, folder, path, run, shipped, told, written, WAVE};
-use kovrelna_reference::generate::{any_trace, Random, Trace};
+use super::counts::{compare, row};
+use super::{done, fails, folder, path, run, shipped, told, WAVE};
+use kovrelna_reference::generate::Trace;
 use kovrelna_reference::{fewest, reduce, Form, Fraction, METHODS};
 use std::fs;
 
-/// The numbers of a line, and its name; -1 for `-`.
-fn row(line: &str) -> (Vec<i64>, String) {
-    let mut fields: Vec<&str> = line.split_whitespace().collect();
-    let name = fields.pop().unwrap().to_string();
-    let number = |field: &str| {
-        if field == "-" {
-            -1
-        } else {
-            field.parse().unwrap()
-        }
-    };
-    (fields.into_iter().map(number).collect(), name)
-}
-
 #[test]
 fn as_the_reference() {
-    let folder = folder("near_as_the_reference");
-    let mut random = Random::new(6);
-    for (p, q) in [
-        (0, 1),
-        (5, 1),
-        (3, 2),
-        (2, 1_048_575),
-        (100, 7),
-        (1, 524_287),
-    ] {
-        let traces: Vec<Trace> = (0..6)
-            .map(|_| {
-                let samples = random.within(1, 90) as usize;
-                any_trace(samples, &mut random)
-            })
-            .collect();
-        let mut arguments = vec!["near".to_string(), format!("-t{p}/{q}")];
-        for (k, trace) in traces.iter().enumerate() {
-            let file = folder.join(k.to_string());
-            fs::write(&file, written(trace)).unwrap();
-            arguments.push(path(&file).to_string());
-        }
-        let line: Vec<&str> = arguments.iter().map(String::as_str).collect();
-        let printed = String::from_utf8(done(&line, "")).unwrap();
-        let mut lines = printed.lines().skip(2);
-        let mut total = vec![0; 5];
-        for (trace, file) in traces.iter().zip(&line[2..]) {
-            let Trace { ticks, values } = trace;
-            let mut expected = vec![ticks.len() as i64];
-            for method in METHODS {
-                let form = Form::Ratio(p, q);
-                let reduced = reduce(method, ticks, values, form, ticks.len()).unwrap();
-                expected.push(reduced.list.len() as i64);
-            }
-            let (p, q) = (i128::from(p), i128::from(q));
-            expected.push(fewest(ticks, values, Fraction { p, q }.half()) as i64);
-            total = total.iter().zip(&expected).map(|(a, b)| a + b).collect();
-            assert_eq!(row(lines.next().unwrap()), (expected, file.to_string()));
-        }
-        assert_eq!(row(lines.next().unwrap()), (total, "total".to_string()));
-        assert_eq!(lines.next(), None);
-    }
+    compare("near", 6, |Trace { ticks, values }, p, q| {
+        let form = Form::Ratio(p, q);
+        let kept = |method| {
+            reduce(method, ticks, values, form, ticks.len())
+                .unwrap()
+                .list
+        };
+        let (p, q) = (i128::from(p), i128::from(q));
+        let half = fewest(ticks, values, Fraction { p, q }.half());
+        let [walk, gallop, minimum] = METHODS.map(|method| kept(method).len());
+        vec![ticks.len(), walk, gallop, minimum, half]
+    });
 }
 
 #[test]
