@@ -381,6 +381,18 @@ static void judge(int line, const uint32_t *ticks, size_t ticks_len, const int16
   judge(__LINE__, ticks, COUNT(ticks), values, COUNT(values), list, COUNT(list), tolerance,       \
         number, passed, value)
 
+/* The sum over the list's stops of 2 floor(log2 r) + 1, where a stop advances by r samples. */
+static uint64_t list_probes(const uint16_t *list, size_t len) {
+  uint64_t total = 0;
+  size_t k;
+  for (k = 1; k < len; k++) {
+    unsigned r = (unsigned)list[k] - list[k - 1];
+    total++;
+    while (r >>= 1) total += 2;
+  }
+  return total;
+}
+
 /* With number 0 the method writes the list, which has `value` entries. */
 static void reduce(int line, int method, const uint32_t *ticks, size_t ticks_len,
                    const int16_t *values, size_t values_len, kovrelna_tolerance tolerance,
@@ -393,6 +405,8 @@ static void reduce(int line, int method, const uint32_t *ticks, size_t ticks_len
   lists[2] = number != 0 ? output(out_len, sizeof(uint16_t))
                          : filled(out_len, sizeof(uint16_t), list, 0, (size_t)value);
   run(line, method, lists, tolerance, 0, expected);
+  if (method == GALLOP && number == 0)
+    differ("probes of the list", probes, list_probes(list, (size_t)value));
 }
 
 #define REDUCE(method, ticks, values, tolerance, out_len, probes, list)                           \

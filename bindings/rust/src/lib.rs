@@ -319,7 +319,8 @@ pub fn walk(
 pub struct Galloped {
     /// The kept number.
     pub kept: usize,
-    /// The probe total.
+    /// The probe total: the sum of 2 floor(log2 r) + 1 over the stops of the kept list, each of which
+    /// advances by r samples.
     pub probes: usize,
 }
 
@@ -328,8 +329,10 @@ pub struct Galloped {
 /// (low + high) / 2, rounded down, and moves low there if that link is valid, high if not. Keeps
 /// sample i + low and goes on from there.
 ///
-/// A probe past the last sample is invalid, and counts. A stop that advances by r samples takes at
-/// most 2 floor(log2 r) + 1 probes.
+/// A probe past the last sample is invalid, and counts. A stop that advances by r samples takes exactly
+/// 2 floor(log2 r) + 1 probes, the last stop too, and the total is the sum of these over the kept list.
+/// For s stops of a trace of n samples it is at most s (2 floor(log2(n - 1)) + 1), and at most
+/// 2 (n - 1) - s, which is reached exactly where no stop advances by more than 2 samples.
 ///
 /// The output, its promise and the refusals are those of [`walk`].
 ///
@@ -341,6 +344,9 @@ pub struct Galloped {
 /// let answer = gallop(&ticks, &values, Tolerance::Counts(2.0), &mut out);
 /// assert_eq!(answer, Ok(Galloped { kept: 2, probes: 5 }));
 /// assert_eq!(out, [0, 4, 9, 9, 9]);
+///
+/// let stop = |link: &[u16]| 2 * (link[1] - link[0]).ilog2() + 1;
+/// assert_eq!(out[..2].windows(2).map(stop).sum::<u32>(), 5);
 /// ```
 pub fn gallop(
     ticks: &[u32],

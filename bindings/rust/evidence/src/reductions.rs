@@ -17,25 +17,39 @@ pub fn stop_probes(r: usize) -> usize {
     2 * r.ilog2() as usize + 1
 }
 
+/// What holds of gallop's probes, which the reference counts one by one: they are the sum over the
+/// stops, and within both bounds for so many stops, of which the second is reached exactly where no
+/// stop advances by more than 2 samples.
+fn probes_of_stops(samples: usize, Reduced { list, probes }: &Reduced) {
+    let advances: Vec<usize> = list
+        .windows(2)
+        .map(|link| usize::from(link[1] - link[0]))
+        .collect();
+    let (stops, last) = (advances.len(), samples - 1);
+    let total: usize = advances.iter().copied().map(stop_probes).sum();
+    assert_eq!(*probes, total, "{list:?}");
+    assert!(last == 0 || total <= stops * stop_probes(last), "{list:?}");
+    assert!(total + stops <= 2 * last, "{list:?}");
+    let short = advances.iter().all(|&r| r <= 2);
+    assert_eq!(total + stops == 2 * last, short, "{list:?}");
+}
+
 /// Calls a greedy method and sees what holds of every greedy list: each link is valid; from the same
-/// start, the link to the sample after each stop is invalid; each stop of r samples takes its
-/// probes.
+/// start, the link to the sample after each stop is invalid; gallop's stops take their probes.
 pub fn greedy(method: Method, trace: &Trace, tolerance: Tolerance, room: usize) -> Reduced {
     let Trace { ticks, values } = trace;
     let reduced = reduce(method, ticks, values, tolerance, room).unwrap();
     assert_eq!(judge(ticks, values, &reduced.list, tolerance), Ok(None));
     let held = held(form(tolerance)).unwrap();
-    let mut probes = 0;
     for link in reduced.list.windows(2) {
         let (i, j) = (usize::from(link[0]), usize::from(link[1]));
         assert!(
             j == ticks.len() - 1 || !link_valid(ticks, values, i, j + 1, held),
             "{method:?} stops too early at {j}\n{trace:?}\n{tolerance:?}"
         );
-        probes += stop_probes(j - i);
     }
     if method == Gallop {
-        assert_eq!(reduced.probes, probes, "{trace:?}\n{tolerance:?}");
+        probes_of_stops(ticks.len(), &reduced);
     }
     reduced
 }
