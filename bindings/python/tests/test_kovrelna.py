@@ -934,11 +934,13 @@ class Reference(Case):
                 found = answer(call, ticks, values, tolerance, out)
                 seen.add(expected[1][0] if expected[0] == "refused" else 0)
                 if expected[0] != "refused":
-                    gallop = call is kovrelna.gallop
-                    found = (list(found.kept), found.probes) if gallop else list(found)
-                    if gallop:
+                    if call is kovrelna.gallop:
+                        found = list(found.kept), found.probes
                         stops = zip(found[0], found[0][1:])
-                        self.assertEqual(found[1], sum(2 * (j - i).bit_length() - 1 for i, j in stops))
+                        total = sum(2 * (j - i).bit_length() - 1 for i, j in stops)
+                        self.assertEqual(found[1], total, (ticks, values, form))
+                    else:
+                        found = list(found)
                 self.assertEqual(found, expected, (call.__name__, ticks, values, form))
             allowance = self.random.choice([1, 2, 2, 3, 4, 5, 4096, 4097])
             expected = answer(reference.least, ticks, values, allowance, len(out))

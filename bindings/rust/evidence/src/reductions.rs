@@ -20,18 +20,23 @@ pub fn stop_probes(r: usize) -> usize {
 /// What holds of gallop's probes, which the reference counts one by one: they are the sum over the
 /// stops, and within both bounds for so many stops, of which the second is reached exactly where no
 /// stop advances by more than 2 samples.
-fn probes_of_stops(samples: usize, Reduced { list, probes }: &Reduced) {
+fn probes_of_stops(trace: &Trace, tolerance: Tolerance, Reduced { list, probes }: &Reduced) {
     let advances: Vec<usize> = list
         .windows(2)
         .map(|link| usize::from(link[1] - link[0]))
         .collect();
-    let (stops, last) = (advances.len(), samples - 1);
+    let (stops, last) = (advances.len(), trace.ticks.len() - 1);
     let total: usize = advances.iter().copied().map(stop_probes).sum();
-    assert_eq!(*probes, total, "{list:?}");
-    assert!(last == 0 || total <= stops * stop_probes(last), "{list:?}");
-    assert!(total + stops <= 2 * last, "{list:?}");
+    let input = || format!("{list:?}\n{trace:?}\n{tolerance:?}");
+    assert_eq!(*probes, total, "{}", input());
+    assert!(
+        stops == 0 || total <= stops * stop_probes(last),
+        "{}",
+        input()
+    );
+    assert!(total + stops <= 2 * last, "{}", input());
     let short = advances.iter().all(|&r| r <= 2);
-    assert_eq!(total + stops == 2 * last, short, "{list:?}");
+    assert_eq!(total + stops == 2 * last, short, "{}", input());
 }
 
 /// Calls a greedy method and sees what holds of every greedy list: each link is valid; from the same
@@ -49,7 +54,7 @@ pub fn greedy(method: Method, trace: &Trace, tolerance: Tolerance, room: usize) 
         );
     }
     if method == Gallop {
-        probes_of_stops(ticks.len(), &reduced);
+        probes_of_stops(trace, tolerance, &reduced);
     }
     reduced
 }
