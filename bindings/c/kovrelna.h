@@ -226,10 +226,10 @@ kovrelna_answer kovrelna_walk(const uint32_t *ticks, size_t ticks_len,
  * (low + high) / 2, rounded down, and moves low there if that link is valid, high if not. Keeps
  * sample i + low and goes on from there. A probe past the last sample is invalid, and counts.
  *
- * A stop that advances by r samples takes exactly 2 floor(log2 r) + 1 probes, the last stop too, and
- * the total is the sum of these over the kept list. For s stops of a trace of n samples it is at most
- * s (2 floor(log2(n - 1)) + 1), and at most 2 (n - 1) - s, which is reached exactly where no stop
- * advances by more than 2 samples. */
+ * A stop is a kept sample after the first. One that advances by r samples takes exactly
+ * 2 floor(log2 r) + 1 probes, the last stop too, and the total is the sum of these. For s stops of a
+ * trace of n samples it is at most s (2 floor(log2(n - 1)) + 1), and at most 2 (n - 1) - s, which is
+ * reached exactly where no stop advances by more than 2 samples. One sample takes no probe. */
 kovrelna_galloped kovrelna_gallop(const uint32_t *ticks, size_t ticks_len,
                                   const int16_t *values, size_t values_len,
                                   kovrelna_tolerance tolerance,

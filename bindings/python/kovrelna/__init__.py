@@ -242,8 +242,7 @@ class Galloped(NamedTuple):
     kept: Numbers
     """The kept list."""
     probes: int
-    """The probe total: the sum of 2 floor(log2 r) + 1 over the stops of the kept list, each of which
-    advances by r samples."""
+    """The probe total."""
 
 
 def gallop(
@@ -254,16 +253,18 @@ def gallop(
     offset (low + high) / 2, rounded down, and moves low there if that link is valid, high if not.
     Keeps sample i + low and goes on from there.
 
-    A probe past the last sample is invalid, and counts. A stop that advances by r samples takes
-    exactly 2 floor(log2 r) + 1 probes, the last stop too, and the total is the sum of these over the
-    kept list. For s stops of a trace of n samples it is at most s (2 floor(log2(n - 1)) + 1), and at
-    most 2 (n - 1) - s, which is reached exactly where no stop advances by more than 2 samples. The
-    promise of the kept list and the refusals are those of `walk`.
+    A probe past the last sample is invalid, and counts.
 
-    >>> kept, probes = gallop(range(5), [0, 2, 0, -2, 0], 2)
-    >>> kept, probes
-    (array('H', [0, 4]), 5)
-    >>> sum(2 * int(j - i).bit_length() - 1 for i, j in zip(kept, kept[1:]))
+    A stop is a kept sample after the first. One that advances by r samples takes exactly
+    2 floor(log2 r) + 1 probes, the last stop too, and the total is the sum of these. For s stops of a
+    trace of n samples it is at most s (2 floor(log2(n - 1)) + 1), and at most 2 (n - 1) - s, which is
+    reached exactly where no stop advances by more than 2 samples. One sample takes no probe.
+
+    The promise of the kept list and the refusals are those of `walk`.
+
+    >>> gallop(range(5), [0, 2, 0, -2, 0], 2)
+    Galloped(kept=array('H', [0, 4]), probes=5)
+    >>> 2 * ((4 - 0).bit_length() - 1) + 1
     5
     """
     answer, kept = _bounded(_library.gallop, ticks, values, tolerance, out)

@@ -319,8 +319,7 @@ pub fn walk(
 pub struct Galloped {
     /// The kept number.
     pub kept: usize,
-    /// The probe total: the sum of 2 floor(log2 r) + 1 over the stops of the kept list, each of which
-    /// advances by r samples.
+    /// The probe total.
     pub probes: usize,
 }
 
@@ -329,10 +328,12 @@ pub struct Galloped {
 /// (low + high) / 2, rounded down, and moves low there if that link is valid, high if not. Keeps
 /// sample i + low and goes on from there.
 ///
-/// A probe past the last sample is invalid, and counts. A stop that advances by r samples takes exactly
-/// 2 floor(log2 r) + 1 probes, the last stop too, and the total is the sum of these over the kept list.
-/// For s stops of a trace of n samples it is at most s (2 floor(log2(n - 1)) + 1), and at most
-/// 2 (n - 1) - s, which is reached exactly where no stop advances by more than 2 samples.
+/// A probe past the last sample is invalid, and counts.
+///
+/// A stop is a kept sample after the first. One that advances by r samples takes exactly
+/// 2 floor(log2 r) + 1 probes, the last stop too, and the total is the sum of these. For s stops of a
+/// trace of n samples it is at most s (2 floor(log2(n - 1)) + 1), and at most 2 (n - 1) - s, which is
+/// reached exactly where no stop advances by more than 2 samples. One sample takes no probe.
 ///
 /// The output, its promise and the refusals are those of [`walk`].
 ///

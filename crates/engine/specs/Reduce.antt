@@ -45,13 +45,14 @@ abbrev pub WalkOutcome : List ℕ → List ℤ → Tolerance → List ℕ → Re
 WalkOutcome ts vs t o (Kept n) o′ = WalkKept ts vs t o n o′
 WalkOutcome ts vs t o (Declined x) o′ = (outputRows ts vs t (length o) ≡ Refused x) × (o′ ≡ o)
 
--- gallop kept n samples by p probes, the method's own. From each sample kept, the search for the next takes exactly 2 floor (log2 r) + 1 for
--- a stop of r samples, so p is the sum of these over the list written (document 02, "Probes to the digit").
+-- gallop kept n samples by p probes, the method's own
 pub record GallopKept (ts : List ℕ) (vs : List ℤ) (t : Tolerance) (o : List ℕ) (n p : ℕ) (o′ : List ℕ) : Type 0 where
   pub rows : outputRows ts vs t (length o) ≡ Fine
   pub wrote : Wrote (gallopList ts vs (criterionOf t)) o n o′
   pub list : GreedyList ts vs t (gallopList ts vs (criterionOf t))
   pub probes : p ≡ gallopTotal ts vs (criterionOf t)
+  -- document 02, "Probes to the digit": the search from each kept sample to the next takes exactly 2 floor (log2 r) + 1 for a stop of r samples,
+  -- and the total is the sum of these over the list written
   pub exact : EachLink (λ i j. gallopSearch (okOf ts vs t) (length ts - 1) i .probes ≡ stopProbes (j - i)) (take n o′)
   pub total : p ≡ listProbes (take n o′)
 

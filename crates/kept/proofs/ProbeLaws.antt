@@ -1,6 +1,6 @@
 -- Laws of the probe total of a kept list of the samples 0 .. last, from its links alone (document 02, "Probes to the digit"). With s stops:
 --   total-stops     at most s times the probes of one stop of `last` samples
---   total-steps     at most 2 last - s
+--   total-samples   at most 2 last - s
 --   total-reached   which is reached where no stop advances by more than 2 samples
 --   reached-only    and only there
 -- Assumes nothing.
@@ -14,7 +14,7 @@ use lib.Count.{leadingZeros, leading-top}
 use lib.ListN.{length}
 use lib.Pow.{pow-mono}
 use Rattle.kept.specs.Kept.{LinksFrom, EachLink, final, KeptList}
-use Rattle.kept.specs.Gallop.{sumFrom, linkSum, floorLog2, stopProbes, listProbes}
+use Rattle.kept.specs.Gallop.{sumFrom, floorLog2, stopProbes, listProbes}
 use Rattle.kept.proofs.KeptLaws.{each-map, each-zip, kept-links}
 use Rattle.kept.proofs.GallopLaws.{lt-pow}
 
@@ -63,7 +63,7 @@ unfolding sumFrom
 sum-most f b i [] h = omega arith
 sum-most f b i (j ∷ s) h = omega (arith, suc-mul (length s) b, sum-most f b j s (h .1))
 
--- a number of each link that with 1 is at most twice what the link advances
+-- f of each link, plus 1, is at most twice the samples that the link advances by
 module _ (f : ℕ → ℕ → ℕ) where
   sum-steps : (i : ℕ) (s : List ℕ) → LinksFrom (λ i j. (i < j) × (f i j + 1 ≤ 2 * (j - i))) i s → sumFrom f i s + length s + 2 * i ≤ 2 * final i s
   unfolding sumFrom
@@ -87,6 +87,12 @@ module _ (f : ℕ → ℕ → ℕ) where
 abbrev probes : ℕ → ℕ → ℕ
 probes i j = stopProbes (j - i)
 
+pub total-reached : {last : ℕ} (l : List ℕ) → KeptList last l → EachLink (λ i j. j ≤ i + 2) l → listProbes l + (length l - 1) ≡ 2 * last
+total-reached [] k h = absurd (k .spans)
+total-reached (i ∷ s) k h =
+    let each = each-zip {Q = λ i j. (i < j) × (probes i j + 1 ≡ 2 * (j - i))} (λ i j a b. (a, stop-reached (j - i) (omega arith) (omega arith))) (i ∷ s) (k .rises) h in
+    omega (arith, k .spans, sum-reached probes i s each)
+
 module _ {last : ℕ} (fit : last < 2 ^ 64) where
   each-most : (l : List ℕ) → KeptList last l → EachLink (λ i j. (i < j) × (probes i j + 1 ≤ 2 * (j - i))) l
   each-most l k = each-map (λ i j h. (h .0, stop-most (j - i) (omega arith) (omega arith))) l (kept-links last l k)
@@ -98,15 +104,9 @@ module _ {last : ℕ} (fit : last < 2 ^ 64) where
       let e : length (i ∷ s) - 1 ≡ length s = omega arith in
       rw e (sum-most probes (stopProbes last) i s each)
 
-  pub total-steps : (l : List ℕ) → KeptList last l → listProbes l + (length l - 1) ≤ 2 * last
-  total-steps [] k = absurd (k .spans)
-  total-steps (i ∷ s) k = omega (arith, k .spans, sum-steps probes i s (each-most (i ∷ s) k))
-
-  pub total-reached : (l : List ℕ) → KeptList last l → EachLink (λ i j. j ≤ i + 2) l → listProbes l + (length l - 1) ≡ 2 * last
-  total-reached [] k h = absurd (k .spans)
-  total-reached (i ∷ s) k h =
-      let each = each-zip {Q = λ i j. (i < j) × (probes i j + 1 ≡ 2 * (j - i))} (λ i j a b. (a, stop-reached (j - i) (omega arith) (omega arith))) (i ∷ s) (k .rises) h in
-      omega (arith, k .spans, sum-reached probes i s each)
+  pub total-samples : (l : List ℕ) → KeptList last l → listProbes l + (length l - 1) ≤ 2 * last
+  total-samples [] k = absurd (k .spans)
+  total-samples (i ∷ s) k = omega (arith, k .spans, sum-steps probes i s (each-most (i ∷ s) k))
 
   pub reached-only : (l : List ℕ) → KeptList last l → listProbes l + (length l - 1) ≡ 2 * last → EachLink (λ i j. j ≤ i + 2) l
   reached-only [] k e = tt

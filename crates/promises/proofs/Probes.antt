@@ -11,7 +11,7 @@ use lib.ListN.{length, take}
 use Rattle.lists.proofs.OverwriteLaws.{wrote-read}
 use Rattle.refusal.proofs.TableLaws.{then-fine}
 use Rattle.kept.specs.Gallop.{listProbes}
-use Rattle.kept.proofs.ProbeLaws.{total-stops, total-steps, total-reached, reached-only}
+use Rattle.kept.proofs.ProbeLaws.{total-stops, total-samples, total-reached, reached-only}
 use Rattle.tolerance.specs.declared.Tolerance.{Tolerance}
 use Rattle.reduction.specs.declared.Galloped.{Galloped}
 use Rattle.engine.specs.declared.Probed.the-variants.{Kept}
@@ -30,8 +30,8 @@ probe-budget {ts} {vs} {t} w =
     rw (w .total, wrote-read (w .wrote), w .wrote .count) (record {
       total = refl;
       by-stops = total-stops fit _ kept;
-      by-samples = total-steps fit _ kept;
-      reached = total-reached fit _ kept;
+      by-samples = total-samples fit _ kept;
+      reached = total-reached _ kept;
       reached-only = reached-only fit _ kept;
     })
 

@@ -33,7 +33,7 @@ module _ (ts : List ℕ) (vs : List ℤ) (c : Criterion) where
       pub greedy-short : NoLonger ts vs c (length l)
       greedy-short = greedy-size (valid ts vs c) (length ts - 1) l g (valid ts vs (half c)) (halves (t .rising) vs c)
 
-    -- a stop of r samples takes 2 floor (log2 r) + 1 probes
+    -- a stop of r samples takes exactly 2 floor (log2 r) + 1 probes
     pub gallop-stop-probes : EachLink (λ i j. gallopSearch (valid ts vs c) (length ts - 1) i .probes ≡ stopProbes (j - i)) (gallopList ts vs c)
     gallop-stop-probes = stop-probes (valid ts vs c) (steps-valid ts vs c) (length ts - 1) (omega (arith, t .few))
 

@@ -10,8 +10,8 @@ use std::ffi::{OsStr, OsString};
 /// The counts of a line; none where there is nothing to count.
 type Counts<const N: usize> = [Option<usize>; N];
 
-/// Prints the counts of each trace and its name and, for several inputs, the sums, which start from
-/// `sums`.
+/// Prints a line with the counts and the name of each trace; for several inputs also the sums, added
+/// to `sums`.
 pub fn print<const N: usize>(
     inputs: &[&OsStr],
     mut sums: Counts<N>,

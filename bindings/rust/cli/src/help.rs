@@ -139,14 +139,15 @@ Exit status: 0 done, 2 error (also if one trace is faulty).
 
 pub const PROBES: &str = "\
 Prints how many probes gallop takes: for each trace, under a heading, its
-samples, the stops that gallop makes (the samples that it keeps after the
-first), its probes, and the file; for several traces also the total.
+samples, gallop's stops and probes, and the file; for several traces also the
+total.
 
-A stop that advances by r samples takes exactly 2 floor(log2 r) + 1 probes, the
-last stop of a trace too, and the probes are the sum of these. For s stops of a
-trace of n samples they are at most s (2 floor(log2(n - 1)) + 1), and at most
-2 (n - 1) - s, as many exactly where no stop advances by more than 2 samples.
-Samples with a line `# tolerance p/q` are refused.
+A stop is a kept sample after the first. One that advances by r samples takes
+exactly 2 floor(log2 r) + 1 probes, the last stop of a trace too, and the total
+is the sum of these. For s stops of a trace of n samples it is at most
+s (2 floor(log2(n - 1)) + 1), and at most 2 (n - 1) - s, which is reached
+exactly where no stop advances by more than 2 samples. One sample takes no
+probe. Samples with a line `# tolerance p/q` are refused.
 
 Usage: kovrelna probes -t TOLERANCE [FILE..]
 

@@ -18,8 +18,8 @@ pub fn near(arguments: &[OsString]) -> Result<Status, Failure> {
     let half = hold(half).ok().map(|_| half);
     output::print(heading(held))?;
     let [walk, gallop, minimum] = METHODS;
-    let none = [Some(0), Some(0), Some(0), Some(0), half.map(|_| 0)];
-    let status = counts::print(&inputs, none, |text| {
+    let zeros = [Some(0), Some(0), Some(0), Some(0), half.map(|_| 0)];
+    let status = counts::print(&inputs, zeros, |text| {
         let kept = |method: Method, tolerance| Ok(method.list(text, tolerance)?.len());
         Ok([
             Some(text.ticks.len()),

@@ -1,6 +1,6 @@
 //! Tables of counts, beside the slow reference.
 
-use super::{done, folder, path, written};
+use super::{done, fails, folder, path, run, shipped, told, written, WAVE};
 use kovrelna_reference::generate::{any_trace, Random, Trace};
 use std::fs;
 
@@ -55,4 +55,44 @@ pub fn compare(command: &str, seed: u64, counts: impl Fn(&Trace, u64, u64) -> Ve
         assert_eq!(row(lines.next().unwrap()), (total, "total".to_string()));
         assert_eq!(lines.next(), None);
     }
+}
+
+/// Of several files the command names those that are no original traces, counts the others, of which
+/// each has these counts, and fails.
+pub fn faults(command: &str, pulse: Vec<i64>) {
+    let folder = folder(&format!("{command}_faults"));
+    let (bad, reduced) = (folder.join("bad"), folder.join("reduced"));
+    fs::write(&bad, "0,0\n0,0\n").unwrap();
+    fs::write(&reduced, format!("# tolerance 2/1\n{WAVE}")).unwrap();
+    let good = shipped("examples/pulse.csv");
+    let names = [
+        path(&bad),
+        path(&good),
+        path(&reduced),
+        "missing",
+        path(&good),
+    ];
+    let (status, printed, error) = told(&run(&[&[command, "-t8"], &names[..]].concat(), ""));
+    assert_eq!(status, 2);
+    let lines: Vec<&str> = printed.lines().collect();
+    assert_eq!(lines.len(), 5, "{printed}");
+    let total = pulse.iter().map(|count| 2 * count).collect();
+    assert_eq!(row(lines[4]), (total, "total".to_string()));
+    let causes = [
+        format!("{}:2: the tick is not above the one before", names[0]),
+        format!("{}:1: samples are reduced already at 2/1", names[2]),
+        "missing: No such file or directory".to_string(),
+    ];
+    for (line, cause) in error.lines().zip(&causes) {
+        assert!(line.starts_with(&format!("kovrelna: {cause}")), "{line}");
+    }
+    assert_eq!(error.lines().count(), 3);
+    // None could be read.
+    let (_, printed, _) = told(&run(&[command, "-t8", names[0], names[2]], ""));
+    let total = (vec![0; pulse.len()], "total".to_string());
+    assert_eq!(row(printed.lines().last().unwrap()), total);
+    fails(&[command], WAVE, "--tolerance is missing");
+    fails(&[command, "-tx"], WAVE, "--tolerance: ");
+    let twice = "standard input is wanted twice";
+    fails(&[command, "-t8", "-", "-"], WAVE, twice);
 }

@@ -396,6 +396,7 @@ fn noise() {
             &["show"],
             &["draw", "-t1", "--from", "1", "--to", "2"],
             &["near", "-t1"],
+            &["probes", "-t1"],
             &["check", "-", path(&pulse)],
             &["check", path(&wave), "-"],
         ] {
@@ -472,10 +473,14 @@ fn command_lines() {
 #[test]
 fn help() {
     let tool = String::from_utf8(done(&["--help"], "")).unwrap();
-    for command in [
-        "record", "show", "judge", "check", "least", "near", "summary", "draw",
-    ] {
-        assert!(tool.contains(&format!("\n  {command} ")), "{command}");
+    let names = tool.lines().filter_map(|line| line.strip_prefix("  "));
+    let names = names.filter_map(|line| line.split(' ').next());
+    let commands: Vec<&str> = names.filter(|name| !name.is_empty()).collect();
+    let expected = [
+        "record", "show", "judge", "check", "least", "near", "probes", "summary", "report", "draw",
+    ];
+    assert_eq!(commands, expected);
+    for command in commands {
         let text = String::from_utf8(done(&[command, "--help"], "")).unwrap();
         assert!(
             text.contains(&format!("Usage: kovrelna {command}")),
@@ -501,6 +506,7 @@ fn full_output() {
         &["judge", "-t1", "-l0,4"],
         &["check", wave, "-"],
         &["near", "-t1"],
+        &["probes", "-t1"],
         &["--help"],
         &["record", "-t1", "-o", "/dev/full"],
     ] {

@@ -1,10 +1,9 @@
 //! Gallop's probes, beside the slow reference.
 
-use super::counts::{compare, row};
-use super::{done, fails, folder, path, run, shipped, told, WAVE};
+use super::counts::{self, compare};
+use super::{done, path, shipped, WAVE};
 use kovrelna_reference::generate::Trace;
 use kovrelna_reference::{reduce, Form, Method, Reduced};
-use std::fs;
 
 #[test]
 fn as_the_reference() {
@@ -40,25 +39,5 @@ samples   stops  probes  file
 
 #[test]
 fn faults() {
-    let folder = folder("probes_faults");
-    let pulse = shipped("examples/pulse.csv");
-    let (bad, reduced) = (folder.join("bad"), folder.join("reduced"));
-    fs::write(&bad, "0,0\n0,0\n").unwrap();
-    fs::write(&reduced, format!("# tolerance 2/1\n{WAVE}")).unwrap();
-    let names = [path(&bad), path(&pulse), path(&reduced)];
-    let (status, printed, error) = told(&run(&[&["probes", "-t8"], &names[..]].concat(), ""));
-    assert_eq!(status, 2);
-    let lines: Vec<&str> = printed.lines().collect();
-    assert_eq!(lines.len(), 4, "{printed}");
-    assert_eq!(row(lines[3]), (row(lines[2]).0, "total".to_string()));
-    let causes = [
-        format!("{}:2: the tick is not above the one before", names[0]),
-        format!("{}:1: samples are reduced already at 2/1", names[2]),
-    ];
-    assert_eq!(error.lines().count(), causes.len());
-    for (line, cause) in error.lines().zip(&causes) {
-        assert!(line.starts_with(&format!("kovrelna: {cause}")), "{line}");
-    }
-    fails(&["probes"], WAVE, "--tolerance is missing");
-    fails(&["probes", "-tx"], WAVE, "--tolerance: ");
+    counts::faults("probes", vec![128, 15, 85]);
 }
