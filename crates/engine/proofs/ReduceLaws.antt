@@ -1,4 +1,5 @@
--- Laws of the reductions: the lists of walk and gallop are greedy, and demand 3 holds of them; minimum's is the shortest.
+-- Laws of the reductions: the lists of walk and gallop are greedy, and demand 3 holds of them; gallop's probes are those of its stops; minimum's
+-- list is the shortest.
 -- Assumes nothing.
 use mathlib.Core.Path.{_≡_, _∙_, subst}
 use mathlib.Core.List.{List}
