@@ -1,2 +1,3 @@
 -- The definitions of the crate `codes`.
+pub mod RangeTable
 pub mod Code

@@ -1,13 +1,15 @@
-// Range codes (document 01): one byte a sample. Each value is taken from the table by one function, code_value.
+// Range codes (document 01): one byte a sample. The values of all codes are a constant table, by which codes are expanded
+// as they are by a table that the caller brings (module `tables`).
 ghost use mathlib.Core.Path.{_≡_};
 ghost use Prim.Native.Nat.{_≤_};
-ghost use lib.IntN.{pos};
 ghost use lib.ListN.{length};
 ghost use Rattle.lists.specs.Overwrite.{overwrite};
-ghost use Rattle.codes.specs.Code.{codeValue, codeValues, Table};
+ghost use Rattle.codes.specs.Code.{codeValues};
+
+pub mod tables;
 
 // The value of each code.
-const VALUES: [u16; 256] = [
+const VALUES: [i16; 256] = [
     0,
     1,
     2,
@@ -266,32 +268,10 @@ const VALUES: [u16; 256] = [
     8032,
 ];
 
-// The value of a code, in a table of all of them.
-fn code_value(table: &[u16], c: u8) -> i16
-    requires { ⌜ Table (now table) ⌝ }
-    ensures { λ r. ⌜ r ≡ pos (codeValue c) ⌝ }
-{
-    let i = c as usize;
-    table[i] as i16
-}
-
-// Writes the values of codes, in a table of all of them, to the front of a lent list.
-fn expand_by(table: &[u16], codes: &[u8], out: &mut [i16])
-    requires { ⌜ Table (now table) × (length (now codes) ≤ length (now out)) ⌝ }
-    ensures { λ _. ⌜ now (out .exit) ≡ overwrite (codeValues (now (codes .entry))) (now (out .entry)) ⌝ }
-{
-    let n = codes.len();
-    let mut i = 0;
-    while i < n {
-        out[i] = code_value(table, codes[i]);
-        i += 1;
-    }
-}
-
 // Writes the values of codes to the front of a lent list.
 pub fn expand(codes: &[u8], out: &mut [i16])
     requires { ⌜ length (now codes) ≤ length (now out) ⌝ }
     ensures { λ _. ⌜ now (out .exit) ≡ overwrite (codeValues (now (codes .entry))) (now (out .entry)) ⌝ }
 {
-    expand_by(&VALUES, codes, out);
+    tables::expand_by(&VALUES, codes, out);
 }

@@ -49,6 +49,7 @@ pub enum Written {
 }
 
 pub mod expand;
+pub mod expand_with;
 pub mod gallop;
 pub mod hold;
 pub mod judge;

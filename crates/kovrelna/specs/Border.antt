@@ -1,7 +1,7 @@
 -- What the structs of the C interface stand for: the enums of the public calls.
 --   toleranceOf   the tolerance that a form gives
 --   heldOf, verdictOf, keptOf, gallopedOf, closestOf, writtenOf, readOf, comparedOf, reportOf   an answer as numbers: 0 for success, or the refusal's number and value
---   HoldExport, JudgeExport, WalkExport, GallopExport, MinimumExport, LeastExport, ExpandExport, WriteExport, ReadExport, SameExport,
+--   HoldExport, JudgeExport, WalkExport, GallopExport, MinimumExport, LeastExport, ExpandExport, ExpandWithExport, WriteExport, ReadExport, SameExport,
 --   ReportExport  an export's answer is that of the public call, with its whole outcome
 -- Assumes nothing.
 use mathlib.Core.Path.{_≡_}
@@ -27,7 +27,7 @@ use Rattle.engine.specs.declared.Written.{Written}
 use Rattle.engine.specs.declared.Written.the-variants.{Count, Refused as NotWritten}
 use Rattle.engine.specs.Hold.{HoldOutcome}
 use Rattle.engine.specs.Judge.{JudgeOutcome}
-use Rattle.engine.specs.Expand.{ExpandOutcome}
+use Rattle.engine.specs.Expand.{ExpandOutcome, ExpandWithOutcome}
 use Rattle.engine.specs.Write.{WriteOutcome}
 use Rattle.reader.specs.declared.Answer as R
 use Rattle.reader.specs.declared.Answer.the-variants.{Samples, Refused as NotRead}
@@ -125,6 +125,11 @@ pub record ExpandExport (codes : List ℕ) (o : List ℤ) (r : Answer) (o′ : L
   pub answer : Written
   pub is : r ≡ writtenOf answer
   pub outcome : ExpandOutcome codes o answer o′
+
+pub record ExpandWithExport (codes : List ℕ) (table o : List ℤ) (r : Answer) (o′ : List ℤ) : Type 0 where
+  pub answer : Written
+  pub is : r ≡ writtenOf answer
+  pub outcome : ExpandWithOutcome codes table o answer o′
 
 pub record WriteExport (ts : List ℕ) (vs : List ℤ) (l : List ℕ) (t : Tolerance) (o : List ℕ) (place : ℕ) (r : Answer) (o′ : List ℕ) : Type 0 where
   pub answer : Written

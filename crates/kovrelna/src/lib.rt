@@ -1,7 +1,7 @@
 // The C interface: each export is a public call of `engine`, with numbers and structs for its enums.
 ghost use mathlib.Core.Path.{_≡_};
 ghost use Rattle.engine.specs.Report.{Surveyed};
-ghost use Rattle.kovrelna.specs.Border.{toleranceOf, heldOf, verdictOf, keptOf, gallopedOf, closestOf, writtenOf, readOf, comparedOf, HoldExport, JudgeExport, WalkExport, GallopExport, MinimumExport, LeastExport, ExpandExport, WriteExport, ReadExport, SameExport, reportOf, ReportExport};
+ghost use Rattle.kovrelna.specs.Border.{toleranceOf, heldOf, verdictOf, keptOf, gallopedOf, closestOf, writtenOf, readOf, comparedOf, HoldExport, JudgeExport, WalkExport, GallopExport, MinimumExport, LeastExport, ExpandExport, ExpandWithExport, WriteExport, ReadExport, SameExport, reportOf, ReportExport};
 use sheet::Sheet;
 use sheet::Summary;
 
@@ -380,6 +380,14 @@ pub extern "C" fn kovrelna_expand(codes: &[u8], out: &mut [i16]) -> Answer
     ensures { λ r. ⌜ ExpandExport (now (codes .entry)) (now (out .entry)) r (now (out .exit)) ⌝ }
 {
     written_of(engine::expand::expand(codes, out))
+}
+
+// The same with the values of the caller's table.
+#[no_mangle]
+pub extern "C" fn kovrelna_expand_with(codes: &[u8], table: &[i16], out: &mut [i16]) -> Answer
+    ensures { λ r. ⌜ ExpandWithExport (now (codes .entry)) (now (table .entry)) (now (out .entry)) r (now (out .exit)) ⌝ }
+{
+    written_of(engine::expand_with::expand_with(codes, table, out))
 }
 
 // Writes the record of the list's samples and the tolerance into the buffer from a place on.
