@@ -2,13 +2,18 @@
 -- Assumes nothing.
 use mathlib.Core.Path.{_≡_, refl, ap, _∙_}
 use mathlib.Core.List.{List, [], _∷_}
+use mathlib.Core.Bool.{_&&_}
 use Prim.Native.Nat.{ℕ, suc, _≤_, _<_}
+use lib.Dec.{leb}
 use lib.IntN.{ℤ, pos}
 use lib.ListN.{length}
 use borrow.Author.Tests.{le-leb, lt-leb}
 use Rattle.refusal.specs.declared.Refusal.{Refusal}
 use Rattle.refusal.specs.declared.Refusal.the-variants.{Length, Room}
+use Rattle.refusal.specs.declared.Checked.{Checked}
 use Rattle.refusal.specs.declared.Checked.the-variants.{Fine, Refused}
+use Rattle.refusal.specs.Table.{row, roomRow, _thenCheck_}
+use Rattle.refusal.proofs.TableLaws.{then-fine}
 use Rattle.codes.specs.RangeTable.{tableRow}
 use Rattle.codes.specs.Code.{codeValues}
 use Rattle.engine.specs.Expand.{expandRows, expandWithRows}
@@ -39,7 +44,11 @@ module _ (codes : List ℕ) (table : List ℤ) (room : ℕ) where
 
   pub with-passed : tableRow table ≡ Fine → expandWithRows codes table room ≡ expandRows codes room
   unfolding expandRows expandWithRows
-  with-passed e = rw e
+  with-passed e = ap (λ (c : Checked). row (leb 1 (length codes) && leb (length codes) 4096) Length thenCheck c thenCheck roomRow (length codes) room) e
+
+  pub with-fine : expandWithRows codes table room ≡ Fine → tableRow table ≡ Fine
+  unfolding expandWithRows
+  with-fine e = then-fine (tableRow table) (roomRow (length codes) room) (then-fine (row (leb 1 (length codes) && leb (length codes) 4096) Length) _ e .1) .0
 
   module _ (some : 1 ≤ length codes) where
     pub with-many : 4096 < length codes → expandWithRows codes table room ≡ Refused Length

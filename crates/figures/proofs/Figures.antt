@@ -4,8 +4,9 @@
 use mathlib.Core.Path.{_≡_, refl, ap}
 use mathlib.Core.Bool.{true, false}
 use mathlib.Core.List.{List, [], _∷_}
-use Prim.Native.Nat.{ℕ, _+_}
-use lib.IntN.{ℤ, pos, negsuc}
+use Prim.Native.Nat.{ℕ, zero, suc, _+_, _*_}
+use lib.IntN.{ℤ, pos, negsuc, _-ℤ_}
+use lib.ListN.{getD, set}
 use lib.Count.{leadingZeros}
 use Rattle.lists.specs.First.{first, firstOf}
 use Rattle.ratio.specs.Gcd.{gcd, euclid}
@@ -16,7 +17,7 @@ use Rattle.kept.specs.Walk.{walkFrom, walkOf}
 use Rattle.kept.specs.Minimum.{bestStop, linksIn, linksOf, nextOf, minimumOf}
 use Rattle.kept.specs.Least.{leastOver, leastFrom, leastOf}
 use Rattle.kept.specs.Gallop.{probeOf, doubling, bisection, searchBy, gallopSearch, gallopOf, gallopProbes, sumFrom, listProbes}
-use Rattle.refusal.specs.declared.Refusal.the-variants.{Length, Tick, Span}
+use Rattle.refusal.specs.declared.Refusal.the-variants.{Length, Tick, Span, Room, Table}
 use Rattle.refusal.specs.declared.Checked.the-variants.{Fine, Refused}
 use Rattle.refusal.specs.Table.{numberOf, returnedOf}
 use Rattle.tolerance.specs.declared.Tolerance.the-variants.{Ratio}
@@ -24,6 +25,7 @@ use Rattle.trace.specs.declared.Criterion.{Criterion}
 use Rattle.trace.specs.Level.{level}
 use Rattle.trace.specs.Trace.{traceRows}
 use Rattle.trace.specs.Link.{deviation, within, allFrom, valid, criterion, greatest, farthest, linkError}
+use Rattle.codes.specs.RangeTable.{valuesIn, tableRow}
 use Rattle.codes.specs.Code.{codeValue, codeValues}
 use Rattle.format.specs.Number.{bytesOnto}
 use Rattle.format.specs.Format.{stepsOnto, samplesOnto, encode}
@@ -36,6 +38,7 @@ use Rattle.proposed.specs.Proposed.{badAt, listRow, firstInvalid}
 use Rattle.engine.specs.declared.Verdict.the-variants.{Yes, No}
 use Rattle.engine.specs.Prepare.{commonRows, criterionOf}
 use Rattle.engine.specs.Judge.{judgeRows, listVerdict, judgeOf}
+use Rattle.engine.specs.Expand.{expandWithRows}
 use Rattle.engine.specs.Report.{crateRows, reportRows}
 use Rattle.engine.specs.Write.{contentOf}
 
@@ -257,3 +260,49 @@ list-probes-one = refl
 list-probes-rising : listProbes (0 ∷ 1 ∷ 3 ∷ 6 ∷ 10 ∷ []) ≡ 1 + 3 + 3 + 5
 unfolding sumFrom leadingZeros
 list-probes-rising = refl
+
+-- ---- our own range table: code c has the value 257 c - 32768, so that codes 0 127 128 255 have -32768 -129 128 32767
+
+-- the values of n codes from c on
+ownFrom : ℕ → ℕ → List ℤ
+ownFrom c zero = []
+ownFrom c (suc n) = (pos (257 * c) -ℤ pos 32768) ∷ ownFrom (suc c) n
+
+abbrev own : List ℤ
+own = ownFrom 0 256
+
+own-values : valuesIn own (0 ∷ 127 ∷ 128 ∷ 255 ∷ []) ≡ negsuc 32767 ∷ negsuc 128 ∷ pos 128 ∷ pos 32767 ∷ []
+unfolding ownFrom
+own-values = refl
+
+own-fine : expandWithRows (0 ∷ 127 ∷ 128 ∷ 255 ∷ []) own 4 ≡ Fine
+unfolding expandWithRows tableRow first firstOf ownFrom
+own-fine = refl
+
+-- code 255 with the value of code 254; code 0 with the greatest value; 255 values
+
+own-level : tableRow (set own 255 (getD own 254 (pos 0))) ≡ Refused (Table 255)
+unfolding tableRow first firstOf ownFrom
+own-level = refl
+
+own-falling : tableRow (set own 0 (pos 32767)) ≡ Refused (Table 1)
+unfolding tableRow first firstOf ownFrom
+own-falling = refl
+
+own-short : tableRow (ownFrom 0 255) ≡ Refused (Table 0)
+unfolding tableRow ownFrom
+own-short = refl
+
+-- 1 before 12 before 10
+
+own-length-first : expandWithRows [] (ownFrom 0 255) 0 ≡ Refused Length
+unfolding expandWithRows
+own-length-first = refl
+
+own-table-next : expandWithRows (0 ∷ []) (ownFrom 0 255) 0 ≡ Refused (Table 0)
+unfolding expandWithRows tableRow ownFrom
+own-table-next = refl
+
+own-room-last : expandWithRows (0 ∷ []) own 0 ≡ Refused (Room 1)
+unfolding expandWithRows tableRow first firstOf ownFrom
+own-room-last = refl

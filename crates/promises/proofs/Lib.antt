@@ -6,3 +6,4 @@ pub mod Nearness
 pub mod NoFactor
 pub mod Probes
 pub mod Report
+pub mod Expand
