@@ -55,8 +55,8 @@ extern "C" {
 /* ---- Refusals ----
  *
  * Each answer has a number, 0 if the call succeeded, and a value. A call checks the rows that
- * concern it in rising number, only 11 before all others, and answers with the first that fits. A
- * refused call leaves every list and buffer as it was.
+ * concern it in rising number, only 11 before all others and 12 right after 1, and answers with the
+ * first that fits. A refused call leaves every list and buffer as it was.
  */
 enum kovrelna_refusal {
   /* No samples or codes, too many, or ticks and values differ in length. Value: 0. */
@@ -83,7 +83,10 @@ enum kovrelna_refusal {
   KOVRELNA_REFUSED_ROOM = 10,
   /* There are no channels, more than 64, or their lengths do not add up to the length of ticks and
    * to that of values. Value: 0. */
-  KOVRELNA_REFUSED_CRATE = 11
+  KOVRELNA_REFUSED_CRATE = 11,
+  /* The range table does not have 256 values, or does not rise. Value: 0; the first code whose
+   * value is not above the one before. */
+  KOVRELNA_REFUSED_TABLE = 12
 };
 
 /* The cause in words, for a message; "none" for a number that is no refusal's. */
@@ -111,6 +114,8 @@ static inline const char *kovrelna_cause(uint32_t number) {
     return "output too short";
   case KOVRELNA_REFUSED_CRATE:
     return "no channels, more than 64, or lengths that do not add up to the lists";
+  case KOVRELNA_REFUSED_TABLE:
+    return "a range table that does not have 256 values, or does not rise";
   default:
     return "none";
   }
@@ -311,6 +316,15 @@ kovrelna_totals kovrelna_report(const uint32_t *ticks, size_t ticks_len,
  * more than 4,096; 10 with the number of values. */
 kovrelna_answer kovrelna_expand(const uint8_t *codes, size_t codes_len,
                                 int16_t *out, size_t out_len);
+
+/* The same with a range table of the caller's own in place of the values above: code c has the
+ * value table[c]. The table has 256 values, of any sign, each above the one before. All of it is
+ * checked at each call, whatever codes occur. An empty table is refused too: it does not mean the
+ * values above. Refusals: 1 if there are no codes or more than 4,096; 12; 10 with the number of
+ * values. */
+kovrelna_answer kovrelna_expand_with(const uint8_t *codes, size_t codes_len,
+                                     const int16_t *table, size_t table_len,
+                                     int16_t *out, size_t out_len);
 
 /* ---- Records ----
  *

@@ -228,6 +228,12 @@ static struct answer call_expand(const struct list *lists, kovrelna_tolerance to
   return plain(kovrelna_expand(U8(0), I16(1)));
 }
 
+static struct answer call_expand_with(const struct list *lists, kovrelna_tolerance tolerance,
+                                      size_t place) {
+  (void)tolerance, (void)place;
+  return plain(kovrelna_expand_with(U8(0), I16(1), I16(2)));
+}
+
 static struct answer call_write(const struct list *lists, kovrelna_tolerance tolerance,
                                 size_t place) {
   return plain(kovrelna_write(U32(0), I16(1), U16(2), tolerance, U8(3), place));
@@ -270,6 +276,15 @@ static const kovrelna_summary one_row[] = {{3, 2, 2, 3, 0}};
 /* The codes of the seventh figure, and their values. */
 static const uint8_t some_codes[] = {31, 32, 63, 64, 255};
 static const int16_t code_values[] = {31, 32, 94, 96, 8032};
+/* A range table, where code c has the value 100 (c - 200), and its values of these codes. */
+enum { CODES = 256 };
+static int16_t own_table[CODES];
+static const int16_t own_values[] = {-16900, -16800, -13700, -13600, 5500};
+
+static void make_table(void) {
+  int c;
+  for (c = 0; c < CODES; c++) own_table[c] = (int16_t)(100 * (c - 200));
+}
 
 /* A list of a call: bytes of an element, elements, the content of an input, what is written into an
  * output. The last two: the refusal where the list is empty, and its value. */
@@ -288,7 +303,19 @@ struct parameter {
 
 /* Every call that is lent lists, as it is made on the figures at tolerance 4/6, place 0 and
  * allowance 2, and its answer. */
-enum { JUDGE_CALL, WALK, GALLOP, MINIMUM, LEAST, EXPAND, WRITE_CALL, READ_CALL, SAME_CALL, REPORT };
+enum {
+  JUDGE_CALL,
+  WALK,
+  GALLOP,
+  MINIMUM,
+  LEAST,
+  EXPAND,
+  EXPAND_WITH,
+  WRITE_CALL,
+  READ_CALL,
+  SAME_CALL,
+  REPORT
+};
 enum { LISTS = 4 };
 static const struct call {
   const char *name;
@@ -314,6 +341,9 @@ static const struct call {
      {0, 2, 0, 0, 2, 3, 0, 0}},
     {"expand", call_expand, 2,
      {IN(some_codes, 1, 0), OUT(5, code_values, 10, 5)},
+     {0, 5, 0, 0, 0, 0, 0, 0}},
+    {"expand_with", call_expand_with, 3,
+     {IN(some_codes, 1, 0), IN(own_table, 12, 0), OUT(5, own_values, 10, 5)},
      {0, 5, 0, 0, 0, 0, 0, 0}},
     {"write", call_write, 4,
      {IN(uneven, 1, 0), IN(step, 1, 0), IN(pair, 6, 0),
@@ -459,6 +489,32 @@ static void expand(int line, const uint8_t *codes, size_t codes_len, size_t out_
                          : filled(out_len, sizeof(int16_t), values, 0, (size_t)value);
   run(line, EXPAND, lists, kovrelna_ratio(0, 0), 0, expected);
 }
+
+/* With number 0 expand_with writes these values, `value` of them. */
+static void expand_with(int line, const uint8_t *codes, size_t codes_len, const int16_t *table,
+                        size_t table_len, size_t out_len, uint32_t number, uint64_t value,
+                        const int16_t *values) {
+  struct answer expected = {number, value, 0, 0, 0, 0, 0, 0};
+  struct list lists[3];
+  lists[0] = input(codes, codes_len, 1);
+  lists[1] = input(table, table_len, sizeof(int16_t));
+  lists[2] = number != 0 ? output(out_len, sizeof(int16_t))
+                         : filled(out_len, sizeof(int16_t), values, 0, (size_t)value);
+  run(line, EXPAND_WITH, lists, kovrelna_ratio(0, 0), 0, expected);
+}
+
+/* The table has these values. */
+#define EXPANDED(codes, table, out_len, values)                                                    \
+  expand_with(__LINE__, codes, COUNT(codes), table, CODES, out_len, 0, COUNT(codes), values)
+
+/* The table is refused as 12 with this value, for code 0 alone, without an output and with one. */
+static void no_table(int line, const int16_t *table, size_t table_len, uint64_t value) {
+  const uint8_t zero = 0;
+  expand_with(line, &zero, 1, table, table_len, 0, KOVRELNA_REFUSED_TABLE, value, NULL);
+  expand_with(line, &zero, 1, table, table_len, 1, KOVRELNA_REFUSED_TABLE, value, NULL);
+}
+
+#define NO_TABLE(table, table_len, value) no_table(__LINE__, table, table_len, value)
 
 /* With number 0 the record is then at the place. */
 static void write_record(int line, const uint32_t *ticks, size_t ticks_len, const int16_t *values,
@@ -759,6 +815,85 @@ static void codes(void) {
   expand(__LINE__, some_codes, 5, 4, KOVRELNA_REFUSED_ROOM, 5, NULL);
 }
 
+static void tables(void) {
+  static uint8_t every[CODES], many[KOVRELNA_SAMPLES_MAX + 1];
+  static int16_t table[CODES + 1], expanded[KOVRELNA_SAMPLES_MAX];
+  const uint8_t ends[] = {255, 0}, halves[] = {127, 128};
+  const int16_t widest[] = {32767, -32768}, apart[] = {-32641, 32640};
+  size_t k, out_len;
+  for (k = 0; k < CODES; k++) every[k] = (uint8_t)k;
+  for (k = 0; k < COUNT(many); k++) many[k] = (uint8_t)(k * k / 3 + 5 * k);
+
+  for (out_len = 5; out_len <= 9; out_len++) EXPANDED(some_codes, own_table, out_len, own_values);
+  for (out_len = CODES; out_len <= CODES + 2; out_len++)
+    EXPANDED(every, own_table, out_len, own_table);
+  expand_with(__LINE__, some_codes, 5, own_table, CODES, 4, KOVRELNA_REFUSED_ROOM, 5, NULL);
+  expand_with(__LINE__, some_codes, 5, own_table, CODES, 0, KOVRELNA_REFUSED_ROOM, 5, NULL);
+
+  /* The built-in values give what expand gives: all together, each alone, and mixed. */
+  kovrelna_expand(every, CODES, table, CODES);
+  EXPANDED(every, table, CODES, table);
+  for (k = 0; k < CODES; k++)
+    expand_with(__LINE__, &every[k], 1, table, CODES, 1, 0, 1, &table[k]);
+  kovrelna_expand(many, COUNT(expanded), expanded, COUNT(expanded));
+  expand_with(__LINE__, many, COUNT(expanded), table, CODES, COUNT(expanded), 0, COUNT(expanded),
+              expanded);
+
+  /* Lengths, of values that rise and of values that do not. */
+  for (k = 0; k <= CODES; k++) table[k] = (int16_t)k;
+  NO_TABLE(table, 0, 0);
+  NO_TABLE(table, 1, 0);
+  NO_TABLE(table, CODES - 1, 0);
+  NO_TABLE(table, CODES + 1, 0);
+  table[1] = 0;
+  NO_TABLE(table, CODES - 1, 0);
+  NO_TABLE(table, CODES + 1, 0);
+
+  /* 1 before 12 and 10: with no codes or too many, whatever the table and the output are. */
+  for (k = 0; k < 8; k++) {
+    size_t count = k & 1 ? 0 : COUNT(many), table_len = k & 2 ? CODES : CODES - 1;
+    out_len = k & 4 ? 0 : COUNT(many);
+    expand_with(__LINE__, many, count, table, table_len, out_len, KOVRELNA_REFUSED_LENGTH, 0, NULL);
+    expand_with(__LINE__, many, count, own_table, CODES, out_len, KOVRELNA_REFUSED_LENGTH, 0, NULL);
+  }
+
+  /* Each code in turn is equal to the one before, below it, and far below it. */
+  for (k = 1; k < CODES; k++) {
+    memcpy(table, own_table, sizeof(own_table));
+    table[k] = table[k - 1];
+    NO_TABLE(table, CODES, k);
+    table[k] = (int16_t)(table[k - 1] - 1);
+    NO_TABLE(table, CODES, k);
+    table[k] = -32768;
+    NO_TABLE(table, CODES, k);
+  }
+
+  /* The least and the greatest value at the ends, and a rise by more than the greatest. */
+  memcpy(table, own_table, sizeof(own_table));
+  table[0] = -32768;
+  table[255] = 32767;
+  EXPANDED(ends, table, 2, widest);
+  for (k = 0; k < CODES; k++) table[k] = (int16_t)(k < 128 ? (int)k - 32768 : (int)k + 32512);
+  EXPANDED(ends, table, 2, widest);
+  EXPANDED(halves, table, 2, apart);
+  /* The wrong way round: both, the first, the last. */
+  memcpy(table, own_table, sizeof(own_table));
+  table[0] = 32767;
+  table[255] = -32768;
+  NO_TABLE(table, CODES, 1);
+  table[255] = own_table[255];
+  NO_TABLE(table, CODES, 1);
+  table[0] = own_table[0];
+  table[255] = -32768;
+  NO_TABLE(table, CODES, 255);
+
+  /* Of two faults the first is named. */
+  table[9] = table[8];
+  NO_TABLE(table, CODES, 9);
+  table[200] = -32768;
+  NO_TABLE(table, CODES, 9);
+}
+
 static void records(void) {
   const uint32_t far[] = {0, 255, 510, 766, 767}, high[] = {UINT32_MAX - 1, UINT32_MAX};
   const int16_t changes[] = {0, 127, -1, -1, 127}, low[] = {-32768, 32767};
@@ -937,9 +1072,12 @@ static void reports(void) {
   NO_REPORT(NULL, 0, NULL, 0, huge, CHANNELS, two, KOVRELNA_REFUSED_CRATE);
 }
 
-/* Whether a refusal is checked before another one: 11 before all others. */
-static int comes_before(uint32_t number, uint32_t other) {
-  return other != KOVRELNA_REFUSED_CRATE && (number == KOVRELNA_REFUSED_CRATE || number < other);
+/* Where a refusal comes in the order of the checks: by its number, only 11 before all others and 12
+ * right after 1. */
+static uint32_t place_of(uint32_t number) {
+  return number == KOVRELNA_REFUSED_CRATE   ? 0
+         : number == KOVRELNA_REFUSED_TABLE ? 2 * KOVRELNA_REFUSED_LENGTH + 1
+                                            : 2 * number;
 }
 
 /* Each set of a call's lists is empty in turn: the first of their refusals answers. */
@@ -953,7 +1091,7 @@ static void empty_lists(void) {
       for (k = 0; k < call->lists; k++) {
         const struct parameter *parameter = &call->parameters[k];
         if ((set >> k & 1) == 0 ||
-            (expected.number != 0 && !comes_before(parameter->number, expected.number)))
+            (expected.number != 0 && place_of(parameter->number) >= place_of(expected.number)))
           continue;
         expected = none;
         expected.number = parameter->number;
@@ -1043,7 +1181,7 @@ static void words(void) {
   now_name = "cause";
   differ("no refusal", strcmp(cause(0), "none") != 0, 0);
   differ("no refusal", strcmp(cause(UINT32_MAX), "none") != 0, 0);
-  for (number = 0; number <= KOVRELNA_REFUSED_CRATE; number++)
+  for (number = 0; number <= KOVRELNA_REFUSED_TABLE; number++)
     for (other = 0; other < number; other++)
       differ("the same words", strcmp(cause(number), cause(other)) == 0, 0);
 }
@@ -1051,12 +1189,14 @@ static void words(void) {
 int main(void) {
   signal(SIGSEGV, beyond);
   signal(SIGBUS, beyond);
+  make_table();
   tolerances();
   lists();
   reductions();
   refusals();
   least_errors();
   codes();
+  tables();
   records();
   summary_layout();
   reports();
