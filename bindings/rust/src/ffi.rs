@@ -114,6 +114,14 @@ extern "C" {
     ) -> Least;
     fn kovrelna_expand(codes: *const u8, codes_len: usize, out: *mut i16, out_len: usize)
         -> Answer;
+    fn kovrelna_expand_with(
+        codes: *const u8,
+        codes_len: usize,
+        table: *const i16,
+        table_len: usize,
+        out: *mut i16,
+        out_len: usize,
+    ) -> Answer;
     fn kovrelna_write(
         ticks: *const u32,
         ticks_len: usize,
@@ -233,6 +241,20 @@ pub fn least(ticks: &[u32], values: &[i16], allowance: u64, out: &mut [u16]) -> 
 pub fn expand(codes: &[u8], out: &mut [i16]) -> Answer {
     // SAFETY: as above; the output is `out`.
     unsafe { kovrelna_expand(codes.as_ptr(), codes.len(), out.as_mut_ptr(), out.len()) }
+}
+
+pub fn expand_with(codes: &[u8], table: &[i16], out: &mut [i16]) -> Answer {
+    // SAFETY: as above; the output is `out`.
+    unsafe {
+        kovrelna_expand_with(
+            codes.as_ptr(),
+            codes.len(),
+            table.as_ptr(),
+            table.len(),
+            out.as_mut_ptr(),
+            out.len(),
+        )
+    }
 }
 
 pub fn write(

@@ -4,7 +4,7 @@
 //! - [`Verdict`], [`judge`]: whether every link of a proposed list is valid.
 //! - [`walk`], [`Galloped`], [`gallop`], [`minimum`]: kept lists with every link valid.
 //! - [`Least`], [`least`]: the least error that a list of so many samples can have.
-//! - [`expand`]: the values of range codes.
+//! - [`expand`], [`expand_with`]: the values of range codes, by the rule or by a table of the caller's.
 //! - [`write()`], [`Content`], [`read`], [`same`]: records of kept samples.
 //! - [`Summary`], [`Totals`], [`report`]: what walk does with each channel of a crate.
 //! - [`Refusal`]: why a call declined.
@@ -43,7 +43,8 @@ mod ffi;
 use std::fmt;
 
 /// Why a call declined. A call checks the rows that concern it in the order below, [`Refusal::Crate`]
-/// before all others, and answers with the first that fits; a refused call leaves every slice as it was.
+/// before all others and [`Refusal::Table`] right after [`Refusal::Length`], and answers with the first
+/// that fits; a refused call leaves every slice as it was.
 #[derive(Clone, Copy, Debug, PartialEq, Eq, Hash)]
 pub enum Refusal {
     /// 1: no samples or codes, too many, or ticks and values differ in length.
@@ -70,10 +71,13 @@ pub enum Refusal {
     Room(usize),
     /// 11: a crate has no channels, more than 64, or lengths that do not add up to the lists.
     Crate,
+    /// 12: the first code whose value in the range table is not above the one before; 0 if the table
+    /// does not have 256 values.
+    Table(usize),
 }
 
 impl Refusal {
-    /// The refusal's number, 1 to 11.
+    /// The refusal's number, 1 to 12.
     pub fn number(self) -> u32 {
         match self {
             Refusal::Length => 1,
@@ -87,6 +91,7 @@ impl Refusal {
             Refusal::SecondRecord(_) => 9,
             Refusal::Room(_) => 10,
             Refusal::Crate => 11,
+            Refusal::Table(_) => 12,
         }
     }
 
@@ -100,7 +105,8 @@ impl Refusal {
             | Refusal::Link(value)
             | Refusal::Record(value)
             | Refusal::SecondRecord(value)
-            | Refusal::Room(value) => value,
+            | Refusal::Room(value)
+            | Refusal::Table(value) => value,
         }
     }
 
@@ -120,6 +126,7 @@ impl Refusal {
             9 => Refusal::SecondRecord(value),
             10 => Refusal::Room(value),
             11 => Refusal::Crate,
+            12 => Refusal::Table(value),
             _ => unreachable!("there is no refusal {number}"),
         })
     }
@@ -172,6 +179,10 @@ impl fmt::Display for Refusal {
                     f,
                     "no channels, more than 64, or lengths that do not add up to the lists"
                 )
+            }
+            Refusal::Table(0) => write!(f, "the range table does not have 256 values"),
+            Refusal::Table(code) => {
+                write!(f, "the value of code {code} is not above the one before")
             }
         }
     }
@@ -451,6 +462,32 @@ pub fn least(
 /// ```
 pub fn expand(codes: &[u8], out: &mut [i16]) -> Result<usize, Refusal> {
     ffi::expand(codes, out).value()
+}
+
+/// Writes the value of each range code as [`expand`] does, with a table of the caller's own in place of
+/// its values: code c has the value `table[c]`.
+///
+/// The table has 256 values, of any sign, each above the one before. All of it is checked at each call,
+/// whatever codes occur. An empty table is refused too: it does not mean the values of [`expand`].
+///
+/// Returns the number of values written, one for each code; the entries of `out` after them are as
+/// they were. Refusals: [`Refusal::Length`] if there are no codes or more than 4,096; then
+/// [`Refusal::Table`]; then [`Refusal::Room`].
+///
+/// ```
+/// use kovrelna::{expand_with, Refusal};
+///
+/// let mut table = [0; 256];
+/// (0..).zip(&mut table).for_each(|(code, value)| *value = 100 * (code - 200));
+/// let mut out = [9; 4];
+/// assert_eq!(expand_with(&[0, 200, 255], &table, &mut out), Ok(3));
+/// assert_eq!(out, [-20_000, 0, 5_500, 9]);
+/// assert_eq!(expand_with(&[7], &table[..255], &mut out), Err(Refusal::Table(0)));
+/// table[31] = table[30];
+/// assert_eq!(expand_with(&[7], &table, &mut out), Err(Refusal::Table(31)));
+/// ```
+pub fn expand_with(codes: &[u8], table: &[i16], out: &mut [i16]) -> Result<usize, Refusal> {
+    ffi::expand_with(codes, table, out).value()
 }
 
 /// Writes the record of the listed samples and the tolerance into the buffer, beginning with the byte
