@@ -14,6 +14,7 @@ pub enum Call {
     Minimum,
     Least,
     Expand,
+    ExpandWith,
     Write,
     Read,
     Same,
@@ -21,7 +22,7 @@ pub enum Call {
 }
 
 /// Every call.
-pub const CALLS: [Call; 11] = [
+pub const CALLS: [Call; 12] = [
     Call::Hold,
     Call::Judge,
     Call::Walk,
@@ -29,6 +30,7 @@ pub const CALLS: [Call; 11] = [
     Call::Minimum,
     Call::Least,
     Call::Expand,
+    Call::ExpandWith,
     Call::Write,
     Call::Read,
     Call::Same,
@@ -36,7 +38,7 @@ pub const CALLS: [Call; 11] = [
 ];
 
 /// How many rows the table has.
-pub const ROWS: usize = 11;
+pub const ROWS: usize = 12;
 
 /// How often a call was compared: first with an answer, then with each row of the table.
 pub type Counts = [u64; ROWS + 1];
@@ -51,6 +53,7 @@ impl Call {
             Call::Minimum => "minimum",
             Call::Least => "least",
             Call::Expand => "expand",
+            Call::ExpandWith => "expand_with",
             Call::Write => "write",
             Call::Read => "read",
             Call::Same => "same",
@@ -66,6 +69,7 @@ impl Call {
             Call::Walk | Call::Gallop | Call::Minimum => &[1, 2, 3, 4, 10],
             Call::Least => &[1, 2, 3, 5, 10],
             Call::Expand => &[1, 10],
+            Call::ExpandWith => &[1, 12, 10],
             Call::Write => &[1, 2, 3, 4, 6, 7, 10],
             Call::Read => &[8, 10],
             Call::Same => &[8, 9],

@@ -2,18 +2,22 @@
 //! is checked. A check that fails panics, with its input.
 //!
 //! - [`FAMILIES`], [`any`]: every sort, and one drawn from them.
-//! - [`held_tolerances`], [`judge_list`], [`codes`], [`round_trip`], [`random_commands`],
-//!   [`comparison`], [`random_faults`], [`crates`]: sorts that the tests run by themselves too.
+//! - [`held_tolerances`], [`judge_list`], [`codes`], [`codes_with_tables`], [`round_trip`],
+//!   [`random_commands`], [`comparison`], [`random_faults`], [`crates`]: sorts that the tests run by
+//!   themselves too.
+//! - [`codes_and_room`]: codes, and the entries of their output.
 
 use crate::compare::{
-    exactly, expand, form, hold, judge, least, noise, ratio, read, reduce, report, same, write,
+    exactly, expand, expand_with, form, hold, judge, least, noise, ratio, read, reduce, report,
+    same, write,
 };
 use crate::reductions::{
     any_tolerance, least_list, lists, shortest_lists, size_bounds, tolerances,
 };
 use kovrelna::Tolerance::Counts;
 use kovrelna_reference::generate::{
-    any_trace, channels, content, damaged, just_below, kept_list, Random, Trace,
+    any_trace, channels, content, damaged, damaged_table, just_below, kept_list, range_table,
+    Random, Trace,
 };
 use kovrelna_reference::record::{encode, end, first, long, short, tolerance, Content};
 use kovrelna_reference::{held, link_error, list_error, trace_refusal, Fraction, METHODS, TRIED};
@@ -26,7 +30,7 @@ pub struct Family {
 }
 
 /// Every sort.
-pub const FAMILIES: [Family; 17] = [
+pub const FAMILIES: [Family; 18] = [
     Family {
         name: "tolerances",
         weight: 40,
@@ -71,6 +75,11 @@ pub const FAMILIES: [Family; 17] = [
         name: "codes",
         weight: 40,
         case: codes,
+    },
+    Family {
+        name: "codes with tables",
+        weight: 40,
+        case: codes_with_tables,
     },
     Family {
         name: "records written",
@@ -227,16 +236,31 @@ fn least_error(most: i64, random: &mut Random) {
     least_list(&trace, allowance, samples + random.choose(&[0, 0, 1, 7]));
 }
 
+/// Range codes, sometimes none or too many, and the entries of an output for them, sometimes too few.
+pub fn codes_and_room(random: &mut Random) -> (Vec<u8>, usize) {
+    let most = random.choose(&[0, 1, 5, 40, 40, 40, 4_096, 4_097]);
+    let any = random.within(most.min(1), most);
+    let length = random.choose(&[any, most]) as usize;
+    let codes = (0..length).map(|_| random.bits() as u8).collect();
+    let short = length.saturating_sub(1);
+    let room = random.choose(&[length, length, length + 1, short, 0]);
+    (codes, room)
+}
+
 /// Range codes, with room or without.
 pub fn codes(random: &mut Random) {
-    let length = random.choose(&[0, 1, 5, 40, 40, 40, 4_096, 4_097]);
-    let length = random.within(length.min(1), length) as usize;
-    let codes: Vec<u8> = (0..length).map(|_| random.bits() as u8).collect();
-    let short = length.saturating_sub(1);
-    let _ = expand(
-        &codes,
-        random.choose(&[length, length, length + 1, short, 0]),
-    );
+    let (codes, room) = codes_and_room(random);
+    let _ = expand(&codes, room);
+}
+
+/// The same with a range table, which is allowed more often than not.
+pub fn codes_with_tables(random: &mut Random) {
+    let (codes, room) = codes_and_room(random);
+    let table = range_table(random);
+    let _ = match random.below(3) {
+        0 => expand_with(&codes, &damaged_table(&table, random), room),
+        _ => expand_with(&codes, &table, room),
+    };
 }
 
 /// What became of lists that were to be written.

@@ -222,21 +222,49 @@ pub fn least(ticks: &[u32], values: &[i16], allowance: u64, room: usize) -> Resu
 /// the reference, sees that no other element changed, and returns the values or the refusal's row.
 pub fn expand(codes: &[u8], room: usize) -> Result<Vec<i16>, Row> {
     let expected = record::expand(codes, room);
-    Call::Expand.count(&expected);
+    expanded(Call::Expand, codes, &[], room, expected, |codes, _, out| {
+        kovrelna::expand(codes, out)
+    })
+}
+
+/// The same of `expand_with`, with this table.
+pub fn expand_with(codes: &[u8], table: &[i16], room: usize) -> Result<Vec<i16>, Row> {
+    let expected = record::expand_with(codes, table, room);
+    let make = kovrelna::expand_with;
+    expanded(Call::ExpandWith, codes, table, room, expected, make)
+}
+
+/// Makes one of the two calls, and compares it.
+fn expanded(
+    call: Call,
+    codes: &[u8],
+    table: &[i16],
+    room: usize,
+    expected: Result<Vec<i16>, Row>,
+    make: impl Fn(&[u8], &[i16], &mut [i16]) -> Result<usize, Refusal>,
+) -> Result<Vec<i16>, Row> {
+    call.count(&expected);
+    let values = expected.as_deref().unwrap_or(&[]);
     for guards in GUARDS {
         let codes = Guarded::new(codes, guards.3);
-        // No code has a value below 0.
-        let before: Vec<i16> = (0..room).map(|k| k as i16 | i16::MIN).collect();
+        let table = Guarded::new(table, guards.1);
+        // No entry has its value before the call.
+        let other = |k: usize| !values.get(k).copied().unwrap_or(k as i16);
+        let before: Vec<i16> = (0..room).map(other).collect();
         let mut out = Guarded::new(&before, guards.1);
-        let answer = kovrelna::expand(codes.slice(), out.slice_mut()).map_err(row);
+        let answer = make(codes.slice(), table.slice(), out.slice_mut()).map_err(row);
+        let input = || {
+            let (name, codes, table) = (call.name(), codes.slice(), table.slice());
+            format!("{name} codes, table: {codes:?} {table:?} room {room}")
+        };
         let written = expected.as_ref().map(Vec::len).map_err(|row| *row);
-        assert_eq!(answer, written, "expand {:?} room {room}", codes.slice());
-        out.expect(0, expected.as_deref().unwrap_or(&[]));
+        assert_eq!(answer, written, "{}", input());
+        out.expect(0, values);
         assert!(
-            codes.as_expected() && out.as_expected(),
-            "expand: a value is wrong, or another element was changed\n{:?} {:?} room {room}",
-            codes.slice(),
-            out.slice()
+            codes.as_expected() && table.as_expected() && out.as_expected(),
+            "a value is wrong, or another element was changed: {:?}\n{}",
+            out.slice(),
+            input()
         );
     }
     expected

@@ -152,13 +152,13 @@ fn compare(options: &Options) -> Differed {
 /// What was compared, as a table: for each call how often it answered and how often each row of the
 /// table of refusals was due.
 fn report(options: &Options, differed: &Differed) -> String {
-    let mut report = format!("{:<9}{:>10}", "call", "answered");
+    let mut report = format!("{:<12}{:>10}", "call", "answered");
     for row in 1..=ROWS {
         report += &format!("{:>9}", format!("row {row}"));
     }
     for call in CALLS {
         let counts = call.counts();
-        report += &format!("\n{:<9}{:>10}", call.name(), counts[0]);
+        report += &format!("\n{:<12}{:>10}", call.name(), counts[0]);
         for (row, count) in counts.iter().enumerate().skip(1) {
             let has = call.rows().contains(&(row as u32));
             let shown = if has { count.to_string() } else { "-".into() };

@@ -1,4 +1,5 @@
-//! Repeatable random traces, lists, contents of records and crates, chosen to find mistakes.
+//! Repeatable random traces, lists, range tables, contents of records and crates, chosen to find
+//! mistakes.
 //!
 //! - [`Random`]: numbers from a seed.
 //! - [`Trace`], [`Kind`], [`trace`]: traces within the limits, of several kinds.
@@ -6,6 +7,7 @@
 //! - [`any_trace`]: of either sort.
 //! - [`kept_list`], [`damaged`]: kept lists, and lists with one or more faults.
 //! - [`just_below`]: the tolerance nearest below a link's error.
+//! - [`range_table`], [`damaged_table`]: range tables that are allowed, and others.
 //! - [`content`]: contents of records.
 //! - [`Channels`], [`channels`]: crates whose channels are traces and others.
 
@@ -265,6 +267,58 @@ pub fn just_below(Fraction { p, q }: Fraction) -> Fraction {
     }
 }
 
+/// A range table that is allowed. It rises by ones, by little, by much, or as the built-in values do; in
+/// some the rise to one code is such that the first value is the least i16 and the last the greatest.
+/// Others begin with the least i16, end with the greatest, or neither.
+pub fn range_table(random: &mut Random) -> Vec<i16> {
+    let (low, high) = (i64::from(i16::MIN), i64::from(i16::MAX));
+    let kind = random.below(4);
+    let mut offsets = vec![0];
+    for code in 1..256 {
+        let rise = match kind {
+            0 => 1,
+            1 => random.within(1, 4),
+            2 => random.within(1, 257),
+            _ => 1 << ((code - 1) / 32),
+        };
+        offsets.push(offsets[code - 1] + rise);
+    }
+    if random.below(3) == 0 {
+        let (code, rest) = (random.within(1, 255) as usize, high - low - offsets[255]);
+        offsets[code..]
+            .iter_mut()
+            .for_each(|offset| *offset += rest);
+    }
+    let latest = high - offsets[255];
+    let any = random.within(low, latest);
+    let first = random.choose(&[low, any, latest]);
+    offsets
+        .iter()
+        .map(|offset| (first + offset) as i16)
+        .collect()
+}
+
+/// The table with one or two values that are equal to the one before, just below it or far below it, at
+/// code 1, at code 255 or at any; with another length; or with both. It is never allowed.
+pub fn damaged_table(table: &[i16], random: &mut Random) -> Vec<i16> {
+    let mut table = table.to_vec();
+    let (values, length) = random.choose(&[(1, false), (2, false), (0, true), (1, true)]);
+    for _ in 0..values {
+        let any = random.within(1, 255) as usize;
+        let code = random.choose(&[any, any, 1, 255]);
+        match random.below(4) {
+            0 => table[code] = table[code - 1],
+            1 => table[code] = table[code - 1].saturating_sub(1),
+            2 => table[code] = i16::MIN,
+            _ => table[code - 1] = i16::MAX,
+        }
+    }
+    if length {
+        table.resize(random.choose(&[0, 1, 255, 257, 512]), i16::MAX);
+    }
+    table
+}
+
 /// The content of a record with so many samples: steps at the limits of short ones and others, up to
 /// exactly the greatest span; ticks as those of a trace; any tolerance.
 pub fn content(samples: usize, random: &mut Random) -> Content {
@@ -364,6 +418,7 @@ fn inverse(p: i128, q: i128) -> i128 {
 #[cfg(test)]
 mod tests {
     use super::*;
+    use crate::record::table_fault;
     use crate::{link_error, link_valid, list_refusal, trace_refusal};
 
     #[test]
@@ -390,6 +445,25 @@ mod tests {
             assert_eq!(trace_refusal(&ticks, &values), None, "{samples}");
             assert_eq!(values.len(), samples);
         }
+    }
+
+    /// A table is allowed, a damaged one never. The least and the greatest value come up at the ends, and
+    /// every sort of fault.
+    #[test]
+    fn tables_of_every_sort() {
+        let random = &mut Random::new(8);
+        let (mut ends, mut faults) = ([0; 4], [0; 4]);
+        for _ in 0..1_000 {
+            let table = range_table(random);
+            assert_eq!(table_fault(&table), None);
+            let (least, greatest) = (table[0] == i16::MIN, table[255] == i16::MAX);
+            ends[usize::from(least) + 2 * usize::from(greatest)] += 1;
+            let fault = table_fault(&damaged_table(&table, random)).unwrap();
+            // With 0, at code 1, at 2 to 254, at 255.
+            faults[[0, 1, 254].partition_point(|&last| last < fault)] += 1;
+        }
+        let seen = ends.iter().chain(&faults);
+        assert!(seen.min() > Some(&50), "{ends:?} {faults:?}");
     }
 
     /// Every sort of channel comes up, and the channels are end to end.

@@ -1,5 +1,5 @@
-//! The slow reference: document 01 and the first request of document 02 once more, in exact whole
-//! numbers, clear before fast. It knows nothing of the library that is compared with it.
+//! The slow reference: document 01 and the first and the third request of document 02 once more, in
+//! exact whole numbers, clear before fast. It knows nothing of the library that is compared with it.
 //!
 //! - [`Fraction`]: exact fractions, compared by cross multiplication.
 //! - [`deviation`], [`link_error`], [`link_valid`], [`valid_ends`]: links of a trace.
@@ -13,7 +13,7 @@
 //! - [`fewest`]: how short a kept list within a fraction can be.
 //! - [`record`]: range codes and records.
 //! - [`report`]: the report on a crate.
-//! - [`generate`]: repeatable random traces, lists, contents of records and crates.
+//! - [`generate`]: repeatable random traces, lists, range tables, contents of records and crates.
 
 pub mod generate;
 pub mod record;

@@ -1,6 +1,6 @@
 //! Range codes and records.
 //!
-//! - [`code_value`], [`expand`]: range codes.
+//! - [`code_value`], [`expand`], [`table_fault`], [`expand_with`]: range codes.
 //! - [`Content`], [`encode`], [`decode`]: a record's content, its bytes, and its fault.
 //! - [`tolerance`], [`first`], [`short`], [`long`], [`end`]: the commands.
 //! - [`write()`], [`read`], [`same`]: the calls.
@@ -22,6 +22,29 @@ pub fn expand(codes: &[u8], room: usize) -> Result<Vec<i16>, Row> {
         return Err((10, codes.len() as u64));
     }
     Ok(codes.iter().map(|&code| code_value(code)).collect())
+}
+
+/// The value of row 12, if a range table is refused: 0 if it does not have a value for each code, else
+/// the first code whose value is not above the one before.
+pub fn table_fault(table: &[i16]) -> Option<u64> {
+    if table.len() != 256 {
+        return Some(0);
+    }
+    (1..256).find(|&code| table[code as usize] <= table[code as usize - 1])
+}
+
+/// The first row that fits, or the table's value of each code. The output has `room` entries.
+pub fn expand_with(codes: &[u8], table: &[i16], room: usize) -> Result<Vec<i16>, Row> {
+    if codes.is_empty() || codes.len() > SAMPLES {
+        return Err((1, 0));
+    }
+    if let Some(fault) = table_fault(table) {
+        return Err((12, fault));
+    }
+    if room < codes.len() {
+        return Err((10, codes.len() as u64));
+    }
+    Ok(codes.iter().map(|&code| table[usize::from(code)]).collect())
 }
 
 /// A record's content.
@@ -225,6 +248,17 @@ mod tests {
         assert_eq!(expand(&codes, 6), Ok(values));
         assert_eq!(expand(&codes, 5), Err((10, 6)));
         assert_eq!(expand(&[], 0), Err((1, 0)));
+    }
+
+    #[test]
+    fn tables() {
+        let mut table: Vec<i16> = (0..256).map(|code| 100 * (code - 200)).collect();
+        assert_eq!(expand_with(&[0, 255], &table, 2), Ok(vec![-20_000, 5_500]));
+        assert_eq!(expand_with(&[0, 255], &table, 1), Err((10, 2)));
+        assert_eq!(expand_with(&[0, 255], &table[1..], 1), Err((12, 0)));
+        table[7] = table[6];
+        assert_eq!(expand_with(&[0, 255], &table, 1), Err((12, 7)));
+        assert_eq!(expand_with(&[], &table, 1), Err((1, 0)));
     }
 
     #[test]

@@ -6,7 +6,7 @@
 //! - `judge`: lists on random and adversarial traces.
 //! - `reduce`: walk, gallop and minimum on random and adversarial traces.
 //! - `least`: least errors on random and adversarial traces.
-//! - `codes`: range codes.
+//! - `codes`: range codes, with their own values and with those of a table.
 //! - `records`: records written, read, damaged and compared.
 //! - `report`: reports on crates.
 

@@ -6,7 +6,7 @@ use kovrelna_evidence::calls::Call::{self, *};
 use kovrelna_evidence::calls::CALLS;
 use kovrelna_evidence::cases::random_faults;
 use kovrelna_evidence::compare::{
-    expand, hold, judge, least, noise, ratio, read, reduce, report, same, write,
+    expand, expand_with, hold, judge, least, noise, ratio, read, reduce, report, same, write,
 };
 use kovrelna_reference::generate::{Channels, Random};
 use kovrelna_reference::record::{end, first, short, tolerance};
@@ -21,6 +21,7 @@ struct Input {
     tolerance: Tolerance,
     allowance: u64,
     codes: Vec<u8>,
+    table: Vec<i16>,
     record: Vec<u8>,
     second: Vec<u8>,
     /// The samples of each channel of a crate.
@@ -44,6 +45,7 @@ fn accepted() -> Input {
         tolerance: ratio(0, 1),
         allowance: 2,
         codes: vec![9; 8],
+        table: (-100..156).collect(),
         second: record.clone(),
         record,
         lengths: vec![1; 8],
@@ -61,6 +63,7 @@ fn refused(call: Call, input: &Input) -> Option<Row> {
         values,
         list,
         codes,
+        table,
         record,
         second,
         ..
@@ -75,6 +78,7 @@ fn refused(call: Call, input: &Input) -> Option<Row> {
         Minimum => reduced(Method::Minimum),
         Least => least(ticks, values, input.allowance, room).err(),
         Expand => expand(codes, room).err(),
+        ExpandWith => expand_with(codes, table, room).err(),
         Write => write(ticks, values, list, tolerance, input.size, input.place).err(),
         Read => read(record, room, second_room).err(),
         Same => same(record, second).err(),
@@ -89,13 +93,16 @@ fn refused(call: Call, input: &Input) -> Option<Row> {
     }
 }
 
-/// The calls that take a trace, one of up to 4,096 samples, a tolerance, a list; and those with an
-/// output of an entry for each sample, code or channel.
+/// The calls that take a trace, one of up to 4,096 samples, a tolerance, a list, codes; and those with
+/// an output of an entry for each sample, code or channel.
 const TRACES: &[Call] = &[Judge, Walk, Gallop, Minimum, Least, Write];
 const LONG_TRACES: &[Call] = &[Judge, Walk, Gallop, Minimum, Write];
 const TOLERANCES: &[Call] = &[Hold, Judge, Walk, Gallop, Minimum, Write, Report];
 const LISTS: &[Call] = &[Judge, Write];
-const OUTPUTS: &[Call] = &[Walk, Gallop, Minimum, Least, Expand, Read, Report];
+const CODES: &[Call] = &[Expand, ExpandWith];
+const OUTPUTS: &[Call] = &[
+    Walk, Gallop, Minimum, Least, Expand, ExpandWith, Read, Report,
+];
 
 /// A fault: the calls that refuse it, the row, and how it comes into an input. For each call and row
 /// there is one. They concern different things, so that any of them can come together.
@@ -105,7 +112,11 @@ type Change = fn(&mut Input);
 const FAULTS: &[Fault] = &[
     (&[Report], (11, 0), |input| input.lengths[3] = 2),
     (TRACES, (1, 0), |input| input.values.push(0)),
-    (&[Expand], (1, 0), |input| input.codes = vec![9; 4_097]),
+    (CODES, (1, 0), |input| input.codes = vec![9; 4_097]),
+    // No code of the input is this one.
+    (&[ExpandWith], (12, 200), |input| {
+        input.table[200] = input.table[199]
+    }),
     (TRACES, (2, 6), |input| input.ticks[6] = input.ticks[5]),
     // Its sample comes before that of row 2.
     (TRACES, (3, 3), |input| {
@@ -171,6 +182,7 @@ type Entry = (&'static [Call], Input, Option<Row>);
 fn limits() {
     let parts = [
         lengths(),
+        tables(),
         ticks(),
         tolerances(),
         allowances(),
@@ -224,8 +236,61 @@ fn lengths() -> Vec<Entry> {
             rooms: (samples, 0),
             ..accepted()
         };
-        entries.push((&[Expand], input, (!allowed).then_some((1, 0))));
+        entries.push((CODES, input, (!allowed).then_some((1, 0))));
     }
+    entries
+}
+
+fn tables() -> Vec<Entry> {
+    const MIN: i16 = i16::MIN;
+    const MAX: i16 = i16::MAX;
+    let mut entries: Vec<Entry> = Vec::new();
+    let mut add = |table: Vec<i16>, fault: Option<u64>| {
+        let row = fault.map(|value| (12, value));
+        let input = Input {
+            table,
+            ..accepted()
+        };
+        entries.push((&[ExpandWith], input.clone(), row));
+        if row.is_some() {
+            // Row 10 fails too, and then row 1.
+            let mut input = Input {
+                rooms: (0, 0),
+                ..input
+            };
+            entries.push((&[ExpandWith], input.clone(), row));
+            input.codes.clear();
+            entries.push((&[ExpandWith], input, Some((1, 0))));
+        }
+    };
+    // Other lengths, of values that rise and of equal ones; cut to 16 bits the last two are 0 and 256.
+    for length in [0, 1, 2, 255, 257, 512, 65_536, 65_792] {
+        add((0..length).map(|k| k as i16).collect(), Some(0));
+        add(vec![7; length], Some(0));
+    }
+    // The table with these values.
+    let with = |values: &[(usize, i16)]| {
+        let mut table = accepted().table;
+        values.iter().for_each(|&(code, value)| table[code] = value);
+        table
+    };
+    // Every code: its value is the one before, just below it, or far below it; the one before is far above.
+    for code in 1..256 {
+        let before = accepted().table[code - 1];
+        for value in [before, before - 1, MIN] {
+            add(with(&[(code, value)]), Some(code as u64));
+        }
+        add(with(&[(code - 1, MAX)]), Some(code as u64));
+    }
+    // The least and the greatest value at the ends, and the wrong way round.
+    add(with(&[(0, MIN), (255, MAX)]), None);
+    add(with(&[(0, MAX), (255, MIN)]), Some(1));
+    add((MIN..MIN + 128).chain(MAX - 127..=MAX).collect(), None);
+    add((MAX - 127..=MAX).chain(MIN..MIN + 128).collect(), Some(128));
+    add((0..256).rev().collect(), Some(1));
+    // Several faults.
+    add(with(&[(9, MIN), (200, MIN)]), Some(9));
+    add(with(&[(8, MAX), (255, MIN)]), Some(9));
     entries
 }
 
@@ -576,6 +641,8 @@ fn numbers() {
         (Refusal::SecondRecord(91), 9, 91),
         (Refusal::Room(101), 10, 101),
         (Refusal::Crate, 11, 0),
+        (Refusal::Table(0), 12, 0),
+        (Refusal::Table(121), 12, 121),
     ];
     for (refusal, number, returned) in cases {
         assert_eq!((refusal.number(), refusal.returned()), (number, returned));
@@ -585,6 +652,8 @@ fn numbers() {
             "{words}"
         );
     }
+    let words = Refusal::Table(0).to_string();
+    assert!(words.contains("256 values"), "{words}");
 }
 
 #[test]
