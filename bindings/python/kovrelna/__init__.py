@@ -5,7 +5,7 @@
 - `walk`, `Galloped`, `gallop`, `minimum`: kept lists with every link valid.
 - `Least`, `least`: the least error that so many samples allow.
 - `Summary`, `Report`, `report`: a row for each channel of a crate, and totals.
-- `expand`: the values of range codes.
+- `expand`, `expand_with`: the values of range codes, by the rule or by a table of one's own.
 - `write`, `Content`, `read`, `same`: records of kept samples.
 - `Checked`, `check`: whether a record may stand for its trace, before that is erased.
 - `Refusal`: why a call declined.
@@ -29,9 +29,9 @@ range of whole numbers is copied into such a buffer, and the few lengths of `rep
 them; a number that does not fit raises OverflowError.
 
 An output is a buffer that the caller lends, or is made anew: an array of numpy if the ticks (the
-codes, the record) are one or if that is asked for (`expand`, `read`), otherwise an array.array. Of a
-lent output only the entries used change, and the call returns a view of these. It overlaps no other
-list; one that does raises ValueError.
+codes, the record) are one or if that is asked for (`expand`, `expand_with`, `read`), otherwise an
+array.array. Of a lent output only the entries used change, and the call returns a view of these. It
+overlaps no other list; one that does raises ValueError.
 
 A call may run at the same time as others on any threads. Nothing else may write to a lent list
 before the call returns. minimum, least and report take up to 18 KiB of stack, every other call under
@@ -78,6 +78,7 @@ __all__ = [
     "Verdict",
     "check",
     "expand",
+    "expand_with",
     "gallop",
     "hold",
     "judge",
@@ -98,8 +99,9 @@ _CHANNELS = 64
 
 class Refusal(ValueError):
     """A call declined. It checks the rows that concern it in rising number, only 11 before all
-    others, and answers with the first that fits; a refused call leaves every list as it was.
-    `number` and `value` are the row's; `words` say what is wrong with what was given.
+    others and 12 right after 1, and answers with the first that fits; a refused call leaves every
+    list as it was. `number` and `value` are the row's; `words` say what is wrong with what was
+    given.
 
     | Number | Cause | Value |
     |---|---|---|
@@ -115,6 +117,8 @@ if it only stops short; 0 if it is empty |
     | 9 | the second record of a comparison is faulty | the fault's byte |
     | 10 | the output is too short | the entries or bytes needed |
     | 11 | there are no channels, more than 64, or lengths that do not add up to the lists | 0 |
+    | 12 | the range table does not have 256 values, or does not rise | 0; the first code whose \
+value is not above the one before |
 
     A bad entry is a first one that is not 0, one that is not above the entry before it, or one beyond
     the trace.
@@ -391,6 +395,36 @@ def expand(codes: Lent, out: Optional[Output] = None, *, numpy: bool = False) ->
         lent = loan.input("codes", codes, BYTE)
         room = new(VALUE, min(lent[1], _SAMPLES), codes, numpy) if out is None else out
         answer = _library.expand(*lent, *loan.output("out", room, VALUE))
+        _check(answer, loan, most=_SAMPLES)
+    return used(room, VALUE, 0, answer.value, out is None)
+
+
+def expand_with(
+    codes: Lent, table: Lent, out: Optional[Output] = None, *, numpy: bool = False
+) -> Numbers:
+    """The value of each range code as `expand` gives it, with a table of one's own in place of its
+    values: code c has the value `table[c]`. The table has 256 values (signed, 16 bits), each above
+    the one before. All of it is checked at each call, whatever codes occur. There is always one: an
+    empty table is refused, and None raises TypeError. With `numpy=True` a new output is an array of
+    numpy, whatever the codes are.
+
+    Refusals: 1 if there are no codes or more than 4,096; 12; 10 with the number of values.
+
+    >>> table = [100 * (code - 200) for code in range(256)]
+    >>> expand_with(bytes([0, 200, 255]), table)
+    array('h', [-20000, 0, 5500])
+    >>> table[31] = table[30]
+    >>> expand_with(bytes([0, 200, 255]), table)
+    Traceback (most recent call last):
+        ...
+    kovrelna.Refusal: refused as 12: the value of code 31 is not above the one before: \
+-17000 after -17000
+    """
+    with Loan() as loan:
+        lent = loan.input("codes", codes, BYTE)
+        values = loan.input("table", table, VALUE)
+        room = new(VALUE, min(lent[1], _SAMPLES), codes, numpy) if out is None else out
+        answer = _library.expand_with(*lent, *values, *loan.output("out", room, VALUE))
         _check(answer, loan, most=_SAMPLES)
     return used(room, VALUE, 0, answer.value, out is None)
 

@@ -75,8 +75,8 @@ ENTRY = Item("H", 2, 0, 2**16 - 1, UNSIGNED)
 BYTE = Item("B", 1, 0, 2**8 - 1, UNSIGNED | {"c"})
 LENGTH = Item("Q", 8, 0, 2**64 - 1, UNSIGNED)
 
-# No list of one trace, and no record, has more elements: one that has more is refused as its
-# beginning is.
+# No list of one trace, no range table and no record has more elements: one that has more is refused
+# as its beginning is.
 MOST = 2**16
 # The same of a crate: so many elements more than the lengths add up to.
 SPARE = 2**20

@@ -3,7 +3,7 @@
 from typing import SupportsIndex
 
 from . import _tolerance
-from ._lists import ENTRY, LENGTH, SPARE, TICK, Loan
+from ._lists import ENTRY, LENGTH, MOST, SPARE, TICK, VALUE, Loan
 
 
 def words(
@@ -38,13 +38,16 @@ def words(
         return f"link {value}, {link}, is invalid at this tolerance"
     if number == 11:
         return _crate(loan)
+    if number == 12:
+        return _table(loan, value)
     if number in (8, 9):
         return f"the {'second ' if number == 9 else ''}record is faulty at byte {value}"
     return f"the output is too short: {_room(loan, value, place)}"
 
 
 def _length(loan: Loan, most: int) -> str:
-    inputs = [(lent.name, len(lent.view)) for lent in loan.lists if not lent.output][:2]
+    counted = "ticks", "values", "codes"
+    inputs = [(lent.name, len(lent.view)) for lent in loan.lists if lent.name in counted]
     what = "codes" if inputs[0][0] == "codes" else "samples"
     if any(length > most for _, length in inputs):
         return f"too many {what}: at most {most:,} are allowed"
@@ -64,6 +67,16 @@ def _crate(loan: Loan) -> str:
     counts = [(lent.name, len(lent.view)) for lent in loan.lists[:2]]
     there = " and ".join(f"{n if n < total + SPARE else 'more'} {name}" for name, n in counts)
     return f"the lengths add up to {total}, and there are {there}"
+
+
+def _table(loan: Loan, code: int) -> str:
+    """What keeps the first list of values from being a range table; with 0 its length."""
+    table = loan.numbers(VALUE)
+    if code == 0:
+        there = len(table) if len(table) < MOST else f"{MOST} or more"
+        return f"the table must have 256 values, not {there}"
+    after = f"{table[code]} after {table[code - 1]}"
+    return f"the value of code {code} is not above the one before: {after}"
 
 
 def _entry(loan: Loan, position: int) -> str:

@@ -1,10 +1,10 @@
-"""The slow reference: document 01 and wish 1 of document 02 once more, with fractions, clear before
-fast. It knows nothing of the library that is compared with it.
+"""The slow reference: document 01 and wishes 1 and 3 of document 02 once more, with fractions,
+clear before fast. It knows nothing of the library that is compared with it.
 
 - `Refused`: a row of the table of refusals.
 - `held`: a tolerance. Its forms are ("ratio", p, q), ("counts", x) and ("noise", noise, multiple).
-- `judge`, `walk`, `gallop`, `minimum`, `least`, `report`, `expand`, `write`, `read`, `same`: the
-  calls.
+- `judge`, `walk`, `gallop`, `minimum`, `least`, `report`, `expand`, `expand_with`, `write`, `read`,
+  `same`: the calls.
 """
 
 import itertools
@@ -194,11 +194,28 @@ def report(ticks, values, lengths, tolerance, room):
     return rows, sum(samples), sum(kept), max(errors)
 
 
-def expand(codes, room):
+def check_codes(codes):
+    """Row 1."""
     if not 1 <= len(codes) <= SAMPLES:
         raise Refused(1, 0)
+
+
+def expand(codes, room):
+    check_codes(codes)
     check_room(room, len(codes))
     return [2 ** (code // 32) * (code % 32 + 32) - 32 for code in codes]
+
+
+def expand_with(codes, table, room):
+    """Row 12 between 1 and 10."""
+    check_codes(codes)
+    if len(table) != 256:
+        raise Refused(12, 0)
+    for code in range(1, 256):
+        if table[code] <= table[code - 1]:
+            raise Refused(12, code)
+    check_room(room, len(codes))
+    return [table[code] for code in codes]
 
 
 def is_short(advance, change):

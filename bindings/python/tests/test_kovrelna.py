@@ -1,6 +1,6 @@
 """The Python module as a user calls it: document 01's figures, every refusal of every call, buffers
-that are lent and not copied, and random traces, tolerances and records beside the slow reference.
-Arrays of numpy are tried where numpy is present; a stand-in for it always is.
+that are lent and not copied, and random traces, tolerances, range tables and records beside the
+slow reference. Arrays of numpy are tried where numpy is present; a stand-in for it always is.
 """
 
 import array
@@ -36,6 +36,7 @@ ZIGZAG = [0, 3, 0, 3, 0]
 WAVE = [0, 2, 0, -2, 0]
 RECORD = bytes.fromhex("54 00 00 00 00 02 00 00 03 41 00 00 00 00 00 00 53 03 01 45 00 02")
 REDUCTIONS = (kovrelna.walk, kovrelna.gallop, kovrelna.minimum)
+TABLE = [100 * (code - 200) for code in range(256)]
 
 
 def load_tests(loader, tests, pattern):
@@ -47,6 +48,11 @@ def kept_by(call, *arguments):
     """The kept list of a reduction, as a plain list."""
     answer = call(*arguments)
     return list(answer.kept if call is kovrelna.gallop else answer)
+
+
+def table_with(values):
+    """The table with other values of some codes."""
+    return [values.get(code, value) for code, value in enumerate(TABLE)]
 
 
 class Case(unittest.TestCase):
@@ -118,6 +124,20 @@ class Figures(Case):
         self.assertEqual(list(kovrelna.expand([31, 32, 63, 64, 255])), values)
         rule = [2**e * (m + 32) - 32 for e in range(8) for m in range(32)]
         self.assertEqual(list(kovrelna.expand(bytes(range(256)))), rule)
+
+    def test_tables(self):
+        every = bytes(range(256))
+        self.assertEqual(list(kovrelna.expand_with([0, 200, 255], TABLE)), [-20000, 0, 5500])
+        self.assertEqual(list(kovrelna.expand_with(every, TABLE)), TABLE)
+        # The values of expand as a table.
+        table = kovrelna.expand(every)
+        mixed = random.Random(2).choices(every, k=4096)
+        for codes in [every, mixed] + [[code] for code in every]:
+            self.assertEqual(kovrelna.expand_with(codes, table), kovrelna.expand(codes))
+        # The least and the greatest value, and a rise by more than the greatest.
+        low, high = range(-32768, -32640), range(32640, 32768)
+        for table in (table_with({0: -32768, 255: 32767}), [*low, *high]):
+            self.assertEqual(list(kovrelna.expand_with([255, 0], table)), [32767, -32768])
 
     def test_ticks(self):
         self.assertTrue(kovrelna.judge([0, 1048575], [0, 0], [0, 1], 0))
@@ -293,6 +313,7 @@ class Refusals(Case):
                 self.refused(10, 5, call, EVEN, ZIGZAG, 3, out)
             values = array.array("h", [7] * length)
             self.refused(10, 5, kovrelna.expand, bytes(5), values)
+            self.refused(10, 5, kovrelna.expand_with, bytes(5), TABLE, values)
             self.assertEqual((set(out) | set(values)) - {7}, set())
         for length, place in [(21, 0), (22, 1), (22, 22), (22, 23), (22, 2**64), (0, 0), (25, 4)]:
             buffer = bytearray(b"\7" * length)
@@ -308,6 +329,39 @@ class Refusals(Case):
         self.refused(1, 0, kovrelna.expand, b"")
         self.refused(1, 0, kovrelna.expand, bytes(4097))
         self.refused(1, 0, kovrelna.expand, bytes(4097), array.array("h"))
+
+    def test_tables(self):
+        rising, low, high = range(300), -32768, 32767
+        tables = [(rising[:length], 0) for length in (0, 1, 255, 257, 300)] + [
+            ([7] * 255, 0),
+            ([7] * 257, 0),
+            (TABLE[::-1], 1),
+            (table_with({0: high, 255: low}), 1),
+            (table_with({255: low}), 255),
+            # Two faults, also of codes that are not given.
+            (table_with({9: low, 200: low}), 9),
+        ]
+        for code in range(1, 256):
+            for value in (TABLE[code - 1], TABLE[code - 1] - 1):
+                tables.append((table_with({code: value}), code))
+        for table, value in tables:
+            for lent in (table, array.array("h", table)):
+                for out in (None, array.array("h"), array.array("h", [7] * 2)):
+                    self.refused(12, value, kovrelna.expand_with, b"\0\1", lent, out)
+                    self.refused(1, 0, kovrelna.expand_with, b"", lent, out)
+                    self.refused(1, 0, kovrelna.expand_with, bytes(4097), lent, out)
+                    self.assertEqual(set(out or [7]), {7})
+        for out in (None, array.array("h")):
+            self.refused(1, 0, kovrelna.expand_with, b"", TABLE, out)
+            self.refused(1, 0, kovrelna.expand_with, bytes(4097), TABLE, out)
+
+    def test_there_is_always_a_table(self):
+        with self.assertRaisesRegex(TypeError, "^table must be a buffer .*: NoneType is none"):
+            kovrelna.expand_with(b"\0", None)
+        with self.assertRaisesRegex(TypeError, "table"):
+            kovrelna.expand_with(b"\0")
+        with self.assertRaisesRegex(TypeError, "table"):
+            kovrelna.expand(b"\0", table=TABLE)
 
 
 class Words(Case):
@@ -332,9 +386,10 @@ class Words(Case):
         self.says(1, words, kovrelna.least, range(257), [0] * 257, 2)
         words = "not as many values as ticks: 5 ticks and 4 values"
         self.says(1, words, kovrelna.judge, EVEN, [0] * 4, [0, 4], 1)
-        self.says(1, "no codes", kovrelna.expand, b"")
         words = "too many codes: at most 4,096 are allowed"
-        self.says(1, words, kovrelna.expand, bytes(4097))
+        for call, *table in [(kovrelna.expand,), (kovrelna.expand_with, [0] * 5000)]:
+            self.says(1, "no codes", call, b"", *table)
+            self.says(1, words, call, bytes(4097), *table)
 
     def test_ticks(self):
         words = "the tick of sample 2 is not above the one before: 4 after 5"
@@ -379,6 +434,20 @@ class Words(Case):
         words = "the lengths add up to 5, and there are more ticks and 5 values"
         self.says(11, words, kovrelna.report, range(10**30), self.flat, [5], 1)
 
+    def test_tables(self):
+        length, below = "the table must have 256 values, not", "is not above the one before:"
+        for table, words in [
+            ([], f"{length} 0"),
+            (TABLE[1:], f"{length} 255"),
+            ([0] * 65535, f"{length} 65535"),
+            ([0] * 70000, f"{length} 65536 or more"),
+            (table_with({1: -20000}), f"the value of code 1 {below} -20000 after -20000"),
+            (table_with({255: -7}), f"the value of code 255 {below} -7 after 5400"),
+        ]:
+            self.says(12, words, kovrelna.expand_with, b"\0", table)
+            table = memoryview((ctypes.c_int16 * len(table))(*table))
+            self.says(12, words, kovrelna.expand_with, b"\0", table)
+
     def test_allowances(self):
         words = "the allowance must be from 2 to 4,096, not 1"
         self.says(5, words, kovrelna.least, EVEN, self.flat, 1)
@@ -420,6 +489,7 @@ class Words(Case):
         for words, call, arguments in [
             ("5 entries are needed, and out has 0", kovrelna.least, (EVEN, self.flat, 2, out)),
             ("5 entries are needed, and out has 2", kovrelna.expand, (bytes(5), values)),
+            ("3 entries are needed, and out has 2", kovrelna.expand_with, (b"abc", TABLE, values)),
             ("2 entries are needed, and ticks has 1", kovrelna.read, (RECORD, ticks[1:])),
             ("2 entries are needed, and values has 1", kovrelna.read, (RECORD, ticks, values[1:])),
             ("22 bytes are needed, and buffer has 21", kovrelna.write, (*trace, bytearray(21))),
@@ -442,6 +512,7 @@ class Longest(Case):
         self.assertEqual(kovrelna.read(record), (ticks, values, 0))
         self.assertTrue(kovrelna.same(record, record))
         self.assertEqual(len(kovrelna.expand(bytes(4096))), 4096)
+        self.assertEqual(list(kovrelna.expand_with(bytes(4096), TABLE)), TABLE[:1] * 4096)
         crate = kovrelna.report(64 * ticks, 64 * values, [4096] * 64, 0)
         self.assertEqual(crate, ([(4096, 4096, 0, 0)] * 64, 64 * 4096, 64 * 4096, 0))
         # Plain lists: a channel may be longer than a trace.
@@ -472,6 +543,7 @@ class Buffers(Case):
         out, buffer = array.array("H", [9] * 4), array.array("B", [9] * 30)
         ticks, values = array.array("I", [9] * 3), array.array("h", [9] * 3)
         codes, decoded = array.array("B", [31, 32]), array.array("h", [9] * 3)
+        table, mapped = array.array("h", TABLE), array.array("h", [9] * 3)
         record = array.array("B", RECORD)
         trace = [self.ticks, self.values]
         calls = [(call.__name__, call, trace + [1], [out]) for call in REDUCTIONS] + [
@@ -481,6 +553,7 @@ class Buffers(Case):
             ("read", kovrelna.read, [record], [ticks, values]),
             ("same", kovrelna.same, [record, record], []),
             ("expand", kovrelna.expand, [codes], [decoded]),
+            ("expand_with", kovrelna.expand_with, [codes, table], [mapped]),
         ]
         for name, call, inputs, outputs in calls:
             lists = [one for one in inputs + outputs if isinstance(one, array.array)]
@@ -489,6 +562,8 @@ class Buffers(Case):
         self.assertEqual(out.tolist(), [0, 2, 9, 9])
         self.assertEqual((ticks.tolist(), values.tolist()), ([0, 3, 9], [0, 1, 9]))
         self.assertEqual(decoded.tolist(), [31, 32, 9])
+        self.assertEqual(mapped.tolist(), [-16900, -16800, 9])
+        self.assertEqual((codes.tolist(), table.tolist()), ([31, 32], TABLE))
         self.assertEqual(bytes(buffer), kovrelna.write(*trace, self.kept, 1) + b"\t" * 8)
 
     def test_the_lent_output_is_returned(self):
@@ -576,12 +651,16 @@ class Buffers(Case):
             kovrelna.judge([0, 1], [0, 0], [0, 65536], 1)
         with self.assertRaisesRegex(OverflowError, r"codes\[0\] must be from 0 to 255, not 256"):
             kovrelna.expand([256])
+        with self.assertRaisesRegex(OverflowError, r"table\[255\] must be from -32768 to 32767"):
+            kovrelna.expand_with([0], table_with({255: 32768}))
 
     def test_long_lists(self):
         endless = range(10**12)
         for call in REDUCTIONS + (kovrelna.least,):
             self.refused(1, 0, call, endless, [0], 2)
         self.refused(1, 0, kovrelna.expand, [0] * 65537)
+        self.refused(1, 0, kovrelna.expand_with, [0] * 65537, TABLE)
+        self.refused(12, 0, kovrelna.expand_with, [0], [0] * 65537)
         for kept, position in [(endless, 5), ([0] * 65537, 1), (tuple(range(5)) * 20000, 5)]:
             self.refused(6, position, kovrelna.judge, EVEN, WAVE, kept, 1)
             self.refused(6, position, kovrelna.write, EVEN, WAVE, kept, 1)
@@ -665,6 +744,7 @@ class Buffers(Case):
         read_only = [
             ("buffer", kovrelna.write, [0, 1, 3], [0, 1, 1], [0, 2], 1, bytes(40)),
             ("out", kovrelna.expand, b"\7", memoryview(bytes(2)).cast("h")),
+            ("out", kovrelna.expand_with, b"\7", TABLE, memoryview(bytes(2)).cast("h")),
             ("ticks", kovrelna.read, RECORD, memoryview(bytes(8)).cast("I")),
             ("values", kovrelna.read, RECORD, None, memoryview(bytes(4)).cast("h")),
         ]
@@ -681,6 +761,10 @@ class Buffers(Case):
         self.assertEqual(kovrelna.walk(ticks, [0, 0], 1, memory[8:12].cast("H")).tolist(), [0, 1])
         with self.assertRaisesRegex(ValueError, "values and ticks overlap"):
             kovrelna.read(RECORD, memory[:8].cast("I"), memory[4:8].cast("h"))
+        table = memoryview(array.array("h", TABLE + [7]))
+        with self.assertRaisesRegex(ValueError, "out and table overlap"):
+            kovrelna.expand_with(b"\0\0", table[:256], table[255:])
+        self.assertEqual(kovrelna.expand_with(b"\0", table[:256], table[256:]).tolist(), [-20000])
         self.assertTrue(kovrelna.same(memoryview(RECORD), memoryview(RECORD)))
 
     def test_alignment(self):
@@ -735,8 +819,12 @@ class NumpyArrays:
             answers += kovrelna.read(record)[:2]
             answers += kovrelna.read(RECORD, numpy=True)[:2]
             answers += [kovrelna.expand(record), kovrelna.expand(RECORD, numpy=True)]
-            self.assertEqual([len(answer) for answer in answers], [2] * 8 + [22] * 2)
+            answers += [kovrelna.expand_with(record, TABLE)]
+            answers += [kovrelna.expand_with(RECORD, TABLE, numpy=True)]
+            self.assertEqual([len(answer) for answer in answers], [2] * 8 + [22] * 4)
             self.assertNotIsInstance(kovrelna.walk(ticks.tolist(), values, 1), self.module.ndarray)
+            table = self.module.array(TABLE, "h")
+            self.assertNotIsInstance(kovrelna.expand_with(RECORD, table), self.module.ndarray)
             given = self.module.array([9] * 2, "I")
             content = kovrelna.read(RECORD, given, numpy=True)
             self.assertEqual((given.tolist(), content.values.tolist()), ([0, 3], [0, 1]))
@@ -881,7 +969,7 @@ def answer(call, *arguments):
 
 
 class Reference(Case):
-    """Random traces, tolerances and records beside the slow reference."""
+    """Random traces, tolerances, range tables and records beside the slow reference."""
 
     def setUp(self):
         self.random = random.Random(1)
@@ -985,6 +1073,40 @@ class Reference(Case):
             seen.add(expected[1][0] if refused else 0)
             rows.update([] if refused else [row[3] for row in expected[0]])
         self.assertEqual((seen, rows), ({0, 4, 11}, {0, 1, 2, 3}))
+
+    def table(self):
+        """A range table, sometimes one with faults."""
+        choose = self.random.choice
+        first = choose([-32768, -500, 0, 32767 - 255])
+        spread = sorted(self.random.sample(range(-32768, 32768), 256))
+        table = choose([spread, list(range(first, first + 256)), TABLE[:]])
+        if choose(range(4)) == 0:
+            table[0], table[255] = -32768, 32767
+        for _ in range(choose([0, 0, 0, 0, 1, 1, 2])):
+            code = choose([1, 255, self.random.randint(1, 255)])
+            before = table[code - 1]
+            table[code] = choose([before, max(before - 1, -32768), -32768])
+        if choose(range(8)) == 0:
+            table = choose([[], table[:255], table + [32767], table + table])
+        return table
+
+    def test_tables(self):
+        seen = set()
+        for _ in range(600):
+            count = self.random.choice([0, 1, 2, 5, 40, 40, 40, 4096, 4097])
+            codes, table = bytes(self.random.choices(range(256), k=count)), self.table()
+            room = self.random.choice([0, max(count - 1, 0), count, count, count + 3])
+            out = array.array("h", [999] * room)
+            expected = answer(reference.expand_with, codes, table, room)
+            found = answer(kovrelna.expand_with, codes, table, out)
+            after = [999] * room
+            seen.add(expected[1][0] if expected[0] == "refused" else 0)
+            if expected[0] != "refused":
+                found = list(found)
+                after[:count] = expected
+            self.assertEqual(found, expected, (codes, table, room))
+            self.assertEqual(out.tolist(), after)
+        self.assertEqual(seen, {0, 1, 10, 12})
 
     def test_records(self):
         seen = set()

@@ -28,6 +28,8 @@ kovrelna.report(ticks, values, kept, 1).rows[0].error.denominator
 kovrelna.report(Array(), Array(), Array(), 1).kept.bit_length()
 kovrelna.report(ticks, values, (n for n in ticks), 1).error.denominator
 kovrelna.expand(b"", numpy=True)
+kovrelna.expand_with(b"", values, array.array("h"))
+kovrelna.expand_with(Array(), Array(), numpy=True)
 kovrelna.write(ticks, values, kept, 0.5).hex()
 kovrelna.write(ticks, values, kept, 0.5, bytearray(40), 8)
 kovrelna.read(b"", numpy=True).tolerance.denominator
@@ -50,6 +52,10 @@ kovrelna.report(ticks, values, "31", 1)  # type: ignore[arg-type]
 kovrelna.report(ticks, values, 3, 1)  # type: ignore[arg-type]
 kovrelna.report(ticks, values, [3], 1).rows.samples  # type: ignore[attr-defined]
 kovrelna.expand("codes")  # type: ignore[arg-type]
+kovrelna.expand(b"", table=values)  # type: ignore[call-arg]
+kovrelna.expand_with(b"")  # type: ignore[call-arg]
+kovrelna.expand_with(b"", None)  # type: ignore[arg-type]
+kovrelna.expand_with(b"", [0.5])  # type: ignore[list-item]
 kovrelna.write(ticks, values, kept, 1, place=8)  # type: ignore[call-overload]
 kovrelna.read(7)  # type: ignore[arg-type]
 kovrelna.same(b"", None)  # type: ignore[arg-type]
