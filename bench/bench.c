@@ -199,12 +199,13 @@ static void measure(row *r, size_t kind, const int64_t *tolerance) {
 
 /* ---- Records, lists and codes ---- */
 
-enum { BYTES = KOVRELNA_RECORD_MAX, RECORD_CALLS = 20 };
+enum { BYTES = KOVRELNA_RECORD_MAX, RECORD_CALLS = 20, CODES = 256 };
 
-/* A kept list of a trace and its record; codes and their values. */
+/* A kept list of a trace and its record; codes, a range table and their values. */
 typedef struct kept_record {
   const int16_t *values;
   uint8_t codes[SAMPLES];
+  int16_t table[CODES];
   int16_t expanded[SAMPLES];
   uint16_t list[SAMPLES];
   size_t kept, length;
@@ -257,7 +258,30 @@ static size_t plain_expand(kept_record *r) {
   return expand_c(r->codes, SAMPLES, r->expanded, SAMPLES);
 }
 
-enum { WRITE, WRITE_C, READ, READ_C, JUDGE, JUDGE_C, EXPAND, EXPAND_C, RECORDERS };
+static size_t library_expand_with(kept_record *r) {
+  kovrelna_answer answer =
+      kovrelna_expand_with(r->codes, SAMPLES, r->table, CODES, r->expanded, SAMPLES);
+  return answer.number == 0 ? (size_t)answer.value : 0;
+}
+
+static size_t plain_expand_with(kept_record *r) {
+  expanded answer = expand_with_c(r->codes, SAMPLES, r->table, CODES, r->expanded, SAMPLES);
+  return answer.number == 0 ? answer.value : 0;
+}
+
+enum {
+  WRITE,
+  WRITE_C,
+  READ,
+  READ_C,
+  JUDGE,
+  JUDGE_C,
+  EXPAND,
+  EXPAND_C,
+  EXPAND_WITH,
+  EXPAND_WITH_C,
+  RECORDERS
+};
 
 static const struct {
   const char *name;
@@ -269,7 +293,9 @@ static const struct {
                          {"kovrelna_judge", library_judge},
                          {"judge_c", plain_judge},
                          {"kovrelna_expand", library_expand},
-                         {"expand_c", plain_expand}};
+                         {"expand_c", plain_expand},
+                         {"kovrelna_expand_with", library_expand_with},
+                         {"expand_with_c", plain_expand_with}};
 
 static double record_times[RECORDERS][REPETITIONS]; /* microseconds a call */
 
@@ -281,13 +307,14 @@ static void make_record(kept_record *r, size_t kind, int all, size_t (*write)(ke
   if (!all) r->kept = walk_c(ticks, r->values, SAMPLES, RECORD_P, RECORD_Q, r->list).kept;
   for (k = 0; all && k < SAMPLES; k++) r->list[k] = (uint16_t)k;
   for (k = 0; k < SAMPLES; k++) r->codes[k] = (uint8_t)(7 * k + (size_t)r->values[k]);
+  for (k = 0; k < CODES; k++) r->table[k] = (int16_t)(k * (k + 1) / 2);
   r->length = write(r);
 }
 
 /* What a call answers. */
 static size_t expected(const kept_record *r, int x) {
   if (x == WRITE || x == WRITE_C) return r->length;
-  return x == EXPAND || x == EXPAND_C ? SAMPLES : r->kept;
+  return x >= EXPAND ? SAMPLES : r->kept;
 }
 
 /* Whether the samples read are those of the list. */
@@ -296,6 +323,14 @@ static int is_read(const kept_record *r) {
   for (k = 0; k < r->kept; k++)
     if (r->read_ticks[k] != ticks[r->list[k]] || r->read_values[k] != r->values[r->list[k]])
       return 0;
+  return 1;
+}
+
+/* Whether these are the values of the codes in the table. */
+static int is_expanded(const kept_record *r) {
+  size_t k;
+  for (k = 0; k < SAMPLES; k++)
+    if (r->expanded[k] != r->table[r->codes[k]]) return 0;
   return 1;
 }
 
@@ -311,11 +346,12 @@ static void measure_records(kept_record *r, size_t kind, int all) {
       double start;
       if (x == WRITE || x == WRITE_C) memset(r->bytes, 0, BYTES);
       if (x == READ || x == READ_C) memset(r->read_ticks, 0, sizeof(r->read_ticks));
+      if (x >= EXPAND_WITH) memset(r->expanded, 0, sizeof(r->expanded));
       start = now();
       for (k = 0; k < RECORD_CALLS; k++) answer = RECORDER[x].call(r);
       record_times[x][repetition] = 1e-3 * (now() - start) / RECORD_CALLS;
       if (answer != expected(r, x) || memcmp(r->bytes, bytes, r->length) != 0 ||
-          ((x == READ || x == READ_C) && !is_read(r)))
+          ((x == READ || x == READ_C) && !is_read(r)) || (x >= EXPAND_WITH && !is_expanded(r)))
         fail("a call does not answer as its peer does");
     }
   }
@@ -326,9 +362,9 @@ static void print_records(void) {
   int x, all;
   size_t kind;
   printf("\nWalk's list and all samples at tolerance 7.50: written to a record, read, judged;\n"
-         "and %d range codes expanded. Microseconds a call.\n"
+         "and %d range codes expanded, also by a table of the caller. Microseconds a call.\n"
          "         samples   bytes     write       C   ratio      read       C   ratio"
-         "     judge       C   ratio    expand       C   ratio\n",
+         "     judge       C   ratio    expand       C   ratio  by table       C   ratio\n",
          SAMPLES);
   for (kind = 0; kind < COUNT(KINDS); kind++) {
     for (all = 0; all <= 1; all++) {

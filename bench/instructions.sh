@@ -11,12 +11,12 @@ kinds="pulse noise ramp zigzag spike"
 table() {
   samples=$1
   shift
-  printf '%-16s' ''
+  printf '%-20s' ''
   printf ' %10s' $kinds
   echo
   for call in "$@"; do
     for function in "kovrelna_$call" "${call}_c"; do
-      printf '%-16s' "$function"
+      printf '%-20s' "$function"
       for kind in $kinds; do
         valgrind --tool=callgrind --callgrind-out-file=/dev/null --toggle-collect="$function" \
           "$bench" once "$kind" "$function" ${each:-} 2>&1 |
@@ -30,7 +30,7 @@ table() {
 bench=$1
 echo
 echo "Instructions a sample, whole call, 4096 samples, tolerance 7.50; records and lists of all samples"
-table 4096 walk gallop minimum write read judge expand
+table 4096 walk gallop minimum write read judge expand expand_with
 echo
 echo "Instructions a sample, whole call, 256 samples, allowance 20"
 table 256 least

@@ -2,7 +2,7 @@
 
 #include <string.h>
 
-enum { SAMPLES = 4096, SPAN = 1048575, CHANNELS = 64 };
+enum { SAMPLES = 4096, SPAN = 1048575, CHANNELS = 64, CODES = 256 };
 
 static int is_trace(const uint32_t *ticks, size_t n) {
   unsigned stuck = 0;
@@ -422,13 +422,41 @@ int judge_c(const uint32_t *ticks, const int16_t *values, size_t n, const uint16
 }
 
 size_t expand_c(const uint8_t *codes, size_t n, int16_t *values, size_t room) {
-  static int16_t table[256];
+  static int16_t table[CODES];
   size_t k;
   if (n == 0 || n > SAMPLES || room < n) return 0;
   if (table[255] == 0)
-    for (k = 0; k < 256; k++) table[k] = (int16_t)(((k % 32 + 32) << (k / 32)) - 32);
+    for (k = 0; k < CODES; k++) table[k] = (int16_t)(((k % 32 + 32) << (k / 32)) - 32);
   for (k = 0; k < n; k++) values[k] = table[codes[k]];
   return n;
+}
+
+/* The first code whose value is not above the one before, 256 if there is none. */
+static size_t first_stuck(const int16_t *table) {
+  unsigned stuck = 0;
+  size_t c;
+  for (c = 1; c < CODES; c++) stuck |= table[c] <= table[c - 1];
+  if (stuck)
+    for (c = 1; table[c] > table[c - 1];) c++;
+  return c;
+}
+
+static expanded refused(unsigned number, size_t value) {
+  expanded answer = {number, value};
+  return answer;
+}
+
+expanded expand_with_c(const uint8_t *codes, size_t n, const int16_t *table, size_t table_n,
+                       int16_t *values, size_t room) {
+  expanded answer = {0, n};
+  size_t fault, k;
+  if (n == 0 || n > SAMPLES) return refused(1, 0);
+  if (table_n != CODES) return refused(12, 0);
+  fault = first_stuck(table);
+  if (fault < CODES) return refused(12, fault);
+  if (room < n) return refused(10, n);
+  for (k = 0; k < n; k++) values[k] = table[codes[k]];
+  return answer;
 }
 
 static int is_short(int64_t advance, int64_t change) {

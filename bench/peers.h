@@ -77,6 +77,16 @@ int judge_c(const uint32_t *ticks, const int16_t *values, size_t n, const uint16
  * the output has no room. */
 size_t expand_c(const uint8_t *codes, size_t n, int16_t *values, size_t room);
 
+/* number 0: value is the number of codes. Otherwise: the refusal's number and value. */
+typedef struct expanded {
+  unsigned number;
+  size_t value;
+} expanded;
+
+/* Checks the range table as the library does, and expands the codes by it. */
+expanded expand_with_c(const uint8_t *codes, size_t n, const int16_t *table, size_t table_n,
+                       int16_t *values, size_t room);
+
 /* Writes the record of the kept list. Returns its length, 0 if the trace, the list or a link is
  * refused or the buffer has no room. */
 size_t write_c(const uint32_t *ticks, const int16_t *values, size_t n, const uint16_t *list,

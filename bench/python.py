@@ -65,6 +65,7 @@ def main():
     kept = kovrelna.walk(ticks, values, 7.5)
     record = kovrelna.write(ticks, values, kept, 7.5)
     codes = bytes((7 * k + value) % 256 for k, value in enumerate(values))
+    table = array("h", (k * (k + 1) // 2 for k in range(256)))
     two = [numbers[:2] for numbers in whole]
     samples = f"{len(ticks):,} samples, tolerance 7.5"
     listed = f"a list of {len(kept)} of {len(ticks):,} samples"
@@ -78,6 +79,7 @@ def main():
         "write": (listed, kovrelna.write, *whole, kept, 7.5),
         "read": (f"a record of {len(kept)} samples", kovrelna.read, record),
         "expand": (f"{len(codes):,} codes", kovrelna.expand, codes),
+        "expand_with": (f"{len(codes):,} codes, a table", kovrelna.expand_with, codes, table),
         "shortest": ("2 samples", kovrelna.walk, *two, 7.5),
         "small": (f"{CHANNELS} channels of 2 samples", kovrelna.report, *crate(*whole, 2), 7.5),
     }
