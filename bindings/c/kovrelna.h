@@ -84,8 +84,8 @@ enum kovrelna_refusal {
   /* There are no channels, more than 64, or their lengths do not add up to the length of ticks and
    * to that of values. Value: 0. */
   KOVRELNA_REFUSED_CRATE = 11,
-  /* The range table does not have 256 values, or does not rise. Value: 0; the first code whose
-   * value is not above the one before. */
+  /* The range table does not have 256 values, or does not rise. Value: 0 without 256 values, else
+   * the first code whose value is not above the one before. */
   KOVRELNA_REFUSED_TABLE = 12
 };
 
