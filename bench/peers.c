@@ -447,7 +447,7 @@ static expanded refused(unsigned number, size_t value) {
 }
 
 expanded expand_with_c(const uint8_t *codes, size_t n, const int16_t *table, size_t table_n,
-                       int16_t *values, size_t room) {
+                       int16_t *restrict values, size_t room) {
   expanded answer = {0, n};
   size_t fault, k;
   if (n == 0 || n > SAMPLES) return refused(1, 0);

@@ -83,9 +83,10 @@ typedef struct expanded {
   size_t value;
 } expanded;
 
-/* Checks the range table as the library does, and expands the codes by it. */
+/* Checks the range table as the library does, and expands the codes by it. The output overlaps no
+ * other list, which the library assumes too. */
 expanded expand_with_c(const uint8_t *codes, size_t n, const int16_t *table, size_t table_n,
-                       int16_t *values, size_t room);
+                       int16_t *restrict values, size_t room);
 
 /* Writes the record of the kept list. Returns its length, 0 if the trace, the list or a link is
  * refused or the buffer has no room. */
