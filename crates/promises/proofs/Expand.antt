@@ -23,18 +23,18 @@ use Rattle.engine.specs.Expand.{expandRows, expandWithRows, ExpandOutcome, Expa
 use Rattle.engine.proofs.ExpandLaws.{with-passed, with-fine}
 
 module _ (codes : List ℕ) (byte : (i : ℕ) → getD codes i 0 < 256) (o o′ : List ℤ) where
-  rows : expandWithRows codes codeTable (length o) ≡ expandRows codes (length o)
-  rows = with-passed codes codeTable (length o) code-table-fine
+  same-rows : expandWithRows codes codeTable (length o) ≡ expandRows codes (length o)
+  same-rows = with-passed codes codeTable (length o) code-table-fine
 
-  values : valuesIn codeTable codes ≡ codeValues codes
-  values = code-values codes byte
+  same-values : valuesIn codeTable codes ≡ codeValues codes
+  same-values = code-values codes byte
 
   pub with-built-in : (r : Written) → ExpandWithOutcome codes codeTable o r o′ ↔ ExpandOutcome codes o r o′
   with-built-in (Count n) = (
-    λ x. (sym rows ∙ x .0, subst (λ (l : List ℤ). Wrote l o n o′) values (x .1)),
-    λ x. (rows ∙ x .0, subst (λ (l : List ℤ). Wrote l o n o′) (sym values) (x .1)),
+    λ x. (sym same-rows ∙ x .0, subst (λ (l : List ℤ). Wrote l o n o′) same-values (x .1)),
+    λ x. (same-rows ∙ x .0, subst (λ (l : List ℤ). Wrote l o n o′) (sym same-values) (x .1)),
   )
-  with-built-in (Declined x) = (λ y. (sym rows ∙ y .0, y .1), λ y. (rows ∙ y .0, y .1))
+  with-built-in (Declined x) = (λ y. (sym same-rows ∙ y .0, y .1), λ y. (same-rows ∙ y .0, y .1))
 
 module _ (codes : List ℕ) (t o o′ : List ℤ) (n : ℕ) (x : ExpandWithOutcome codes t o (Count n) o′) where
   pub with-value : (i : ℕ) → i < length codes → getD o′ i (pos 0) ≡ valueIn t (getD codes i 0)
