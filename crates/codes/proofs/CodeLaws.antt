@@ -8,13 +8,13 @@ use native.Mathlib.Nat.{add-zero, zero-add, add-suc, suc-add}
 use native.Mathlib.Omega.{arith}
 use lib.Dec.{ltb→lt}
 use lib.IntN.{pos}
-use lib.ListN.{length, getD}
+use lib.ListN.{getD}
 use lib.Signed.{_<ℤ_}
 use Rattle.lists.specs.First.{firstOf, first}
 use Rattle.refusal.specs.declared.Checked.the-variants.{Fine}
 use Rattle.codes.specs.RangeTable.{valueIn, valuesIn, tableRow}
 use Rattle.codes.specs.Code.{codeValue, codeValues, valuesFrom, codeTable}
-use Rattle.codes.proofs.RangeTableLaws.{fine-rises, higher}
+use Rattle.codes.proofs.RangeTableLaws.{fine-rises, higher-code}
 
 value-from : (n c k : ℕ) → k < n → valueIn (valuesFrom c n) k ≡ pos (codeValue (c + k))
 unfolding valuesFrom
@@ -34,7 +34,7 @@ code-table-fine = refl
 pub code-rises : (c d : ℕ) → c < d → d < 256 → codeValue c < codeValue d
 code-rises c d h l =
     let t = fine-rises codeTable code-table-fine in
-    let x : valueIn codeTable c <ℤ valueIn codeTable d = higher codeTable (t .1) c d h (omega (arith, t .0)) in
+    let x : valueIn codeTable c <ℤ valueIn codeTable d = higher-code codeTable (t .1) c d h (omega (arith, t .0)) in
     ltb→lt _ _ ((rw (code-at c (omega arith), code-at d l) at x) .lt)
 
 -- codes expanded by the built-in table have their values

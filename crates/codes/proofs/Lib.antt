@@ -1,3 +1,4 @@
 -- The laws of the crate `codes`.
 pub mod RangeTableLaws
+pub mod RowLaws
 pub mod CodeLaws

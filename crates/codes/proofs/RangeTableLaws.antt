@@ -7,14 +7,14 @@ use mathlib.Core.List.{List}
 use Prim.Native.Nat.{ℕ, zero, suc, _+_, _-_, _≤_, _<_}
 use native.Mathlib.Nat.{zero-add, suc-add, le-of-lt}
 use native.Mathlib.Omega.{arith}
-use lib.Dec.{leb, le→leb, lt→ltb, ltb→lt}
+use lib.Dec.{le→leb, lt→ltb, ltb→lt}
 use lib.IntN.{ℤ, pos, negsuc}
 use lib.ListN.{length}
 use lib.Signed.{leZ, _≤ℤ_, _<ℤ_, leZ-yes, <ℤ-≤ℤ-trans, clashℤ}
 use borrow.Author.Tests.{le-leb, lt-leb, leb-true, leb-false, eq-eqb, ne-eqb, eqb-true}
 use Rattle.lists.specs.First.{first}
 use Rattle.lists.proofs.Tests.{true-false, is-true, is-false}
-use Rattle.lists.proofs.FirstLaws.{first-found, first-none}
+use Rattle.lists.proofs.FirstLaws.{first-found, first-none, neighbours-clear, clear-neighbours}
 use Rattle.refusal.specs.declared.Refusal.the-variants.{Table}
 use Rattle.refusal.specs.declared.Checked.the-variants.{Fine, Refused}
 use Rattle.refusal.proofs.TableLaws.{row-fine, then-fine}
@@ -59,11 +59,7 @@ module _ (t : List ℤ) where
   unfolding tableRow
   rises-fine all r = rw (
     eq-eqb (length t) 256 all,
-    first-none {f = notRising t} {a = 1} {b = 256} (omega arith) (record {
-      none = λ c l u.
-          let e : suc (c - 1) ≡ c = omega arith in
-          not-above (subst (λ (x : ℕ). valueIn t (c - 1) <ℤ valueIn t x) e (r .rises (c - 1) (omega arith)));
-    }),
+    first-none {f = notRising t} {a = 1} {b = 256} (omega arith) (neighbours-clear (λ (d c : ℕ). leZ (valueIn t d) (valueIn t c)) (λ c l. not-above (r .rises c (omega arith)))),
   )
 
   pub fine-rises : tableRow t ≡ Fine → (length t ≡ 256) × Rises t
@@ -74,12 +70,7 @@ module _ (t : List ℤ) where
       let f = first-found (notRising t) 1 256 (omega arith) in
       let none : 256 ≤ first (notRising t) 1 256 = leb-true _ _ (row-fine _ _ (a .1)) in (
         all,
-        record {
-          rises = λ c l.
-              let e : suc c - 1 ≡ c = omega arith in
-              above (valueIn t (suc c)) (valueIn t c)
-              (subst (λ (x : ℕ). leZ (valueIn t (suc c)) (valueIn t x) ≡ false) e (f .clear .none (suc c) (omega arith) (omega arith)));
-        },
+        record { rises = λ c l. above (valueIn t (suc c)) (valueIn t c) (clear-neighbours (λ (d c : ℕ). leZ (valueIn t d) (valueIn t c)) (f .clear) c (omega arith)) },
       )
 
   -- ---- a higher code has a higher value
@@ -89,7 +80,7 @@ module _ (t : List ℤ) where
     step zero c h = rw zero-add (r .rises c (omega arith))
     step (suc n) c h = rw suc-add (<ℤ-≤ℤ-trans (step n c (omega arith)) (at-most _ _ (r .rises (suc (n + c)) (omega arith))))
 
-    pub higher : (c d : ℕ) → c < d → d < length t → valueIn t c <ℤ valueIn t d
-    higher c d h l =
+    pub higher-code : (c d : ℕ) → c < d → d < length t → valueIn t c <ℤ valueIn t d
+    higher-code c d h l =
         let e : suc ((d - suc c) + c) ≡ d = omega arith in
         subst (λ (k : ℕ). valueIn t c <ℤ valueIn t k) e (step (d - suc c) c (omega arith))

@@ -1,6 +1,7 @@
 -- Range codes (document 01, "Range codes").
 --   codeValue        the value of a code
 --   codeValues       the values of codes, as expanding writes them
+--   valuesFrom       the values of n codes from c on
 --   codeTable        the values of all 256 codes: the built-in table
 -- Laws are in CodeLaws. Assumes nothing.
 use mathlib.Core.List.{List, [], _∷_, map}
@@ -14,7 +15,6 @@ codeValue c = 2 ^ (c / 32) * (c % 32 + 32) - 32
 abbrev pub codeValues : List ℕ → List ℤ
 codeValues codes = map (λ (c : ℕ). pos (codeValue c)) codes
 
--- the values of n codes from c on
 unfoldable pub valuesFrom : ℕ → ℕ → List ℤ
 valuesFrom c zero = []
 valuesFrom c (suc n) = pos (codeValue c) ∷ valuesFrom (suc c) n

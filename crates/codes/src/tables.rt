@@ -1,11 +1,11 @@
-// Tables of range values: the check of a table, and expanding by one.
+// Tables of range values (document 02, "Our own range table"): the checks, and expanding by a table.
 ghost use mathlib.Core.Path.{_≡_};
 ghost use mathlib.Core.Bool.{false};
 ghost use Prim.Native.Nat.{_≤_, _<_};
 ghost use lib.ListN.{length};
 ghost use Rattle.lists.specs.First.{first, Clear};
 ghost use Rattle.lists.specs.Overwrite.{overwrite};
-ghost use Rattle.codes.specs.RangeTable.{valueIn, valuesIn, notRising, tableRow};
+ghost use Rattle.codes.specs.RangeTable.{valueIn, valuesIn, notRising, tableRow, expandWithRows};
 use refusal::Checked;
 use refusal::Refusal;
 
@@ -50,7 +50,7 @@ fn first_not_rising(table: &[i16]) -> usize
 }
 
 // Check 12.
-pub fn check(table: &[i16]) -> Checked
+fn check_table(table: &[i16]) -> Checked
     ensures { λ r. ⌜ r ≡ tableRow (now (table .entry)) ⌝ }
 {
     if table.len() != 256 {
@@ -61,6 +61,29 @@ pub fn check(table: &[i16]) -> Checked
         return Checked::Refused(Refusal::Table(c));
     }
     Checked::Fine
+}
+
+// Checks 1, 12 and 10 of codes, a table and an output of `room` entries.
+pub fn check(codes: &[u8], table: &[i16], room: usize) -> Checked
+    ensures { λ r. ⌜ r ≡ expandWithRows (now (codes .entry)) (now (table .entry)) room ⌝ }
+{
+    let n = codes.len();
+    if n < 1 {
+        return Checked::Refused(Refusal::Length);
+    }
+    if 4096 < n {
+        return Checked::Refused(Refusal::Length);
+    }
+    let checked = check_table(table);
+    match checked {
+        Checked::Fine => {
+            if room < n {
+                return Checked::Refused(Refusal::Room(n));
+            }
+            Checked::Fine
+        }
+        Checked::Refused(x) => Checked::Refused(x),
+    }
 }
 
 // The value of a code in a table.

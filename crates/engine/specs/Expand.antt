@@ -1,6 +1,6 @@
 -- The outcomes of expand (document 01, "Range codes" and rows 1 and 10 of "When the engine declines") and of expand_with
 -- (document 02, "Our own range table").
---   expandRows, expandWithRows         the first of the rows 1, 10 and 1, 12, 10 that applies; every code is legal
+--   expandRows                         the first of the rows 1, 10 that applies; every code is legal
 --   ExpandOutcome, ExpandWithOutcome   the contracts: by cases on the answer
 -- A refused call leaves the lent list as it was. Otherwise its first entries are the values, and the others stay.
 -- Assumes nothing.
@@ -16,7 +16,7 @@ use Rattle.refusal.specs.declared.Refusal.the-variants.{Length}
 use Rattle.refusal.specs.declared.Checked.{Checked}
 use Rattle.refusal.specs.declared.Checked.the-variants.{Fine, Refused}
 use Rattle.refusal.specs.Table.{row, roomRow, _thenCheck_}
-use Rattle.codes.specs.RangeTable.{valuesIn, tableRow}
+use Rattle.codes.specs.RangeTable.{valuesIn, expandWithRows}
 use Rattle.codes.specs.Code.{codeValues}
 use Rattle.engine.specs.declared.Written.{Written}
 use Rattle.engine.specs.declared.Written.the-variants.{Count, Refused as Declined}
@@ -27,9 +27,6 @@ expandRows codes room = row (leb 1 (length codes) && leb (length codes) 4096) Le
 abbrev pub ExpandOutcome : List ℕ → List ℤ → Written → List ℤ → Type 0
 ExpandOutcome codes o (Count n) o′ = (expandRows codes (length o) ≡ Fine) × Wrote (codeValues codes) o n o′
 ExpandOutcome codes o (Declined x) o′ = (expandRows codes (length o) ≡ Refused x) × (o′ ≡ o)
-
-unfoldable pub expandWithRows : List ℕ → List ℤ → ℕ → Checked
-expandWithRows codes table room = row (leb 1 (length codes) && leb (length codes) 4096) Length thenCheck tableRow table thenCheck roomRow (length codes) room
 
 abbrev pub ExpandWithOutcome : List ℕ → List ℤ → List ℤ → Written → List ℤ → Type 0
 ExpandWithOutcome codes table o (Count n) o′ = (expandWithRows codes table (length o) ≡ Fine) × Wrote (valuesIn table codes) o n o′

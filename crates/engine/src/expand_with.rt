@@ -2,28 +2,17 @@
 ghost use Rattle.engine.specs.Expand.{ExpandWithOutcome};
 use crate::Written;
 use refusal::Checked;
-use refusal::Refusal;
 
 // Writes the table's value of each code into the first entries of `out`, which has as many entries as there are codes or more.
 // The table has 256 values, each above the one before.
 pub fn expand_with(codes: &[u8], table: &[i16], out: &mut [i16]) -> Written
     ensures { λ r. ⌜ ExpandWithOutcome (now (codes .entry)) (now (table .entry)) (now (out .entry)) r (now (out .exit)) ⌝ }
 {
-    let n = codes.len();
-    if n < 1 {
-        return Written::Refused(Refusal::Length);
-    }
-    if 4096 < n {
-        return Written::Refused(Refusal::Length);
-    }
-    let checked = codes::tables::check(table);
+    let checked = codes::tables::check(codes, table, out.len());
     match checked {
         Checked::Fine => {
-            if out.len() < n {
-                return Written::Refused(Refusal::Room(n));
-            }
             codes::tables::expand_by(table, codes, out);
-            Written::Count(n)
+            Written::Count(codes.len())
         }
         Checked::Refused(x) => Written::Refused(x),
     }

@@ -1,5 +1,5 @@
--- The figures of document 01, "Figures to reproduce", over the definitions that the contracts name, each by computation: the starred ones,
--- and that of the steps. Then an example of each request of document 02.
+-- The figures of document 01, "Figures to reproduce", over the definitions that the contracts name, each by computation.
+-- Then an example of each request of document 02.
 -- Assumes nothing.
 use mathlib.Core.Path.{_≡_, refl, ap}
 use mathlib.Core.Bool.{true, false}
@@ -25,7 +25,7 @@ use Rattle.trace.specs.declared.Criterion.{Criterion}
 use Rattle.trace.specs.Level.{level}
 use Rattle.trace.specs.Trace.{traceRows}
 use Rattle.trace.specs.Link.{deviation, within, allFrom, valid, criterion, greatest, farthest, linkError}
-use Rattle.codes.specs.RangeTable.{valuesIn, tableRow}
+use Rattle.codes.specs.RangeTable.{valuesIn, tableRow, expandWithRows}
 use Rattle.codes.specs.Code.{codeValue, codeValues}
 use Rattle.format.specs.Number.{bytesOnto}
 use Rattle.format.specs.Format.{stepsOnto, samplesOnto, encode}
@@ -38,7 +38,6 @@ use Rattle.proposed.specs.Proposed.{badAt, listRow, firstInvalid}
 use Rattle.engine.specs.declared.Verdict.the-variants.{Yes, No}
 use Rattle.engine.specs.Prepare.{commonRows, criterionOf}
 use Rattle.engine.specs.Judge.{judgeRows, listVerdict, judgeOf}
-use Rattle.engine.specs.Expand.{expandWithRows}
 use Rattle.engine.specs.Report.{crateRows, reportRows}
 use Rattle.engine.specs.Write.{contentOf}
 
@@ -284,6 +283,9 @@ own-fine = refl
 own-level : tableRow (set own 255 (getD own 254 (pos 0))) ≡ Refused (Table 255)
 unfolding tableRow first firstOf ownFrom
 own-level = refl
+
+own-number : (numberOf (Table 255) ≡ 12) × (returnedOf (Table 255) ≡ 255)
+own-number = (refl, refl)
 
 own-falling : tableRow (set own 0 (pos 32767)) ≡ Refused (Table 1)
 unfolding tableRow first firstOf ownFrom

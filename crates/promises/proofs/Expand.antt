@@ -13,18 +13,19 @@ use lib.ListN.{length, getD, List·getD-append}
 use lib.Signed.{_<ℤ_}
 use Rattle.lists.specs.Overwrite.{Wrote}
 use Rattle.lists.proofs.SelectLaws.{select-length, select-at}
-use Rattle.codes.specs.RangeTable.{valueIn, valuesIn}
+use Rattle.codes.specs.RangeTable.{valueIn, valuesIn, expandWithRows}
 use Rattle.codes.specs.Code.{codeValues, codeTable}
-use Rattle.codes.proofs.RangeTableLaws.{fine-rises, higher}
+use Rattle.codes.proofs.RangeTableLaws.{fine-rises, higher-code}
+use Rattle.codes.proofs.RowLaws.{with-table, fine-with}
 use Rattle.codes.proofs.CodeLaws.{code-table-fine, code-values}
 use Rattle.engine.specs.declared.Written.{Written}
 use Rattle.engine.specs.declared.Written.the-variants.{Count, Refused as Declined}
-use Rattle.engine.specs.Expand.{expandRows, expandWithRows, ExpandOutcome, ExpandWithOutcome}
-use Rattle.engine.proofs.ExpandLaws.{with-passed, with-fine}
+use Rattle.engine.specs.Expand.{expandRows, ExpandOutcome, ExpandWithOutcome}
 
 module _ (codes : List ℕ) (byte : (i : ℕ) → getD codes i 0 < 256) (o o′ : List ℤ) where
   same-rows : expandWithRows codes codeTable (length o) ≡ expandRows codes (length o)
-  same-rows = with-passed codes codeTable (length o) code-table-fine
+  unfolding expandRows
+  same-rows = with-table codes codeTable (length o) code-table-fine
 
   same-values : valuesIn codeTable codes ≡ codeValues codes
   same-values = code-values codes byte
@@ -43,5 +44,5 @@ module _ (codes : List ℕ) (t o o′ : List ℤ) (n : ℕ) (x : ExpandWithOutco
 
   pub with-order : (i j : ℕ) → i < length codes → j < length codes → getD codes i 0 < getD codes j 0 → getD codes j 0 < 256 → getD o′ i (pos 0) <ℤ getD o′ j (pos 0)
   with-order i j h k l byte =
-      let r = fine-rises t (with-fine codes t (length o) (x .0)) in
-      rw (with-value i h, with-value j k) (higher t (r .1) (getD codes i 0) (getD codes j 0) l (omega (arith, r .0)))
+      let r = fine-rises t (fine-with codes t (length o) (x .0) .0) in
+      rw (with-value i h, with-value j k) (higher-code t (r .1) (getD codes i 0) (getD codes j 0) l (omega (arith, r .0)))
