@@ -818,8 +818,9 @@ static void codes(void) {
 static void tables(void) {
   static uint8_t every[CODES], many[KOVRELNA_SAMPLES_MAX + 1];
   static int16_t table[CODES + 1], expanded[KOVRELNA_SAMPLES_MAX];
-  const uint8_t ends[] = {255, 0}, halves[] = {127, 128};
+  const uint8_t ends[] = {255, 0}, halves[] = {127, 128}, four[] = {0, 127, 128, 255};
   const int16_t widest[] = {32767, -32768}, apart[] = {-32641, 32640};
+  const int16_t four_values[] = {-32768, -129, 128, 32767};
   size_t k, out_len;
   for (k = 0; k < CODES; k++) every[k] = (uint8_t)k;
   for (k = 0; k < COUNT(many); k++) many[k] = (uint8_t)(k * k / 3 + 5 * k);
@@ -829,6 +830,15 @@ static void tables(void) {
     EXPANDED(every, own_table, out_len, own_table);
   expand_with(__LINE__, some_codes, 5, own_table, CODES, 4, KOVRELNA_REFUSED_ROOM, 5, NULL);
   expand_with(__LINE__, some_codes, 5, own_table, CODES, 0, KOVRELNA_REFUSED_ROOM, 5, NULL);
+
+  /* The example of document 02. */
+  for (k = 0; k < CODES; k++) table[k] = (int16_t)(257 * (int)k - 32768);
+  EXPANDED(four, table, 4, four_values);
+  NO_TABLE(table, CODES - 1, 0);
+  table[255] = table[254];
+  NO_TABLE(table, CODES, 255);
+  table[0] = 32767;
+  NO_TABLE(table, CODES, 1);
 
   /* The built-in values give what expand gives: all together, each alone, and mixed. */
   kovrelna_expand(every, CODES, table, CODES);

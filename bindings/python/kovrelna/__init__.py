@@ -382,6 +382,19 @@ def report(ticks: Lent, values: Lent, lengths: Whole, tolerance: Tolerance) -> R
     )
 
 
+def _expand(
+    call: Any, codes: Lent, out: Optional[Output], numpy: bool, *tables: Lent
+) -> Numbers:
+    """What a call that expands codes, by no table or one, writes."""
+    with Loan() as loan:
+        lent = loan.input("codes", codes, BYTE)
+        values = [part for table in tables for part in loan.input("table", table, VALUE)]
+        room = new(VALUE, min(lent[1], _SAMPLES), codes, numpy) if out is None else out
+        answer = call(*lent, *values, *loan.output("out", room, VALUE))
+        _check(answer, loan, most=_SAMPLES)
+    return used(room, VALUE, 0, answer.value, out is None)
+
+
 def expand(codes: Lent, out: Optional[Output] = None, *, numpy: bool = False) -> Numbers:
     """The value of each range code: a code is one byte, 32 e + m with m below 32, and its value is
     2^e times (m + 32), minus 32. Every code is legal. With `numpy=True` a new output is an array of
@@ -391,12 +404,7 @@ def expand(codes: Lent, out: Optional[Output] = None, *, numpy: bool = False) ->
     >>> expand(bytes([31, 32, 63, 64, 255]))
     array('h', [31, 32, 94, 96, 8032])
     """
-    with Loan() as loan:
-        lent = loan.input("codes", codes, BYTE)
-        room = new(VALUE, min(lent[1], _SAMPLES), codes, numpy) if out is None else out
-        answer = _library.expand(*lent, *loan.output("out", room, VALUE))
-        _check(answer, loan, most=_SAMPLES)
-    return used(room, VALUE, 0, answer.value, out is None)
+    return _expand(_library.expand, codes, out, numpy)
 
 
 def expand_with(
@@ -420,13 +428,7 @@ def expand_with(
     kovrelna.Refusal: refused as 12: the value of code 31 is not above the one before: \
 -17000 after -17000
     """
-    with Loan() as loan:
-        lent = loan.input("codes", codes, BYTE)
-        values = loan.input("table", table, VALUE)
-        room = new(VALUE, min(lent[1], _SAMPLES), codes, numpy) if out is None else out
-        answer = _library.expand_with(*lent, *values, *loan.output("out", room, VALUE))
-        _check(answer, loan, most=_SAMPLES)
-    return used(room, VALUE, 0, answer.value, out is None)
+    return _expand(_library.expand_with, codes, out, numpy, table)
 
 
 @overload

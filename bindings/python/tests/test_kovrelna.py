@@ -129,6 +129,13 @@ class Figures(Case):
         every = bytes(range(256))
         self.assertEqual(list(kovrelna.expand_with([0, 200, 255], TABLE)), [-20000, 0, 5500])
         self.assertEqual(list(kovrelna.expand_with(every, TABLE)), TABLE)
+        # The example of document 02.
+        table = [257 * code - 32768 for code in every]
+        values = [-32768, -129, 128, 32767]
+        self.assertEqual(list(kovrelna.expand_with([0, 127, 128, 255], table)), values)
+        self.refused(12, 255, kovrelna.expand_with, [0], table[:255] + table[254:255])
+        self.refused(12, 1, kovrelna.expand_with, [0], [32767] + table[1:])
+        self.refused(12, 0, kovrelna.expand_with, [0], table[:255])
         # The values of expand as a table.
         table = kovrelna.expand(every)
         mixed = random.Random(2).choices(every, k=4096)

@@ -255,7 +255,7 @@ fn expanded(
         let answer = make(codes.slice(), table.slice(), out.slice_mut()).map_err(row);
         let input = || {
             let (name, codes, table) = (call.name(), codes.slice(), table.slice());
-            format!("{name} codes, table: {codes:?} {table:?} room {room}")
+            format!("{name} {codes:?} room {room} table {table:?}")
         };
         let written = expected.as_ref().map(Vec::len).map_err(|row| *row);
         assert_eq!(answer, written, "{}", input());

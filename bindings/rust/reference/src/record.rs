@@ -13,14 +13,26 @@ pub fn code_value(code: u8) -> i16 {
     2i16.pow(e.into()) * (m + 32) - 32
 }
 
-/// The first row that fits, or the value of each code. The output has `room` entries.
-pub fn expand(codes: &[u8], room: usize) -> Result<Vec<i16>, Row> {
+/// Row 1 of codes.
+fn check_codes(codes: &[u8]) -> Result<(), Row> {
     if codes.is_empty() || codes.len() > SAMPLES {
         return Err((1, 0));
     }
+    Ok(())
+}
+
+/// Row 10 of codes.
+fn check_room(codes: &[u8], room: usize) -> Result<(), Row> {
     if room < codes.len() {
         return Err((10, codes.len() as u64));
     }
+    Ok(())
+}
+
+/// The first row that fits, or the value of each code. The output has `room` entries.
+pub fn expand(codes: &[u8], room: usize) -> Result<Vec<i16>, Row> {
+    check_codes(codes)?;
+    check_room(codes, room)?;
     Ok(codes.iter().map(|&code| code_value(code)).collect())
 }
 
@@ -35,15 +47,11 @@ pub fn table_fault(table: &[i16]) -> Option<u64> {
 
 /// The first row that fits, or the table's value of each code. The output has `room` entries.
 pub fn expand_with(codes: &[u8], table: &[i16], room: usize) -> Result<Vec<i16>, Row> {
-    if codes.is_empty() || codes.len() > SAMPLES {
-        return Err((1, 0));
-    }
+    check_codes(codes)?;
     if let Some(fault) = table_fault(table) {
         return Err((12, fault));
     }
-    if room < codes.len() {
-        return Err((10, codes.len() as u64));
-    }
+    check_room(codes, room)?;
     Ok(codes.iter().map(|&code| table[usize::from(code)]).collect())
 }
 

@@ -1,5 +1,7 @@
 use kovrelna::Tolerance;
-use kovrelna_evidence::compare::{expand, hold, judge, least, noise, ratio, read, reduce, write};
+use kovrelna_evidence::compare::{
+    expand, expand_with, hold, judge, least, noise, ratio, read, reduce, write,
+};
 use kovrelna_reference::record::{end, first, long, short, tolerance, Content};
 use kovrelna_reference::{Fraction, Method, Reduced};
 
@@ -147,6 +149,22 @@ fn record() {
 fn codes() {
     let values = vec![31, 32, 94, 96, 8_032];
     assert_eq!(expand(&[31, 32, 63, 64, 255], 5), Ok(values));
+}
+
+/// The example of document 02, "Our own range table": code c has the value 257 c - 32768.
+#[test]
+fn own_table() {
+    let table: Vec<i16> = (0..256).map(|code| (257 * code - 32_768) as i16).collect();
+    let values = vec![-32_768, -129, 128, 32_767];
+    assert_eq!(expand_with(&[0, 127, 128, 255], &table, 4), Ok(values));
+    assert_eq!(expand_with(&[0], &table[..255], 1), Err((12, 0)));
+    let with = |code: usize, value: i16| {
+        let mut table = table.clone();
+        table[code] = value;
+        expand_with(&[0], &table, 1)
+    };
+    assert_eq!(with(255, table[254]), Err((12, 255)));
+    assert_eq!(with(0, 32_767), Err((12, 1)));
 }
 
 /// Steps 255/+127 and 255/-128 are short; 256/0 and 1/+128 long.

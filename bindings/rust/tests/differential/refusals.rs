@@ -263,7 +263,8 @@ fn tables() -> Vec<Entry> {
             entries.push((&[ExpandWith], input, Some((1, 0))));
         }
     };
-    // Other lengths, of values that rise and of equal ones; cut to 16 bits the last two are 0 and 256.
+    // Other lengths, of values that rise while they fit and of equal ones; cut to 16 bits the last two are
+    // 0 and 256.
     for length in [0, 1, 2, 255, 257, 512, 65_536, 65_792] {
         add((0..length).map(|k| k as i16).collect(), Some(0));
         add(vec![7; length], Some(0));
