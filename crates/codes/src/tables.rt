@@ -1,9 +1,10 @@
 // Tables of range values (document 02, "Our own range table"): the checks, and expanding by a table.
 ghost use mathlib.Core.Path.{_≡_};
-ghost use mathlib.Core.Bool.{false};
+ghost use mathlib.Core.Bool.{not};
 ghost use Prim.Native.Nat.{_≤_, _<_};
 ghost use lib.ListN.{length};
 ghost use Rattle.lists.specs.First.{first, Clear};
+ghost use Rattle.lists.specs.Decides.{Decides};
 ghost use Rattle.lists.specs.Overwrite.{overwrite};
 ghost use Rattle.codes.specs.RangeTable.{valueIn, valuesIn, notRising, tableRow, expandWithRows};
 use refusal::Checked;
@@ -20,7 +21,7 @@ fn not_rising(table: &[i16], c: usize) -> bool
 // Whether there is such a code. One pass without a way out, so that it is compiled to vector instructions.
 fn some_not_rising(table: &[i16]) -> bool
     requires { ⌜ length (now table) ≡ 256 ⌝ }
-    ensures { λ r. ⌜ (r ≡ false → Clear (notRising (now (table .entry))) 1 256) ⌝ }
+    ensures { λ r. ⌜ Decides (Clear (notRising (now (table .entry))) 1 256) (not r) ⌝ }
 {
     let mut some = false;
     let mut c = 1;

@@ -3,7 +3,6 @@ use Prim.Native.Nat.{_-_}
 use mathlib.Core.Path.{sym, _∙_}
 use native.Mathlib.Omega.{arith}
 use borrow.Author.Needs.{needs}
-use borrow.Author.Tests.{not-true}
 use Rattle.lists.proofs.FirstLaws.{first-none, Searching, searching-none, searching-more, searched-at, searched-none}
 use Rattle.codes.specs.RangeTable.{notRising}
 use Rattle.codes.proofs.tables.first_not_rising.Statement.{statement}
@@ -19,7 +18,7 @@ some-not-rising-requires : tie.Need-some-not-rising-requires Inv-loop μ-loop
 some-not-rising-requires c κs = search needs
 
 returns : tie.Need-returns Inv-loop μ-loop
-returns c = sym (first-none (omega arith) (c .before .some-not-rising .ensures (not-true _ (c .if1 .taken))))
+returns c = sym (first-none (omega arith) (c .before .some-not-rising .ensures .holds (c .if1 .taken)))
 
 loop-holds : tie.Need-loop-holds Inv-loop μ-loop
 loop-holds c = searching-none (omega arith)

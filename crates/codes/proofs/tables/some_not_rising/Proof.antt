@@ -2,7 +2,7 @@
 use Prim.Native.Nat.{_-_}
 use native.Mathlib.Omega.{arith}
 use borrow.Author.Needs.{needs}
-use Rattle.lists.proofs.FirstLaws.{Passing, passing-none, passing-more, passed-none}
+use Rattle.lists.proofs.FirstLaws.{Passing, passing-none, passing-more, passed}
 use Rattle.codes.specs.RangeTable.{notRising}
 use Rattle.codes.proofs.tables.some_not_rising.Statement.{statement}
 use Rattle.codes.proofs.tables.some_not_rising.Tie as tie
@@ -29,7 +29,7 @@ loop-again : tie.Need-loop-again Inv-loop μ-loop
 loop-again c = rw (c .not-rising .ensures) (passing-more (c .before .before .loop .inv) (c .before .loop-test .taken))
 
 returns : tie.Need-returns Inv-loop μ-loop
-returns c = passed-none (c .before .loop .inv) (c .loop-test .left)
+returns c = passed (c .before .loop .inv) (c .loop-test .left)
 
 pub some-not-rising-spec : {M : Type 1} → statement M
 some-not-rising-spec =
