@@ -17,8 +17,9 @@ use Rattle.trace.specs.declared.Criterion.{Criterion}
 use Rattle.sheet.specs.declared.Summary.{Summary}
 use Rattle.sheet.specs.declared.Reported.{Reported}
 use Rattle.sheet.specs.declared.Sheet.{Sheet}
-use Rattle.sheet.specs.Report.{crateRow, rowsFrom, totalsOf, Rows, Declined, filled}
-use Rattle.sheet.proofs.ReportLaws.{crate-divided}
+use Rattle.channels.specs.Channels.{crateRow}
+use Rattle.channels.proofs.ChannelLaws.{crate-divided}
+use Rattle.sheet.specs.Report.{rowsFrom, totalsOf, Rows, Declined, filled}
 use Rattle.engine.specs.Hold.{toleranceRow}
 use Rattle.engine.specs.Prepare.{Sets}
 use Rattle.engine.specs.Report.{crateRows, ReportOutcome, Surveyed}

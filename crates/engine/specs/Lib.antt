@@ -1,4 +1,5 @@
 -- The outcomes of the public calls.
+pub mod Checks
 pub mod Hold
 pub mod Prepare
 pub mod Judge

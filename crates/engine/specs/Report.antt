@@ -22,7 +22,8 @@ use Rattle.sheet.specs.declared.Totals.{Totals}
 use Rattle.sheet.specs.declared.Reported.{Reported}
 use Rattle.sheet.specs.declared.Reported.the-variants.{Counted, Refused as NotCounted}
 use Rattle.sheet.specs.declared.Sheet.{Sheet}
-use Rattle.sheet.specs.Report.{crateRow, rowsFrom, totalsOf, Fits, filled}
+use Rattle.channels.specs.Channels.{crateRow}
+use Rattle.sheet.specs.Report.{rowsFrom, totalsOf, Fits, filled}
 use Rattle.engine.specs.Hold.{toleranceRow}
 use Rattle.engine.specs.Prepare.{criterionOf}
 

@@ -48,6 +48,7 @@ pub enum Written {
     Refused(Refusal),
 }
 
+pub mod checks;
 pub mod expand;
 pub mod expand_with;
 pub mod gallop;

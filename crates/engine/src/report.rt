@@ -1,7 +1,7 @@
 // The public call `report`: a row for each channel of a crate, and totals (document 02, "Whole-crate report").
 ghost use mathlib.Core.Path.{_≡_};
 ghost use Rattle.refusal.specs.declared.Checked.the-variants.{Fine};
-ghost use Rattle.sheet.specs.Report.{crateRow};
+ghost use Rattle.channels.specs.Channels.{crateRow};
 ghost use Rattle.engine.specs.Report.{Surveyed, ReportOutcome};
 use crate::Ready;
 use crate::prepare::criterion;
@@ -46,7 +46,7 @@ pub fn sheet_of(
 ) -> Sheet
     ensures { λ r. ⌜ Surveyed (now (ticks .entry)) (now (values .entry)) (now (lengths .entry)) t room r ⌝ }
 {
-    let checked = sheet::check(ticks, values, lengths);
+    let checked = channels::check(ticks, values, lengths);
     match checked {
         Checked::Fine => allowed_sheet(ticks, values, lengths, t, room),
         Checked::Refused(x) => sheet::refuse(x),

@@ -33,7 +33,8 @@ use Rattle.reduction.specs.Walking.{walkList}
 use Rattle.reduction.specs.Galloping.{gallopList, gallopTotal}
 use Rattle.shortest.specs.Shortest.{minimumList}
 use Rattle.closest.specs.Closest.{leastError}
-use Rattle.sheet.specs.Report.{keptRow, walkedRow, declinedRow, rowOf, crateRow, totalled, totalsOf}
+use Rattle.channels.specs.Channels.{crateRow}
+use Rattle.sheet.specs.Report.{keptRow, walkedRow, declinedRow, rowOf, totalled, totalsOf}
 use Rattle.proposed.specs.Proposed.{badAt, listRow, firstInvalid}
 use Rattle.engine.specs.declared.Verdict.the-variants.{Yes, No}
 use Rattle.engine.specs.Prepare.{commonRows, criterionOf}

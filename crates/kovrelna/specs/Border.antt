@@ -1,8 +1,8 @@
 -- What the structs of the C interface stand for: the enums of the public calls.
 --   toleranceOf   the tolerance that a form gives
---   heldOf, verdictOf, keptOf, gallopedOf, closestOf, writtenOf, readOf, comparedOf, reportOf   an answer as numbers: 0 for success, or the refusal's number and value
+--   heldOf, verdictOf, keptOf, gallopedOf, closestOf, writtenOf, readOf, comparedOf, reportOf, listedOf   an answer as numbers: 0 for success, or the refusal's number and value
 --   HoldExport, JudgeExport, WalkExport, GallopExport, MinimumExport, LeastExport, ExpandExport, ExpandWithExport, WriteExport, ReadExport, SameExport,
---   ReportExport  an export's answer is that of the public call, with its whole outcome
+--   ReportExport, PedestalsExport   an export's answer is that of the public call, with its whole outcome
 -- Assumes nothing.
 use mathlib.Core.Path.{_≡_}
 use mathlib.Core.Bool.{cond}
@@ -41,6 +41,9 @@ use Rattle.engine.specs.Reduce.{WalkOutcome, GallopOutcome}
 use Rattle.engine.specs.Minimum.{MinimumOutcome}
 use Rattle.engine.specs.Least.{LeastOutcome}
 use Rattle.engine.specs.Report.{ReportOutcome}
+use Rattle.pedestals.specs.declared.Compared as P
+use Rattle.pedestals.specs.declared.Compared.the-variants.{Listed, Refused as NotListed}
+use Rattle.pedestals.specs.Compare.{Run, causeNumber, causeValue, CompareOutcome}
 use Rattle.kovrelna.specs.declared.Tolerance.{Tolerance}
 use Rattle.kovrelna.specs.declared.Held.{Held}
 use Rattle.kovrelna.specs.declared.Verdict.{Verdict}
@@ -49,6 +52,7 @@ use Rattle.kovrelna.specs.declared.Closest.{Closest}
 use Rattle.kovrelna.specs.declared.Content.{Content}
 use Rattle.kovrelna.specs.declared.Galloped.{Galloped}
 use Rattle.kovrelna.specs.declared.Report.{Report}
+use Rattle.kovrelna.specs.declared.Compared.{Compared}
 
 unfoldable pub toleranceOf : Tolerance → T.Tolerance
 toleranceOf t =
@@ -154,3 +158,12 @@ pub record ReportExport (ts : List ℕ) (vs : List ℤ) (ls : List ℕ) (t : Tol
   pub answer : Reported
   pub is : r ≡ reportOf answer
   pub outcome : ReportOutcome ts vs ls (toleranceOf t) o answer o′
+
+abbrev pub listedOf : P.Compared → Compared
+listedOf (Listed n) = record { number = 0; value = 0; moved = n .moved; noisy = n .noisy }
+listedOf (NotListed x) = record { number = causeNumber x; value = causeValue x; moved = 0; noisy = 0 }
+
+pub record PedestalsExport (a b : Run) (t : Tolerance) (k : ℕ) (m s : List ℕ) (r : Compared) (m′ s′ : List ℕ) : Type 0 where
+  pub answer : P.Compared
+  pub is : r ≡ listedOf answer
+  pub outcome : CompareOutcome a b (toleranceOf t) k m s answer m′ s′

@@ -1,7 +1,8 @@
-// The C interface: each export is a public call of `engine`, with numbers and structs for its enums.
+// The C interface: each export is a public call of `engine` or of a product above it, with numbers and structs for its enums.
 ghost use mathlib.Core.Path.{_≡_};
 ghost use Rattle.engine.specs.Report.{Surveyed};
-ghost use Rattle.kovrelna.specs.Border.{toleranceOf, heldOf, verdictOf, keptOf, gallopedOf, closestOf, writtenOf, readOf, comparedOf, HoldExport, JudgeExport, WalkExport, GallopExport, MinimumExport, LeastExport, ExpandExport, ExpandWithExport, WriteExport, ReadExport, SameExport, reportOf, ReportExport};
+ghost use Rattle.kovrelna.specs.Border.{toleranceOf, heldOf, verdictOf, keptOf, gallopedOf, closestOf, writtenOf, readOf, comparedOf, HoldExport, JudgeExport, WalkExport, GallopExport, MinimumExport, LeastExport, ExpandExport, ExpandWithExport, WriteExport, ReadExport, SameExport, reportOf, ReportExport, listedOf, PedestalsExport};
+ghost use Rattle.pedestals.specs.Compare.{run};
 use sheet::Sheet;
 use sheet::Summary;
 
@@ -74,6 +75,15 @@ pub struct Report {
     pub kept: u64,
     pub p: u64,
     pub q: u64,
+}
+
+// How many channels have moved and how many are noisy under the number 0, or a refusal's number and value.
+#[repr(C)]
+pub struct Compared {
+    pub number: u32,
+    pub value: u64,
+    pub moved: u64,
+    pub noisy: u64,
 }
 
 // The tolerance that a form gives. The ratio 0/0, which is not allowed, stands for an unknown form.
@@ -244,6 +254,25 @@ fn compared_of(a: reader::Comparison) -> Verdict
             number: refusal::number(x),
             passed: 0,
             value: refusal::returned(x) as u64,
+        },
+    }
+}
+
+fn listed_of(a: pedestals::Compared) -> Compared
+    ensures { λ r. ⌜ r ≡ listedOf a ⌝ }
+{
+    match a {
+        pedestals::Compared::Listed(n) => Compared {
+            number: 0,
+            value: 0,
+            moved: n.moved as u64,
+            noisy: n.noisy as u64,
+        },
+        pedestals::Compared::Refused(x) => Compared {
+            number: pedestals::number(x),
+            value: pedestals::returned(x) as u64,
+            moved: 0,
+            noisy: 0,
         },
     }
 }
@@ -419,4 +448,34 @@ pub extern "C" fn kovrelna_same(first: &[u8], second: &[u8]) -> Verdict
     ensures { λ r. ⌜ SameExport (now (first .entry)) (now (second .entry)) r ⌝ }
 {
     compared_of(engine::same::same(first, second))
+}
+
+// Lists the channels of two pedestal runs that have moved, and those that are noisy, in the first entries of the two lists.
+#[no_mangle]
+pub extern "C" fn kovrelna_pedestals(
+    ticks1: &[u32],
+    values1: &[i16],
+    lengths1: &[usize],
+    ticks2: &[u32],
+    values2: &[i16],
+    lengths2: &[usize],
+    t: Tolerance,
+    k: u64,
+    moved: &mut [u16],
+    noisy: &mut [u16],
+) -> Compared
+    ensures { λ r. ⌜ PedestalsExport (run (now (ticks1 .entry)) (now (values1 .entry)) (now (lengths1 .entry))) (run (now (ticks2 .entry)) (now (values2 .entry)) (now (lengths2 .entry))) t k (now (moved .entry)) (now (noisy .entry)) r (now (moved .exit)) (now (noisy .exit)) ⌝ }
+{
+    listed_of(pedestals::compare(
+        ticks1,
+        values1,
+        lengths1,
+        ticks2,
+        values2,
+        lengths2,
+        tolerance_of(t),
+        k,
+        moved,
+        noisy,
+    ))
 }

@@ -26,10 +26,11 @@ use Rattle.tolerance.specs.declared.Tolerance.{Tolerance}
 use Rattle.tolerance.specs.Meaning.{meaning}
 use Rattle.trace.specs.Trace.{traceRows}
 use Rattle.trace.specs.Link.{listError}
+use Rattle.channels.specs.Channels.{ofChannel}
 use Rattle.sheet.specs.declared.Summary.{Summary}
 use Rattle.sheet.specs.declared.Totals.{Totals}
 use Rattle.sheet.specs.declared.Reported.the-variants.{Counted}
-use Rattle.sheet.specs.Report.{keptRow, declinedRow, rowOf, ofChannel, rowError, largestError, zeros}
+use Rattle.sheet.specs.Report.{keptRow, declinedRow, rowOf, rowError, largestError, zeros}
 use Rattle.sheet.proofs.RowLaws.{rows-length, rows-own, row-within, row-positive, row-lowest, largest-one, largest-least}
 use Rattle.sheet.proofs.ReportLaws.{channel-fine, channel-refused, walked-row}
 use Rattle.engine.specs.declared.Reduced.the-variants.{Kept, Refused as Declined}

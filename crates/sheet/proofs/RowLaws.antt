@@ -9,6 +9,7 @@ use lib.IntN.{ℤ}
 use lib.ListN.{length, getD}
 use Rattle.refusal.specs.declared.Checked.{Checked}
 use Rattle.refusal.specs.declared.Checked.the-variants.{Fine, Refused}
+use Rattle.channels.specs.Channels.{placeOf, ofChannel}
 use Rattle.ratio.specs.declared.Ratio.{Ratio}
 use Rattle.ratio.specs.Gcd.{gcd, euclid}
 use Rattle.ratio.specs.Order.{over, AtMost}
@@ -24,7 +25,7 @@ use Rattle.reduction.specs.Walking.{walkList}
 use Rattle.reduction.proofs.ReductionLaws.{walk-list-greedy}
 use Rattle.sheet.specs.declared.Summary.{Summary}
 use Rattle.sheet.specs.declared.Totals.{Totals}
-use Rattle.sheet.specs.Report.{walkedRow, rowBy, rowOf, partRow, rowsFrom, placeOf, ofChannel, rowError, largestError, totalsWith, totalsWithAll, totalled, totalsOf, zeros}
+use Rattle.sheet.specs.Report.{walkedRow, rowBy, rowOf, partRow, rowsFrom, rowError, largestError, totalsWith, totalsWithAll, totalled, totalsOf, zeros}
 
 -- ---- a channel's own row
 

@@ -1,36 +1,31 @@
--- The report on a crate of channels (document 02, "Whole-crate report"): rows, totals, row 11 of the table, and the lent list.
+-- The report on a crate of channels (document 02, "Whole-crate report"): rows, totals, and the lent list.
 --   keptRow, walkedRow       the row of a trace: its samples, walk's kept number, and the error of walk's list
 --   declinedRow              the row of a channel that is declined: its number, zeros, and 0/1 as its error
 --   rowBy, rowOf             the row of a channel: it depends on the channel's own ticks and values and on the criterion, on nothing else
---   part, partRow            n entries from a place on, and the row of these samples
+--   partRow                  the row of n samples from a place on
 --   rowsFrom                 the rows of channels that come end to end
---   sum, placeOf, ofChannel  the sum of lengths; where a channel begins; its entries of a list
 --   rowError, largestError   the error of a row, and of totals
 --   totalled                 totals, from their numbers
 --   totalsWith, totalsWithAll   totals with one row more, and with several
 --   totalsOf                 the totals of rows: sums of samples and of kept numbers, and the greatest error, 0/1 where there is none
---   crateRow                 row 11
---   Divided                  what it shows: at most 64 channels, whose lengths add up to each list
 --   RowBounds, TotalBounds   numbers that fit
 --   Rows, Declined           what a sheet is: the rows and their totals, or a refusal and no rows
 --   zeros, rowAt             a row of zeros, and a row of a sheet
 --   Fits, filled             room for a sheet's rows, and the lent list that they are written over
 -- Laws are in RowLaws and ReportLaws. Assumes nothing.
 use mathlib.Core.Path.{_≡_}
-use mathlib.Core.Bool.{_&&_}
 use mathlib.Core.List.{List, [], _∷_}
 use Prim.Native.Nat.{ℕ, _+_, _*_, _≤_}
-use lib.Dec.{leb, eqb}
 use lib.IntN.{ℤ}
-use lib.ListN.{length, take, drop, getD}
+use lib.ListN.{length, take, getD}
 use Rattle.lists.specs.Overwrite.{overwrite}
 use Rattle.refusal.specs.declared.Refusal.{Refusal}
 use Rattle.refusal.specs.declared.Checked.{Checked}
 use Rattle.refusal.specs.declared.Checked.the-variants.{Fine, Refused}
-use Rattle.refusal.specs.declared.Refusal.the-variants.{Crate}
-use Rattle.refusal.specs.Table.{numberOf, row}
+use Rattle.refusal.specs.Table.{numberOf}
 use Rattle.ratio.specs.declared.Ratio.{Ratio}
 use Rattle.ratio.specs.Order.{over, greater}
+use Rattle.channels.specs.Channels.{part}
 use Rattle.trace.specs.declared.Criterion.{Criterion}
 use Rattle.trace.specs.Trace.{traceRows}
 use Rattle.trace.specs.Link.{listError, Bounded}
@@ -59,9 +54,6 @@ rowBy (Refused x) r = declinedRow x
 unfoldable pub rowOf : Criterion → List ℕ → List ℤ → Summary
 rowOf c ts vs = rowBy (traceRows 4096 ts vs) (walkedRow c ts vs)
 
-abbrev pub part : {A : Type 0} → ℕ → ℕ → List A → List A
-part at n l = take n (drop at l)
-
 abbrev pub partRow : Criterion → List ℕ → List ℤ → ℕ → ℕ → Summary
 partRow c ts vs at n = rowOf c (part at n ts) (part at n vs)
 
@@ -69,16 +61,6 @@ partRow c ts vs at n = rowOf c (part at n ts) (part at n vs)
 abbrev pub rowsFrom : Criterion → List ℕ → List ℤ → ℕ → List ℕ → List Summary
 rowsFrom c ts vs at [] = []
 rowsFrom c ts vs at (n ∷ ls) = partRow c ts vs at n ∷ rowsFrom c ts vs (at + n) ls
-
-abbrev pub sum : List ℕ → ℕ
-sum [] = 0
-sum (n ∷ ls) = n + sum ls
-
-abbrev pub placeOf : List ℕ → ℕ → ℕ
-placeOf ls i = sum (take i ls)
-
-abbrev pub ofChannel : {A : Type 0} → List ℕ → ℕ → List A → List A
-ofChannel ls i l = part (placeOf ls i) (getD ls i 0) l
 
 abbrev pub rowError : Summary → Ratio
 rowError r = over (r .p) (r .q)
@@ -100,17 +82,6 @@ totalsWithAll t (r ∷ rs) = totalsWithAll (totalsWith t r) rs
 
 abbrev pub totalsOf : List Summary → Totals
 totalsOf rs = totalsWithAll (totalled 0 0 (over 0 1)) rs
-
--- ---- row 11
-
--- 11: no channels, more than 64, or lengths that do not add up to each list
-unfoldable pub crateRow : List ℕ → List ℤ → List ℕ → Checked
-crateRow ts vs ls = row (leb 1 (length ls) && leb (length ls) 64 && eqb (sum ls) (length ts) && eqb (sum ls) (length vs)) Crate
-
-pub record Divided (ts : List ℕ) (vs : List ℤ) (ls : List ℕ) : Type 0 where
-  pub few : length ls ≤ 64
-  pub ticks : sum ls ≡ length ts
-  pub values : sum ls ≡ length vs
 
 -- ---- the sheet
 

@@ -3,11 +3,11 @@
 // by hand.
 ghost use mathlib.Core.Path.{_≡_};
 ghost use Prim.Native.Nat.{_+_, _≤_, _<_};
-ghost use lib.Dec.{eqb};
 ghost use lib.ListN.{length};
+ghost use Rattle.channels.specs.Channels.{Divided};
 ghost use Rattle.trace.specs.Trace.{Trace};
 ghost use Rattle.trace.specs.Link.{Bounded};
-ghost use Rattle.sheet.specs.Report.{sum, crateRow, walkedRow, declinedRow, rowOf, partRow, RowBounds, totalsWith, Divided, Rows, Declined, rowAt, Fits, filled};
+ghost use Rattle.sheet.specs.Report.{walkedRow, declinedRow, rowOf, partRow, RowBounds, totalsWith, Rows, Declined, rowAt, Fits, filled};
 use ratio::Ratio;
 use ratio::order::greater;
 use refusal::Checked;
@@ -43,43 +43,6 @@ pub struct Sheet {
     pub rows: [Summary; 64],
     pub count: usize,
     pub answer: Reported,
-}
-
-// Whether the lengths add up to n.
-fn adds_up(lengths: &[usize], n: usize) -> bool
-    ensures { λ r. ⌜ r ≡ eqb (sum (now (lengths .entry))) n ⌝ }
-{
-    let mut left = n;
-    let mut i = 0;
-    while i < lengths.len() {
-        let next = lengths[i];
-        if left < next {
-            return false;
-        }
-        left -= next;
-        i += 1;
-    }
-    left == 0
-}
-
-// Check 11: there are 1 to 64 channels, and their lengths add up to each list.
-pub fn check(ticks: &[u32], values: &[i16], lengths: &[usize]) -> Checked
-    ensures { λ r. ⌜ r ≡ crateRow (now (ticks .entry)) (now (values .entry)) (now (lengths .entry)) ⌝ }
-{
-    let m = lengths.len();
-    if m < 1 {
-        return Checked::Refused(Refusal::Crate);
-    }
-    if 64 < m {
-        return Checked::Refused(Refusal::Crate);
-    }
-    if !adds_up(lengths, ticks.len()) {
-        return Checked::Refused(Refusal::Crate);
-    }
-    if !adds_up(lengths, values.len()) {
-        return Checked::Refused(Refusal::Crate);
-    }
-    Checked::Fine
 }
 
 // The row of a trace: walk's list goes into an array of its own.

@@ -1,6 +1,6 @@
 -- `engine::report::allowed_sheet` meets its contract. Assumes nothing.
 use mathlib.Core.Path.{subst}
-use Rattle.sheet.proofs.ReportLaws.{crate-divided}
+use Rattle.channels.proofs.ChannelLaws.{crate-divided}
 use Rattle.engine.specs.Prepare.{Sets, Allowed}
 use Rattle.engine.proofs.ReportLaws.{sheet-refused, tolerance-refused, room-refused, sheet-counted}
 use borrow.Author.Needs.{needs}

@@ -1,10 +1,10 @@
--- `sheet::check` meets its contract. Assumes nothing.
+-- `channels::check` meets its contract. Assumes nothing.
 use mathlib.Core.Path.{sym, _∙_}
 use borrow.Author.Tests.{not-true, not-false}
-use Rattle.sheet.proofs.ReportLaws.{crate-none, crate-many, crate-ticks, crate-values, crate-fine}
+use Rattle.channels.proofs.ChannelLaws.{crate-none, crate-many, crate-ticks, crate-values, crate-fine}
 use borrow.Author.Needs.{needs}
-use Rattle.sheet.proofs.check.Statement.{statement}
-use Rattle.sheet.proofs.check.Tie as tie
+use Rattle.channels.proofs.check.Statement.{statement}
+use Rattle.channels.proofs.check.Tie as tie
 
 returns : tie.Need-returns
 returns c = let a = c .before .before .before .args in crate-none (a .ticks .now) (a .values .now) (a .lengths .now) (c .if1 .taken)

@@ -1,11 +1,11 @@
--- `sheet::adds_up` meets its contract. Assumes nothing.
+-- `channels::adds_up` meets its contract. Assumes nothing.
 use mathlib.Core.Path.{refl}
 use Prim.Native.Nat.{_-_}
 use lib.ListN.{length}
-use Rattle.sheet.proofs.ReportLaws.{Adding, adding-none, adding-more, adding-over, adding-all}
+use Rattle.channels.proofs.ChannelLaws.{Adding, adding-none, adding-more, adding-over, adding-all}
 use borrow.Author.Needs.{needs}
-use Rattle.sheet.proofs.adds_up.Statement.{statement}
-use Rattle.sheet.proofs.adds_up.Tie as tie
+use Rattle.channels.proofs.adds_up.Statement.{statement}
+use Rattle.channels.proofs.adds_up.Tie as tie
 
 abbrev Inv-loop : tie.InvT-loop
 Inv-loop lengths n left₀ i₀ left i = Adding lengths n left i

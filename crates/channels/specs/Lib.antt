@@ -1,0 +1,2 @@
+-- What the crate `channels` holds.
+pub mod Channels

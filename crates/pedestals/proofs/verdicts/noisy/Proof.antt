@@ -1,0 +1,24 @@
+-- `pedestals::verdicts::noisy` meets its contract: k squared times a spread is at most 2^62. Assumes nothing.
+use native.Mathlib.Omega.{arith}
+use borrow.Author.Needs.{needs}
+use Rattle.pedestals.proofs.SumLaws.{factor-small, factor-spread}
+use Rattle.pedestals.proofs.verdicts.noisy.Statement.{statement}
+use Rattle.pedestals.proofs.verdicts.noisy.Tie as tie
+
+mul-result : tie.Need-mul-result
+mul-result c = omega (arith, factor-small (c .pre .2))
+
+spread-requires : tie.Need-spread-requires
+spread-requires c κs = search needs
+
+mul-result-2 : tie.Need-mul-result-2
+mul-result-2 c = omega (arith, factor-spread (c .before .pre .2) (c .spread .ensures .1))
+
+spread-requires-2 : tie.Need-spread-requires-2
+spread-requires-2 c κs = search needs
+
+returns : tie.Need-returns
+returns c = rw (c .before .spread .ensures .0, c .spread2 .ensures .0)
+
+pub noisy-spec : {M : Type 1} → statement M
+noisy-spec = tie.close (tie.spec mul-result spread-requires mul-result-2 spread-requires-2 returns)

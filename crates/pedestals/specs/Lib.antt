@@ -1,0 +1,5 @@
+-- What the crate `pedestals` holds.
+pub mod Sums
+pub mod Compare
+pub mod Checking
+pub mod Listing
