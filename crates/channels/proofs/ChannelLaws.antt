@@ -10,12 +10,12 @@ use lib.Dec.{leb, eqb}
 use lib.IntN.{ℤ}
 use borrow.Author.Tests.{eq-eqb, ne-eqb, eqb-true, eqb-false, le-leb, lt-leb, leb-true}
 use Rattle.lists.proofs.Tests.{by-test}
-use lib.ListN.{length, drop, getD, drop-of-length-le}
-use lib.Seq.{drop-cons}
+use lib.ListN.{length, drop, getD, length-drop, drop-of-length-le}
+use lib.Seq.{drop-cons, length-take-le}
 use Rattle.refusal.specs.declared.Refusal.the-variants.{Crate}
 use Rattle.refusal.proofs.TableLaws.{row-fine}
 use Rattle.refusal.specs.declared.Checked.the-variants.{Fine, Refused}
-use Rattle.channels.specs.Channels.{sum, placeOf, crateRow, Divided}
+use Rattle.channels.specs.Channels.{sum, placeOf, ofChannel, crateRow, Divided}
 
 -- ---- lengths: those before i take n - left
 pub record Adding (ls : List ℕ) (n left i : ℕ) : Type 0 where
@@ -101,3 +101,12 @@ pub place-fits : (ls : List ℕ) (i : ℕ) → i < length ls → placeOf ls i + 
 place-fits [] i h = absurd (omega arith)
 place-fits (n ∷ ls) zero h = omega arith
 place-fits (n ∷ ls) (suc i) h = omega (arith, place-fits ls i (omega arith))
+
+-- a channel has as many entries as its length says
+pub channel-length : {A : Type 0} (ls : List ℕ) (i : ℕ) (l : List A) → i < length ls → sum ls ≡ length l → length (ofChannel ls i l) ≡ getD ls i 0
+channel-length ls i l h e = length-take-le (getD ls i 0) (drop (placeOf ls i) l) (simp length-drop (omega (arith, place-fits ls i h)))
+
+-- row 11 asks only how many values there are
+pub crate-counts : (ts : List ℕ) (vs ws : List ℤ) (ls : List ℕ) → length ws ≡ length vs → crateRow ts ws ls ≡ crateRow ts vs ls
+unfolding crateRow
+crate-counts ts vs ws ls e = rw e

@@ -17,10 +17,11 @@ use Rattle.kept.specs.Walk.{walkFrom, walkOf}
 use Rattle.kept.specs.Minimum.{bestStop, linksIn, linksOf, nextOf, minimumOf}
 use Rattle.kept.specs.Least.{leastOver, leastFrom, leastOf}
 use Rattle.kept.specs.Gallop.{probeOf, doubling, bisection, searchBy, gallopSearch, gallopOf, gallopProbes, sumFrom, listProbes}
-use Rattle.refusal.specs.declared.Refusal.the-variants.{Length, Tick, Span, Room, Table}
+use Rattle.refusal.specs.declared.Refusal.the-variants.{Length, Tick, Span, Tolerance, Room, Crate, Table, Samples, Factor}
 use Rattle.refusal.specs.declared.Checked.the-variants.{Fine, Refused}
 use Rattle.refusal.specs.Table.{numberOf, returnedOf}
 use Rattle.tolerance.specs.declared.Tolerance.the-variants.{Ratio}
+use Rattle.tolerance.specs.Meaning.{meaning}
 use Rattle.trace.specs.declared.Criterion.{Criterion}
 use Rattle.trace.specs.Level.{level}
 use Rattle.trace.specs.Trace.{traceRows}
@@ -41,6 +42,10 @@ use Rattle.engine.specs.Prepare.{commonRows, criterionOf}
 use Rattle.engine.specs.Judge.{judgeRows, listVerdict, judgeOf}
 use Rattle.engine.specs.Report.{crateRows, reportRows}
 use Rattle.engine.specs.Write.{contentOf}
+use Rattle.pedestals.specs.declared.Cause.the-variants.{Call, Trace}
+use Rattle.pedestals.specs.declared.Check.the-variants.{Fine as Passes, Refused as Declines}
+use Rattle.pedestals.specs.Sums.{spread, moved, noisy}
+use Rattle.pedestals.specs.Compare.{Run, run, ratioOf, causeNumber, causeValue, runsRow, channelRow, compareRows, movedChannels, noisyChannels}
 
 -- ticks 0 to 4
 abbrev five : List ℕ
@@ -309,3 +314,78 @@ own-table-next = refl
 own-room-last : expandWithRows (0 ∷ []) own 0 ≡ Refused (Room 1)
 unfolding expandWithRows tableRow first firstOf ownFrom
 own-room-last = refl
+
+-- ---- morning pedestals: three channels of four samples at tolerance 1/2 and k = 2; channel 0 has moved, channel 1 is noisy, and channel 2 is
+-- exactly at both limits
+
+abbrev pedestalTicks : List ℕ
+pedestalTicks = 0 ∷ 1 ∷ 2 ∷ 3 ∷ 0 ∷ 1 ∷ 2 ∷ 3 ∷ 0 ∷ 1 ∷ 2 ∷ 3 ∷ []
+
+abbrev today : Run
+today = run pedestalTicks (pos 11 ∷ pos 13 ∷ pos 11 ∷ pos 13 ∷ negsuc 4 ∷ negsuc 4 ∷ negsuc 4 ∷ negsuc 3 ∷ pos 0 ∷ pos 2 ∷ pos 0 ∷ pos 2 ∷ []) (4 ∷ 4 ∷ 4 ∷ [])
+
+abbrev earlier : Run
+earlier = run pedestalTicks (pos 10 ∷ pos 12 ∷ pos 10 ∷ pos 12 ∷ negsuc 4 ∷ negsuc 4 ∷ negsuc 4 ∷ negsuc 4 ∷ pos 0 ∷ pos 1 ∷ pos 0 ∷ pos 1 ∷ []) (4 ∷ 4 ∷ 4 ∷ [])
+
+pedestals-fine : compareRows today earlier (Ratio 1 2) 2 3 3 ≡ Passes
+unfolding compareRows runsRow crateRow channelRow traceRows first firstOf
+pedestals-fine = refl
+
+pedestals-moved : movedChannels (ratioOf (meaning (Ratio 1 2))) today earlier ≡ 0 ∷ []
+unfolding moved gcd euclid
+pedestals-moved = refl
+
+pedestals-noisy : noisyChannels 2 today earlier ≡ 1 ∷ []
+unfolding noisy spread
+pedestals-noisy = refl
+
+-- at 1/3, and at k = 1, channel 2 is listed too
+pedestals-third : movedChannels (ratioOf (meaning (Ratio 1 3))) today earlier ≡ 0 ∷ 2 ∷ []
+unfolding moved gcd euclid
+pedestals-third = refl
+
+pedestals-once : noisyChannels 1 today earlier ≡ 1 ∷ 2 ∷ []
+unfolding noisy spread
+pedestals-once = refl
+
+-- the runs the other way round: what is noisy today was not before
+pedestals-back : noisyChannels 2 earlier today ≡ []
+unfolding noisy spread
+pedestals-back = refl
+
+-- 14 before 11 before 4 before the channels before 10
+
+pedestals-factor-first : compareRows today (run [] [] []) (Ratio 1 0) 17 0 0 ≡ Declines (Call Factor)
+unfolding compareRows
+pedestals-factor-first = refl
+
+pedestals-counts : compareRows today (run five teeth (5 ∷ [])) (Ratio 1 0) 16 0 0 ≡ Declines (Call Crate)
+unfolding compareRows runsRow crateRow
+pedestals-counts = refl
+
+-- channel 1 of run 2 has a tick that is not above the one before, and three samples
+abbrev faulty : Run
+faulty = run (0 ∷ 1 ∷ 2 ∷ 3 ∷ 0 ∷ 1 ∷ 1 ∷ 0 ∷ 1 ∷ 2 ∷ 3 ∷ 4 ∷ []) (earlier .values) (4 ∷ 3 ∷ 5 ∷ [])
+
+pedestals-tolerance : compareRows today faulty (Ratio 1 0) 16 0 0 ≡ Declines (Call Tolerance)
+unfolding compareRows runsRow crateRow
+pedestals-tolerance = refl
+
+pedestals-own : compareRows today faulty (Ratio 1 2) 16 0 0 ≡ Declines (Trace 1 (Tick 2))
+unfolding compareRows runsRow crateRow channelRow traceRows first firstOf
+pedestals-own = refl
+
+pedestals-own-number : (causeNumber (Trace 1 (Tick 2)) ≡ 2) × (causeValue (Trace 1 (Tick 2)) ≡ 1)
+pedestals-own-number = (refl, refl)
+
+-- with ticks that rise, 13 at channel 1, though channel 2 differs too
+pedestals-samples : compareRows today (run (0 ∷ 1 ∷ 2 ∷ 3 ∷ 0 ∷ 1 ∷ 2 ∷ 0 ∷ 1 ∷ 2 ∷ 3 ∷ 4 ∷ []) (earlier .values) (4 ∷ 3 ∷ 5 ∷ [])) (Ratio 1 2) 16 0 0 ≡ Declines (Call (Samples 1))
+unfolding compareRows runsRow crateRow channelRow traceRows first firstOf
+pedestals-samples = refl
+
+pedestals-samples-number : (causeNumber (Call (Samples 1)) ≡ 13) × (causeValue (Call (Samples 1)) ≡ 1)
+pedestals-samples-number = (refl, refl)
+
+pedestals-room-last : compareRows today earlier (Ratio 1 2) 16 3 2 ≡ Declines (Call (Room 3))
+unfolding compareRows runsRow crateRow channelRow traceRows first firstOf
+pedestals-room-last = refl

@@ -6,19 +6,20 @@ use mathlib.Core.List.{List}
 use Prim.Native.Nat.{ℕ, zero, suc, _+_, _-_, _≤_, _<_}
 use native.Mathlib.Numerals.{add-one}
 use native.Mathlib.Omega.{arith}
-use lib.Dec.{leb, eqb}
+use lib.Dec.{leb, ltb, eqb}
 use lib.IntN.{ℤ}
 use lib.ListN.{length, take, drop, getD, length-take, length-drop}
 use lib.Seq.{take-suc, take-all, length-take-le}
-use borrow.Author.Tests.{eq-eqb, ne-eqb, le-leb, lt-leb, leb-true, leb-false}
+use borrow.Author.Tests.{eq-eqb, ne-eqb, eqb-true, eqb-false, le-leb, lt-leb, leb-true, leb-false, ltb-true, ltb-false}
+use Rattle.lists.proofs.Tests.{by-test, and-first}
 use Rattle.refusal.specs.declared.Refusal.{Refusal}
 use Rattle.refusal.specs.declared.Refusal.the-variants.{Crate, Room, Samples, Factor}
 use Rattle.refusal.specs.declared.Checked as C
 use Rattle.refusal.specs.declared.Checked.the-variants.{Fine as Passes, Refused as Fails}
 use Rattle.refusal.specs.Table.{roomRow, _thenCheck_}
 use Rattle.refusal.proofs.TableLaws.{row-fine, then-fine}
-use Rattle.channels.specs.Channels.{sum, placeOf, Divided}
-use Rattle.channels.proofs.ChannelLaws.{place-next, place-fits}
+use Rattle.channels.specs.Channels.{sum, placeOf, crateRow}
+use Rattle.channels.proofs.ChannelLaws.{crate-divided, place-next, place-fits, channel-length}
 use Rattle.ratio.specs.declared.Ratio.{Ratio}
 use Rattle.tolerance.specs.declared.Tolerance.{Tolerance}
 use Rattle.tolerance.specs.declared.Meaning.{Meaning}
@@ -26,13 +27,13 @@ use Rattle.tolerance.specs.declared.Meaning.the-variants.{Exact, NotAllowed}
 use Rattle.tolerance.specs.Meaning.{meaning}
 use Rattle.engine.specs.declared.Holding.{Holding}
 use Rattle.engine.specs.declared.Holding.the-variants.{Held, Refused as NotHeld}
-use Rattle.engine.specs.Checks.{TraceOutcome, CrateOutcome}
+use Rattle.engine.specs.Checks.{ownRows, TraceOutcome, CrateOutcome}
 use Rattle.engine.specs.Hold.{toleranceRow, holdingOf, HoldOutcome}
 use Rattle.pedestals.specs.declared.Cause.{Cause}
 use Rattle.pedestals.specs.declared.Cause.the-variants.{Call, Trace}
 use Rattle.pedestals.specs.declared.Check.{Check}
 use Rattle.pedestals.specs.declared.Check.the-variants.{Fine, Refused}
-use Rattle.pedestals.specs.Compare.{Run, ratioOf, called, _then_, factorRow, runsRow, channelRow, channelRows, roomsRow, compareRows}
+use Rattle.pedestals.specs.Compare.{Run, ticksOf, valuesOf, ratioOf, called, inChannel, _then_, factorRow, runsRow, channelRow, channelRows, roomsRow, compareRows}
 use Rattle.pedestals.specs.Checking.{OwnChecked, rowAt, SecondChecked, ChannelChecked, Alike, ChannelsChecked, DividedRuns, EarlierChecked, RunsChecked, CallChecked, RestChecked, Called, Passed}
 
 -- a refusal is no pass
@@ -239,3 +240,54 @@ module _ (a b : Run) (t : Tolerance) (k room room′ : ℕ) where
         first-room = s .rooms f .0;
         second-room = s .rooms f .1;
       }
+
+-- ---- what a call that is not refused shows
+
+then-passes : (x y : Check) → x then y ≡ Fine → (x ≡ Fine) × (y ≡ Fine)
+then-passes Fine y e = (refl, e)
+then-passes (Refused x) y e = not-refused e
+
+called-passes : (p : C.Checked) → called p ≡ Fine → p ≡ Passes
+called-passes Passes e = refl
+called-passes (Fails x) e = not-refused e
+
+channel-passes : (a b : Run) (c n i : ℕ) → channelRows a b c n ≡ Fine → c ≤ i → i < c + n → channelRow a b i ≡ Fine
+channel-passes a b c zero i e le lt = absurd (omega arith)
+channel-passes a b c (suc n) i e le lt =
+    let p = then-passes (channelRow a b c) _ e in
+    by-test (eqb c i)
+    (λ t. subst (λ (j : ℕ). channelRow a b j ≡ Fine) (eqb-true c i t) (p .0))
+    (λ t. let d = eqb-false c i t in channel-passes a b (suc c) n i (p .1) (above le d) (omega arith))
+  where
+    above : c ≤ i → (c ≡ i → ⊥) → suc c ≤ i
+    above h d = by-test (ltb c i) (λ u. ltb-true c i u) (λ u. absurd (d (omega (arith, h, ltb-false c i u))))
+
+same-lengths : (a b : Run) (c : ℕ) → channelRow a b c ≡ Fine → getD (b .lengths) c 0 ≡ getD (a .lengths) c 0
+unfolding channelRow
+same-lengths a b c e =
+    let first = then-passes (inChannel c (ownRows (ticksOf a c) (valuesOf a c))) _ e in
+    let second = then-passes (inChannel c (ownRows (ticksOf b c) (valuesOf b c))) _ (first .1) in
+    eqb-true _ _ (row-fine _ (Samples c) (called-passes _ (second .1)))
+
+module _ (a b : Run) (t : Tolerance) (k room room′ : ℕ) (e : compareRows a b t k room room′ ≡ Fine) where
+  passing : (factorRow k ≡ Passes) × (runsRow a b ≡ Passes) × (channelRows a b 0 (length (a .lengths)) ≡ Fine)
+  unfolding compareRows
+  passing =
+      let p = then-passes (called (factorRow k)) _ e in
+      let q = then-passes (called (runsRow a b)) _ (p .1) in
+      let r = then-passes (called (toleranceRow (meaning t))) _ (q .1) in
+      (called-passes _ (p .0), called-passes _ (q .0), then-passes (channelRows a b 0 (length (a .lengths))) _ (r .1) .0)
+
+  pub passing-factor : 1 ≤ k
+  passing-factor = leb-true 1 k (and-first (leb 1 k) _ (row-fine _ Factor (passing .0)))
+
+  -- a channel has as many values in both runs
+  pub passing-lengths : (c : ℕ) → c < length (a .lengths) → length (valuesOf b c) ≡ length (valuesOf a c)
+  unfolding runsRow
+  passing-lengths c lt =
+      let r = then-fine (crateRow (a .ticks) (a .values) (a .lengths)) _ (passing .1) in
+      let s = then-fine (crateRow (b .ticks) (b .values) (b .lengths)) _ (r .1) in
+      let counts = eqb-true (length (b .lengths)) (length (a .lengths)) (row-fine _ Crate (s .1)) in
+      channel-length (b .lengths) c (b .values) (omega (arith, counts, lt)) (crate-divided _ _ _ (s .0) .values)
+      ∙ same-lengths a b c (channel-passes a b 0 (length (a .lengths)) c (passing .2) (omega arith) (omega arith))
+      ∙ sym (channel-length (a .lengths) c (a .values) lt (crate-divided _ _ _ (r .0) .values))

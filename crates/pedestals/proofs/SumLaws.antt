@@ -1,15 +1,15 @@
--- Laws of the sums of values: sizes without signs, the sums of a list from its front, that n Q - S² is not negative, and the two tests from
--- the sums as they are computed.
+-- Laws of the sums of values: sizes without signs, that n Q - S² is not negative, a run compared with itself, the sums of a list from its
+-- front, and the two tests from the sums as they are computed.
 -- Assumes nothing.
 use mathlib.Core.Path.{_≡_, refl, sym, _∙_, ap, subst}
 use mathlib.Core.Bool.{Bool, true, false, cond}
 use mathlib.Core.List.{List, [], _∷_}
 use Prim.Native.Nat.{ℕ, zero, suc, _+_, _-_, _*_, _≤_, _<_}
-use native.Mathlib.Nat.{mul-le-mul, mul-le-mul-left}
+use native.Mathlib.Nat.{mul-le-mul, mul-le-mul-right}
 use native.Mathlib.Numerals.{add-one}
 use native.Mathlib.Omega.{arith}
 use lib.Dec.{ltb}
-use lib.IntN.{ℤ, pos, negsuc, negℤ, subℕ, _+ℤ_, _-ℤ_, _*ℤ_, natAbs, +ℤ-assoc, +ℤ-idl, +ℤ-idr, pos-+ℤ-pos, pos-*ℤ-pos, negsuc-*ℤ-negsuc}
+use lib.IntN.{ℤ, pos, negsuc, negℤ, subℕ, _+ℤ_, _-ℤ_, _*ℤ_, natAbs, +ℤ-assoc, +ℤ-idl, +ℤ-idr, +ℤ-invr, pos-+ℤ-pos, pos-*ℤ-pos, negsuc-*ℤ-negsuc}
 use lib.ListN.{length, drop, getD, drop-of-length-le}
 use lib.Seq.{drop-cons}
 use lib.Signed.{mag, ltZ, natAbs-le}
@@ -60,7 +60,7 @@ sizes : List ℤ → ℕ
 sizes [] = 0
 sizes (v ∷ vs) = natAbs v + sizes vs
 
-sizeSquares : List ℤ → ℕ
+unfoldable pub sizeSquares : List ℤ → ℕ
 sizeSquares [] = 0
 sizeSquares (v ∷ vs) = natAbs v * natAbs v + sizeSquares vs
 
@@ -94,10 +94,26 @@ unfolding sizes sizeSquares
 root [] = omega arith
 root (v ∷ vs) = omega (arith, root vs, with-one (natAbs v) vs)
 
-pub root-total : (vs : List ℤ) {q : ℕ} → pos q ≡ squares vs → natAbs (total vs) * natAbs (total vs) ≤ length vs * q
-root-total vs {q} e =
-    let same : q ≡ sizeSquares vs = cc (squares-sizes vs) in
-    rw same (omega (arith, mul-le-mul (abs-total vs) (abs-total vs), root vs))
+pub root-total : (vs : List ℤ) → natAbs (total vs) * natAbs (total vs) ≤ length vs * sizeSquares vs
+root-total vs = omega (arith, mul-le-mul (abs-total vs) (abs-total vs), root vs)
+
+pub spread-natural : (vs : List ℤ) → spread vs ≡ pos (length vs * sizeSquares vs - natAbs (total vs) * natAbs (total vs))
+unfolding spread
+spread-natural vs =
+    rw (squares-sizes vs, squared (total vs), pos-*ℤ-pos (length vs) (sizeSquares vs))
+    (pos-less (length vs * sizeSquares vs) (natAbs (total vs) * natAbs (total vs)) (root-total vs))
+
+-- ---- a run compared with itself
+
+pub moved-itself : (r : Ratio) (vs : List ℤ) → moved r vs vs ≡ false
+unfolding moved
+moved-itself r vs = rw (+ℤ-invr (total vs)) (le-ltb (r .p * length vs) (0 * r .q) (omega arith))
+
+pub noisy-itself : (k : ℕ) (vs : List ℤ) → 1 ≤ k → noisy k vs vs ≡ false
+unfolding noisy
+noisy-itself k vs some =
+    let x = length vs * sizeSquares vs - natAbs (total vs) * natAbs (total vs) in
+    rw (spread-natural vs) (le-ltb (k * k * x) x (omega (arith, mul-le-mul-right x (mul-le-mul some some))))
 
 -- ---- the sums of the values before i
 pub record Summing (vs : List ℤ) (s : ℤ) (q i : ℕ) : Type 0 where
@@ -111,8 +127,8 @@ pub summing-none : (vs : List ℤ) → Summing vs (pos 0) 0 0
 summing-none vs = record { upto = omega arith; sum = +ℤ-idl (total vs); squares = +ℤ-idl (squares vs); sum-bound = omega arith; squares-bound = omega arith }
 
 module _ {vs : List ℤ} {s : ℤ} {q i : ℕ} (h : Summing vs s q i) where
-  pub summing-few : length vs ≤ 4096 → (natAbs s ≤ 134217728) × (q ≤ 4398046511104)
-  summing-few few = omega (arith, h .upto, h .sum-bound, h .squares-bound)
+  pub summing-few : length vs ≤ 4096 → natAbs s ≤ 134217728
+  summing-few few = omega (arith, h .upto, h .sum-bound)
 
   pub summing-more : {z : ℤ} {w : ℕ} → i < length vs → mag (getD vs i (pos 0)) < 32768 → z ≡ s +ℤ getD vs i (pos 0) → (w ≡ natAbs (getD vs i (pos 0)) * natAbs (getD vs i (pos 0))) × (w ≤ 1073741824) → Summing vs z (q + w) (i + 1)
   summing-more {z} {w} lt short e f =
@@ -139,19 +155,19 @@ module _ {vs : List ℤ} {s : ℤ} {q i : ℕ} (h : Summing vs s q i) where
 
 -- ---- the tests, from the sums
 module _ {vs : List ℤ} {x : Sums} (h : Summed (length vs) vs x) where
+  sizes-are : x .squares ≡ sizeSquares vs
+  sizes-are = cc (squares-sizes vs)
+
   pub summed-sized : length vs ≤ 4096 → Sized (length vs) x
   summed-sized few = record {
     few = few;
     sum = omega (arith, h .sum-bound);
     squares = h .squares-bound;
-    root = rw (h .sum) (root-total vs (h .squares));
+    root = rw (h .sum, sizes-are) (root-total vs);
   }
 
   spread-is : spread vs ≡ pos (spreadIn (length vs) x)
-  unfolding spread
-  spread-is =
-      rw (← h .squares, ← h .sum, squared (x .sum), pos-*ℤ-pos (length vs) (x .squares))
-      (pos-less (length vs * x .squares) (natAbs (x .sum) * natAbs (x .sum)) (rw (h .sum) (root-total vs (h .squares))))
+  spread-is = spread-natural vs ∙ rw (sizes-are, h .sum)
 
 module _ {vs ws : List ℤ} {x y : Sums} (h : Summed (length vs) vs x) (g : Summed (length ws) ws y) (same : length ws ≡ length vs) (few : length vs ≤ 4096) where
   pub both-sized : Sized (length vs) x × Sized (length vs) y

@@ -7,3 +7,5 @@ pub mod NoFactor
 pub mod Probes
 pub mod Report
 pub mod Expand
+pub mod PedestalShift
+pub mod Pedestals

@@ -2,3 +2,4 @@
 pub mod Nearness
 pub mod NoFactor
 pub mod Probes
+pub mod Pedestals

@@ -29,7 +29,7 @@ square-requires : tie.Need-square-requires Inv-loop μ-loop
 square-requires c κs = search needs
 
 plus-requires : tie.Need-plus-requires Inv-loop μ-loop
-plus-requires c κs = summing-few (c .before .before .before .loop .inv .sums) (c .before .before .before .before .pre) .0
+plus-requires c κs = summing-few (c .before .before .before .loop .inv .sums) (c .before .before .before .before .pre)
 
 add-low : tie.Need-add-low Inv-loop μ-loop
 add-low c = omega (arith, halved-few (c .before .before .before .before .loop .inv) (c .before .before .before .before .before .pre) .0)
