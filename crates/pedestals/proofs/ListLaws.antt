@@ -37,6 +37,23 @@ listed-length f (suc m) = simp length-append (omega (arith, listed-length f m, o
     one true = omega arith
     one false = omega arith
 
+module _ (f : ℕ → Bool) {o o₁ : List ℕ} {n c : ℕ} (w : Wrote (listed f c) o n o₁) (room : c < length o) where
+  -- there is room for channel c
+  pub listed-room : n < length o₁
+  listed-room =
+      let k = listed-length f c in
+      omega (arith, w .count, ap length (w .content), overwrite-length (listed f c) o (omega arith))
+
+  put-one : (t : Bool) {r : ℕ} {o₂ : List ℕ} → Put o₁ n c t r o₂ → Wrote (listed f c ++ cond t (c ∷ []) []) o r o₂
+  put-one true p = record {
+    count = p .count ∙ ap (λ (i : ℕ). i + 1) (w .count) ∙ sym (length-append (listed f c) (c ∷ []));
+    content = p .content ∙ rw (w .content, w .count) (overwrite-snoc (listed f c) o c (omega (arith, listed-length f c)));
+  }
+  put-one false {r} {o₂} p = subst (λ (l : List ℕ). Wrote l o r o₂) (sym (append-nil (listed f c))) (record { count = p .count ∙ w .count; content = p .content ∙ w .content })
+
+  pub listed-more : {t : Bool} {r : ℕ} {o₂ : List ℕ} → t ≡ f c → Put o₁ n c t r o₂ → Wrote (listed f (c + 1)) o r o₂
+  listed-more e p = rw (add-one c, ← e) (put-one _ p)
+
 -- tests that agree below m list the same channels
 pub listed-alike : {f g : ℕ → Bool} (m : ℕ) → ((c : ℕ) → c < m → f c ≡ g c) → listed f m ≡ listed g m
 listed-alike zero h = refl
@@ -101,23 +118,6 @@ module _ (f : ℕ → Bool) where
   pub listed-rising : (m : ℕ) → RisesBelow m (listed f m)
   listed-rising zero = record { below = λ i h. absurd (omega arith); rises = λ i h. absurd (omega arith) }
   listed-rising (suc m) = rises-more (f m) (listed-rising m)
-
-module _ (f : ℕ → Bool) {o o₁ : List ℕ} {n c : ℕ} (w : Wrote (listed f c) o n o₁) (room : c < length o) where
-  -- there is room for channel c
-  pub listed-room : n < length o₁
-  listed-room =
-      let k = listed-length f c in
-      omega (arith, w .count, ap length (w .content), overwrite-length (listed f c) o (omega arith))
-
-  put-one : (t : Bool) {r : ℕ} {o₂ : List ℕ} → Put o₁ n c t r o₂ → Wrote (listed f c ++ cond t (c ∷ []) []) o r o₂
-  put-one true p = record {
-    count = p .count ∙ ap (λ (i : ℕ). i + 1) (w .count) ∙ sym (length-append (listed f c) (c ∷ []));
-    content = p .content ∙ rw (w .content, w .count) (overwrite-snoc (listed f c) o c (omega (arith, listed-length f c)));
-  }
-  put-one false {r} {o₂} p = subst (λ (l : List ℕ). Wrote l o r o₂) (sym (append-nil (listed f c))) (record { count = p .count ∙ w .count; content = p .content ∙ w .content })
-
-  pub listed-more : {t : Bool} {r : ℕ} {o₂ : List ℕ} → t ≡ f c → Put o₁ n c t r o₂ → Wrote (listed f (c + 1)) o r o₂
-  listed-more e p = rw (add-one c, ← e) (put-one _ p)
 
 -- ---- a channel
 

@@ -188,9 +188,6 @@ module _ {n : ℕ} {x : Sums} (h : Sized n x) where
 pub factor-small : {k : ℕ} → k ≤ 16 → k * k ≤ 256
 factor-small h = mul-le-mul h h
 
-pub factor-spread : {k s : ℕ} → k ≤ 16 → s ≤ 18014398509481984 → k * k * s ≤ 4611686018427387904
-factor-spread h e = mul-le-mul (factor-small h) e
-
 pub limit-small : {p q n : ℕ} → p ≤ 65535 * q → q ≤ 1048575 → n ≤ 4096 → p * n ≤ 281474976710656
 limit-small {p} {q} {n} h e f = omega (arith, mul-le-mul {n₁ = p} {n₂ = 68718362625} (omega arith) f)
 

@@ -26,7 +26,8 @@ shared-slice-read-n c = search needs
 verdict-at-requires : tie.Need-verdict-at-requires Inv-loop μ-loop
 verdict-at-requires c κs =
     let h = c .before .before in
-    listing-fits (h .loop .inv) (h .before .before .before .before .pre) (c .before .loop-test .taken)
+    let f = listing-fits (h .loop .inv) (h .before .before .before .before .pre) (c .before .loop-test .taken) in
+    record { today = omega (arith, f .today); earlier = omega (arith, f .earlier); few = f .few; held = f .held; factor = f .factor }
 
 put-requires : tie.Need-put-requires Inv-loop μ-loop
 put-requires c κs =

@@ -1,7 +1,8 @@
 -- `pedestals::verdicts::noisy` meets its contract: k squared times a spread is at most 2^62. Assumes nothing.
+use native.Mathlib.Nat.{mul-le-mul, lt-of-le-of-lt}
 use native.Mathlib.Omega.{arith}
 use borrow.Author.Needs.{needs}
-use Rattle.pedestals.proofs.SumLaws.{factor-small, factor-spread}
+use Rattle.pedestals.proofs.SumLaws.{factor-small}
 use Rattle.pedestals.proofs.verdicts.noisy.Statement.{statement}
 use Rattle.pedestals.proofs.verdicts.noisy.Tie as tie
 
@@ -12,7 +13,9 @@ spread-requires : tie.Need-spread-requires
 spread-requires c κs = search needs
 
 mul-result-2 : tie.Need-mul-result-2
-mul-result-2 c = omega (arith, factor-spread (c .before .pre .2) (c .spread .ensures .1))
+mul-result-2 c =
+    let small = factor-small (c .before .pre .2) in
+    record { fits = lt-of-le-of-lt (mul-le-mul {n₂ = 256} (omega arith) (c .spread .ensures .1)) (omega arith) }
 
 spread-requires-2 : tie.Need-spread-requires-2
 spread-requires-2 c κs = search needs
