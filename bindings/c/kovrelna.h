@@ -55,15 +55,19 @@ extern "C" {
 /* ---- Refusals ----
  *
  * Each answer has a number, 0 if the call succeeded, and a value. A call checks the rows that
- * concern it in rising number, only 11 before all others and 12 right after 1, and answers with the
- * first that fits. A refused call leaves every list and buffer as it was.
+ * concern it in rising number, only 14 and then 11 before all others and 12 right after 1, and
+ * answers with the first that fits; in kovrelna_pedestals 1, 2, 3 and 13 come after 4, channel by
+ * channel. A refused call leaves every list and buffer as it was.
  */
 enum kovrelna_refusal {
-  /* No samples or codes, too many, or ticks and values differ in length. Value: 0. */
+  /* No samples or codes, too many, or ticks and values differ in length. Value: 0; in
+   * kovrelna_pedestals the channel. */
   KOVRELNA_REFUSED_LENGTH = 1,
-  /* A tick is not above the one before. Value: the first such sample. */
+  /* A tick is not above the one before. Value: the first such sample; in kovrelna_pedestals the
+   * channel. */
   KOVRELNA_REFUSED_TICK = 2,
-  /* The span is too long. Value: the first sample more than 1,048,575 ticks after sample 0. */
+  /* The span is too long. Value: the first sample more than 1,048,575 ticks after sample 0; in
+   * kovrelna_pedestals the channel. */
   KOVRELNA_REFUSED_SPAN = 3,
   /* The tolerance is not allowed. Value: 0. */
   KOVRELNA_REFUSED_TOLERANCE = 4,
@@ -82,11 +86,15 @@ enum kovrelna_refusal {
   /* The output is too short. Value: the entries or bytes needed. */
   KOVRELNA_REFUSED_ROOM = 10,
   /* There are no channels, more than 64, or their lengths do not add up to the length of ticks and
-   * to that of values. Value: 0. */
+   * to that of values; or two runs have unequal channel counts. Value: 0. */
   KOVRELNA_REFUSED_CRATE = 11,
   /* The range table does not have 256 values, or does not rise. Value: 0 without 256 values, else
    * the first code whose value is not above the one before. */
-  KOVRELNA_REFUSED_TABLE = 12
+  KOVRELNA_REFUSED_TABLE = 12,
+  /* Two runs differ in a channel's number of samples. Value: the channel. */
+  KOVRELNA_REFUSED_SAMPLES = 13,
+  /* The noise factor is below 1 or above 16. Value: 0. */
+  KOVRELNA_REFUSED_FACTOR = 14
 };
 
 /* The cause in words, for a message; "none" for a number that is no refusal's. */
@@ -113,9 +121,14 @@ static inline const char *kovrelna_cause(uint32_t number) {
   case KOVRELNA_REFUSED_ROOM:
     return "output too short";
   case KOVRELNA_REFUSED_CRATE:
-    return "no channels, more than 64, or lengths that do not add up to the lists";
+    return "no channels, more than 64, lengths that do not add up to the lists, or two runs with "
+           "unequal channel counts";
   case KOVRELNA_REFUSED_TABLE:
     return "a range table that does not have 256 values, or does not rise";
+  case KOVRELNA_REFUSED_SAMPLES:
+    return "two runs differ in a channel's number of samples";
+  case KOVRELNA_REFUSED_FACTOR:
+    return "noise factor below 1 or above 16";
   default:
     return "none";
   }
@@ -304,6 +317,41 @@ kovrelna_totals kovrelna_report(const uint32_t *ticks, size_t ticks_len,
                                 const size_t *lengths, size_t lengths_len,
                                 kovrelna_tolerance tolerance,
                                 kovrelna_summary *out, size_t out_len);
+
+/* number 0: how many channels have moved and how many are noisy; value is 0.
+ * Otherwise: the refusal's number and value; moved and noisy are 0. */
+typedef struct kovrelna_compared {
+  uint32_t number;
+  uint64_t value;
+  uint64_t moved;
+  uint64_t noisy;
+} kovrelna_compared;
+
+/* Compares two pedestal runs of a crate channel by channel: run 1, today's, and run 2, one before.
+ * Each has lists of its own; the ticks of the two need not agree.
+ *
+ * A channel has n samples in either run; S is their sum and Q the sum of their squares. At tolerance
+ * p/q it has moved if |S1 - S2| times q exceeds p times n: its means S/n differ by more than p/q. It
+ * is noisy if n Q1 - S1 squared exceeds k squared times (n Q2 - S2 squared): its standard deviation
+ * is more than k times that of run 2. Equality is neither.
+ *
+ * The first entries of moved are exactly the channels that have moved, and those of noisy exactly
+ * the noisy ones, counted from 0, in channel order; the entries after them are as they were.
+ *
+ * Refusals, in this order: 14 if k is below 1 or above 16; 11 for either run, or if the runs have
+ * unequal channel counts; 4; then for channel 0, 1, ... in turn 1, 2 or 3 if its trace in run 1 is
+ * refused, then the same of run 2, then 13 if the runs differ in its number of samples, each with
+ * the channel as its value; last 10 with the number of channels, as each output needs an entry for
+ * each. */
+kovrelna_compared kovrelna_pedestals(const uint32_t *ticks1, size_t ticks1_len,
+                                     const int16_t *values1, size_t values1_len,
+                                     const size_t *lengths1, size_t lengths1_len,
+                                     const uint32_t *ticks2, size_t ticks2_len,
+                                     const int16_t *values2, size_t values2_len,
+                                     const size_t *lengths2, size_t lengths2_len,
+                                     kovrelna_tolerance tolerance, uint64_t k,
+                                     uint16_t *moved, size_t moved_len,
+                                     uint16_t *noisy, size_t noisy_len);
 
 /* ---- Range codes ----
  *

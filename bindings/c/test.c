@@ -2,7 +2,7 @@
  * says what differs and returns 1.
  *
  * Contents, in order: lent lists and where they are placed; the table of calls; cases of each call;
- * empty lists; the longest trace and crate; the version and the causes in words.
+ * empty lists; the longest trace, crate and pedestal runs; the version and the causes in words.
  *
  * Each case is called once in every placement of its lists: against a page that cannot be read or
  * written, between guard bytes, and at exact size on the heap. Where the program is built with
@@ -168,17 +168,32 @@ static void take_back(struct list *list, enum placement placement) {
 /* The answer of any call; fields that it does not have are 0. */
 struct answer {
   uint32_t number;
-  uint64_t value, passed, probes, p, q, samples, kept;
+  uint64_t value, passed, probes, p, q, samples, kept, moved, noisy;
 };
 
-static struct answer plain(kovrelna_answer from) {
-  struct answer answer = {from.number, from.value, 0, 0, 0, 0, 0, 0};
+/* Number and value; all else is 0. */
+static struct answer answered(uint32_t number, uint64_t value) {
+  struct answer answer = {number, value, 0, 0, 0, 0, 0, 0, 0, 0};
   return answer;
 }
 
-static struct answer verdict(kovrelna_verdict from) {
-  struct answer answer = {from.number, from.value, from.passed, 0, 0, 0, 0, 0};
+static struct answer with_ratio(uint32_t number, uint64_t value, uint64_t p, uint64_t q) {
+  struct answer answer = answered(number, value);
+  answer.p = p;
+  answer.q = q;
   return answer;
+}
+
+static struct answer with_passed(uint32_t number, uint64_t value, uint64_t passed) {
+  struct answer answer = answered(number, value);
+  answer.passed = passed;
+  return answer;
+}
+
+static struct answer plain(kovrelna_answer from) { return answered(from.number, from.value); }
+
+static struct answer verdict(kovrelna_verdict from) {
+  return with_passed(from.number, from.value, from.passed);
 }
 
 #define U8(k) (uint8_t *)lists[k].first, lists[k].len
@@ -203,7 +218,8 @@ static struct answer call_walk(const struct list *lists, kovrelna_tolerance tole
 static struct answer call_gallop(const struct list *lists, kovrelna_tolerance tolerance,
                                  size_t place) {
   kovrelna_galloped from = kovrelna_gallop(U32(0), I16(1), tolerance, U16(2));
-  struct answer answer = {from.number, from.value, 0, from.probes, 0, 0, 0, 0};
+  struct answer answer = answered(from.number, from.value);
+  answer.probes = from.probes;
   (void)place;
   return answer;
 }
@@ -217,9 +233,8 @@ static struct answer call_minimum(const struct list *lists, kovrelna_tolerance t
 static struct answer call_least(const struct list *lists, kovrelna_tolerance tolerance,
                                 size_t allowance) {
   kovrelna_closest from = kovrelna_least(U32(0), I16(1), allowance, U16(2));
-  struct answer answer = {from.number, from.value, 0, 0, from.p, from.q, 0, 0};
   (void)tolerance;
-  return answer;
+  return with_ratio(from.number, from.value, from.p, from.q);
 }
 
 static struct answer call_expand(const struct list *lists, kovrelna_tolerance tolerance,
@@ -242,9 +257,8 @@ static struct answer call_write(const struct list *lists, kovrelna_tolerance tol
 static struct answer call_read(const struct list *lists, kovrelna_tolerance tolerance,
                                size_t place) {
   kovrelna_content from = kovrelna_read(U8(0), U32(1), I16(2));
-  struct answer answer = {from.number, from.value, 0, 0, from.p, from.q, 0, 0};
   (void)tolerance, (void)place;
-  return answer;
+  return with_ratio(from.number, from.value, from.p, from.q);
 }
 
 static struct answer call_same(const struct list *lists, kovrelna_tolerance tolerance,
@@ -256,8 +270,20 @@ static struct answer call_same(const struct list *lists, kovrelna_tolerance tole
 static struct answer call_report(const struct list *lists, kovrelna_tolerance tolerance,
                                  size_t place) {
   kovrelna_totals from = kovrelna_report(U32(0), I16(1), LENGTHS(2), tolerance, SUMMARIES(3));
-  struct answer answer = {from.number, from.value, 0, 0, from.p, from.q, from.samples, from.kept};
+  struct answer answer = with_ratio(from.number, from.value, from.p, from.q);
+  answer.samples = from.samples;
+  answer.kept = from.kept;
   (void)place;
+  return answer;
+}
+
+static struct answer call_pedestals(const struct list *lists, kovrelna_tolerance tolerance,
+                                    size_t factor) {
+  kovrelna_compared from = kovrelna_pedestals(U32(0), I16(1), LENGTHS(2), U32(3), I16(4),
+                                              LENGTHS(5), tolerance, factor, U16(6), U16(7));
+  struct answer answer = answered(from.number, from.value);
+  answer.moved = from.moved;
+  answer.noisy = from.noisy;
   return answer;
 }
 
@@ -273,6 +299,14 @@ static const int16_t kept_values[] = {0, 1};
 /* That trace as a crate of one channel, and its row. */
 static const size_t one_length[] = {3};
 static const kovrelna_summary one_row[] = {{3, 2, 2, 3, 0}};
+/* Two pedestal runs of a crate. At tolerance 1/2 and noise factor 2 channel 0 has moved: its sums
+ * are 48 and 44. Channel 1 is noisy: 4 * 91 - 19 * 19 is 3, and 0 in the run before. Channel 2 is
+ * at both limits: 2 * 2 is 1 * 4, and 4 * 8 - 4 * 4 is 4 * (4 * 2 - 2 * 2). */
+static const uint32_t four_each[] = {0, 1, 2, 3, 0, 1, 2, 3, 0, 1, 2, 3};
+static const int16_t today[] = {11, 13, 11, 13, -5, -5, -5, -4, 0, 2, 0, 2};
+static const int16_t before[] = {10, 12, 10, 12, -5, -5, -5, -5, 0, 1, 0, 1};
+static const size_t fours[] = {4, 4, 4};
+static const uint16_t channel_0[] = {0}, channel_1[] = {1};
 /* The codes of the seventh figure, and their values. */
 static const uint8_t some_codes[] = {31, 32, 63, 64, 255};
 static const int16_t code_values[] = {31, 32, 94, 96, 8032};
@@ -301,8 +335,8 @@ struct parameter {
 #define OUT(len, list, number, value)                                                              \
   { sizeof((list)[0]), len, NULL, list, COUNT(list), number, value }
 
-/* Every call that is lent lists, as it is made on the figures at tolerance 4/6, place 0 and
- * allowance 2, and its answer. */
+/* Every call that is lent lists, as it is made on the figures at tolerance 4/6, place 0, and
+ * allowance or noise factor 2, and its answer. */
 enum {
   JUDGE_CALL,
   WALK,
@@ -314,9 +348,10 @@ enum {
   WRITE_CALL,
   READ_CALL,
   SAME_CALL,
-  REPORT
+  REPORT,
+  PEDESTALS
 };
-enum { LISTS = 4 };
+enum { LISTS = 8 };
 static const struct call {
   const char *name;
   struct answer (*make)(const struct list *, kovrelna_tolerance, size_t);
@@ -326,40 +361,44 @@ static const struct call {
 } calls[] = {
     {"judge", call_judge, 3,
      {IN(uneven, 1, 0), IN(step, 1, 0), IN(pair, 6, 0)},
-     {0, 0, 1, 0, 0, 0, 0, 0}},
+     {0, 0, 1, 0, 0, 0, 0, 0, 0, 0}},
     {"walk", call_walk, 3,
      {IN(uneven, 1, 0), IN(step, 1, 0), OUT(3, pair, 10, 3)},
-     {0, 2, 0, 0, 0, 0, 0, 0}},
+     {0, 2, 0, 0, 0, 0, 0, 0, 0, 0}},
     {"gallop", call_gallop, 3,
      {IN(uneven, 1, 0), IN(step, 1, 0), OUT(3, pair, 10, 3)},
-     {0, 2, 0, 3, 0, 0, 0, 0}},
+     {0, 2, 0, 3, 0, 0, 0, 0, 0, 0}},
     {"minimum", call_minimum, 3,
      {IN(uneven, 1, 0), IN(step, 1, 0), OUT(3, pair, 10, 3)},
-     {0, 2, 0, 0, 0, 0, 0, 0}},
+     {0, 2, 0, 0, 0, 0, 0, 0, 0, 0}},
     {"least", call_least, 3,
      {IN(uneven, 1, 0), IN(step, 1, 0), OUT(3, pair, 10, 3)},
-     {0, 2, 0, 0, 2, 3, 0, 0}},
+     {0, 2, 0, 0, 2, 3, 0, 0, 0, 0}},
     {"expand", call_expand, 2,
      {IN(some_codes, 1, 0), OUT(5, code_values, 10, 5)},
-     {0, 5, 0, 0, 0, 0, 0, 0}},
+     {0, 5, 0, 0, 0, 0, 0, 0, 0, 0}},
     {"expand_with", call_expand_with, 3,
      {IN(some_codes, 1, 0), IN(own_table, 12, 0), OUT(5, own_values, 10, 5)},
-     {0, 5, 0, 0, 0, 0, 0, 0}},
+     {0, 5, 0, 0, 0, 0, 0, 0, 0, 0}},
     {"write", call_write, 4,
      {IN(uneven, 1, 0), IN(step, 1, 0), IN(pair, 6, 0),
       OUT(22, figure, 10, 22)},
-     {0, 22, 0, 0, 0, 0, 0, 0}},
+     {0, 22, 0, 0, 0, 0, 0, 0, 0, 0}},
     {"read", call_read, 3,
      {IN(figure, 8, 0), OUT(2, kept_ticks, 10, 2), OUT(2, kept_values, 10, 2)},
-     {0, 2, 0, 0, 2, 3, 0, 0}},
-    {"same", call_same, 2, {IN(figure, 8, 0), IN(figure, 9, 0)}, {0, 0, 1, 0, 0, 0, 0, 0}},
+     {0, 2, 0, 0, 2, 3, 0, 0, 0, 0}},
+    {"same", call_same, 2, {IN(figure, 8, 0), IN(figure, 9, 0)}, {0, 0, 1, 0, 0, 0, 0, 0, 0, 0}},
     {"report", call_report, 4,
      {IN(uneven, 11, 0), IN(step, 11, 0), IN(one_length, 11, 0), OUT(1, one_row, 10, 1)},
-     {0, 0, 0, 0, 2, 3, 3, 2}},
+     {0, 0, 0, 0, 2, 3, 3, 2, 0, 0}},
+    {"pedestals", call_pedestals, 8,
+     {IN(four_each, 11, 0), IN(today, 11, 0), IN(fours, 11, 0), IN(four_each, 11, 0),
+      IN(before, 11, 0), IN(fours, 11, 0), OUT(3, channel_0, 10, 3), OUT(3, channel_1, 10, 3)},
+     {0, 0, 0, 0, 0, 0, 0, 0, 1, 1}},
 };
 
-/* Makes the call in every placement, with this place or allowance: it answers so, and the lists
- * then hold what they are to. */
+/* Makes the call in every placement, with this place, allowance or noise factor: it answers so, and
+ * the lists then hold what they are to. */
 static void run(int line, int which, struct list *lists, kovrelna_tolerance tolerance,
                 size_t number, struct answer expected) {
   const struct call *call = &calls[which];
@@ -379,6 +418,8 @@ static void run(int line, int which, struct list *lists, kovrelna_tolerance tole
     differ("q", answer.q, expected.q);
     differ("samples", answer.samples, expected.samples);
     differ("kept", answer.kept, expected.kept);
+    differ("moved", answer.moved, expected.moved);
+    differ("noisy", answer.noisy, expected.noisy);
     for (k = 0; k < call->lists; k++) take_back(&lists[k], (enum placement)placement);
   }
 }
@@ -399,7 +440,7 @@ static void hold(int line, kovrelna_tolerance tolerance, uint32_t number, uint64
 static void judge(int line, const uint32_t *ticks, size_t ticks_len, const int16_t *values,
                   size_t values_len, const uint16_t *list, size_t list_len,
                   kovrelna_tolerance tolerance, uint32_t number, uint32_t passed, uint64_t value) {
-  struct answer expected = {number, value, passed, 0, 0, 0, 0, 0};
+  struct answer expected = with_passed(number, value, passed);
   struct list lists[3];
   lists[0] = input(ticks, ticks_len, sizeof(uint32_t));
   lists[1] = input(values, values_len, sizeof(int16_t));
@@ -428,8 +469,9 @@ static void reduce(int line, int method, const uint32_t *ticks, size_t ticks_len
                    const int16_t *values, size_t values_len, kovrelna_tolerance tolerance,
                    size_t out_len, uint32_t number, uint64_t value, uint64_t probes,
                    const uint16_t *list) {
-  struct answer expected = {number, value, 0, probes, 0, 0, 0, 0};
+  struct answer expected = answered(number, value);
   struct list lists[3];
+  expected.probes = probes;
   lists[0] = input(ticks, ticks_len, sizeof(uint32_t));
   lists[1] = input(values, values_len, sizeof(int16_t));
   lists[2] = number != 0 ? output(out_len, sizeof(uint16_t))
@@ -460,7 +502,7 @@ static void refuse(int line, const uint32_t *ticks, size_t ticks_len, const int1
 static void least(int line, const uint32_t *ticks, size_t ticks_len, const int16_t *values,
                   size_t values_len, size_t allowance, size_t out_len, uint32_t number,
                   uint64_t value, uint64_t p, uint64_t q, const uint16_t *list) {
-  struct answer expected = {number, value, 0, 0, p, q, 0, 0};
+  struct answer expected = with_ratio(number, value, p, q);
   struct list lists[3];
   lists[0] = input(ticks, ticks_len, sizeof(uint32_t));
   lists[1] = input(values, values_len, sizeof(int16_t));
@@ -482,7 +524,7 @@ static void least(int line, const uint32_t *ticks, size_t ticks_len, const int16
 /* With number 0 expand writes these values, `value` of them. */
 static void expand(int line, const uint8_t *codes, size_t codes_len, size_t out_len,
                    uint32_t number, uint64_t value, const int16_t *values) {
-  struct answer expected = {number, value, 0, 0, 0, 0, 0, 0};
+  struct answer expected = answered(number, value);
   struct list lists[2];
   lists[0] = input(codes, codes_len, 1);
   lists[1] = number != 0 ? output(out_len, sizeof(int16_t))
@@ -494,7 +536,7 @@ static void expand(int line, const uint8_t *codes, size_t codes_len, size_t out_
 static void expand_with(int line, const uint8_t *codes, size_t codes_len, const int16_t *table,
                         size_t table_len, size_t out_len, uint32_t number, uint64_t value,
                         const int16_t *values) {
-  struct answer expected = {number, value, 0, 0, 0, 0, 0, 0};
+  struct answer expected = answered(number, value);
   struct list lists[3];
   lists[0] = input(codes, codes_len, 1);
   lists[1] = input(table, table_len, sizeof(int16_t));
@@ -521,7 +563,7 @@ static void write_record(int line, const uint32_t *ticks, size_t ticks_len, cons
                          size_t values_len, const uint16_t *list, size_t list_len,
                          kovrelna_tolerance tolerance, size_t size, size_t place, uint32_t number,
                          uint64_t value, const uint8_t *record) {
-  struct answer expected = {number, value, 0, 0, 0, 0, 0, 0};
+  struct answer expected = answered(number, value);
   struct list lists[4];
   lists[0] = input(ticks, ticks_len, sizeof(uint32_t));
   lists[1] = input(values, values_len, sizeof(int16_t));
@@ -538,7 +580,7 @@ static void write_record(int line, const uint32_t *ticks, size_t ticks_len, cons
 static void read_record(int line, const uint8_t *record, size_t record_len, size_t ticks_len,
                         size_t values_len, uint32_t number, uint64_t value, uint64_t p, uint64_t q,
                         const uint32_t *ticks, const int16_t *values) {
-  struct answer expected = {number, value, 0, 0, p, q, 0, 0};
+  struct answer expected = with_ratio(number, value, p, q);
   size_t count = number != 0 ? 0 : (size_t)value;
   struct list lists[3];
   lists[0] = input(record, record_len, 1);
@@ -557,7 +599,7 @@ static void faulty(int line, const uint8_t *record, size_t length, uint64_t byte
 
 static void same(int line, const uint8_t *first, size_t first_len, const uint8_t *second,
                  size_t second_len, uint32_t number, uint32_t passed, uint64_t value) {
-  struct answer expected = {number, value, passed, 0, 0, 0, 0, 0};
+  struct answer expected = with_passed(number, value, passed);
   struct list lists[2];
   lists[0] = input(first, first_len, 1);
   lists[1] = input(second, second_len, 1);
@@ -567,27 +609,48 @@ static void same(int line, const uint8_t *first, size_t first_len, const uint8_t
 #define SAME(first, first_len, second, second_len, number, passed, value)                         \
   same(__LINE__, first, first_len, second, second_len, number, passed, value)
 
+/* A crate as it is lent. */
+struct crate {
+  const uint32_t *ticks;
+  size_t ticks_len;
+  const int16_t *values;
+  size_t values_len;
+  const size_t *lengths;
+  size_t lengths_len;
+};
+
+static struct crate crate(const uint32_t *ticks, size_t ticks_len, const int16_t *values,
+                          size_t values_len, const size_t *lengths, size_t lengths_len) {
+  struct crate crate = {ticks, ticks_len, values, values_len, lengths, lengths_len};
+  return crate;
+}
+
+#define CRATE(ticks, values, lengths)                                                              \
+  crate(ticks, COUNT(ticks), values, COUNT(values), lengths, COUNT(lengths))
+
+/* The crate's three lists. */
+static void inputs(struct list *lists, struct crate crate) {
+  lists[0] = input(crate.ticks, crate.ticks_len, sizeof(uint32_t));
+  lists[1] = input(crate.values, crate.values_len, sizeof(int16_t));
+  lists[2] = input(crate.lengths, crate.lengths_len, sizeof(size_t));
+}
+
 /* With number 0 report writes these rows, one for each length, and these are the totals. */
 static void report(int line, const uint32_t *ticks, size_t ticks_len, const int16_t *values,
                    size_t values_len, const size_t *lengths, size_t lengths_len,
                    kovrelna_tolerance tolerance, size_t out_len, struct answer expected,
                    const kovrelna_summary *rows) {
   struct list lists[4];
-  lists[0] = input(ticks, ticks_len, sizeof(uint32_t));
-  lists[1] = input(values, values_len, sizeof(int16_t));
-  lists[2] = input(lengths, lengths_len, sizeof(size_t));
+  inputs(lists, crate(ticks, ticks_len, values, values_len, lengths, lengths_len));
   lists[3] = expected.number != 0 ? output(out_len, sizeof(kovrelna_summary))
                                   : filled(out_len, sizeof(kovrelna_summary), rows, 0, lengths_len);
   run(line, REPORT, lists, tolerance, 0, expected);
 }
 
 static struct answer totals(uint64_t samples, uint64_t kept, uint64_t p, uint64_t q) {
-  struct answer answer = {0, 0, 0, 0, p, q, samples, kept};
-  return answer;
-}
-
-static struct answer refusal(uint32_t number, uint64_t value) {
-  struct answer answer = {number, value, 0, 0, 0, 0, 0, 0};
+  struct answer answer = with_ratio(0, 0, p, q);
+  answer.samples = samples;
+  answer.kept = kept;
   return answer;
 }
 
@@ -599,10 +662,49 @@ static struct answer refusal(uint32_t number, uint64_t value) {
 #define NO_REPORT(ticks, ticks_len, values, values_len, lengths, lengths_len, tolerance, number)   \
   do {                                                                                             \
     report(__LINE__, ticks, ticks_len, values, values_len, lengths, lengths_len, tolerance, 0,     \
-           refusal(number, 0), NULL);                                                              \
+           answered(number, 0), NULL);                                                             \
     report(__LINE__, ticks, ticks_len, values, values_len, lengths, lengths_len, tolerance, 70,    \
-           refusal(number, 0), NULL);                                                              \
+           answered(number, 0), NULL);                                                             \
   } while (0)
+
+/* pedestals writes these channels. */
+static void pedestals(int line, struct crate one, struct crate two, kovrelna_tolerance tolerance,
+                      size_t factor, size_t moved_len, size_t noisy_len, struct answer expected,
+                      const uint16_t *moved, const uint16_t *noisy) {
+  struct list lists[8];
+  inputs(lists, one);
+  inputs(lists + 3, two);
+  lists[6] = filled(moved_len, sizeof(uint16_t), moved, 0, (size_t)expected.moved);
+  lists[7] = filled(noisy_len, sizeof(uint16_t), noisy, 0, (size_t)expected.noisy);
+  run(line, PEDESTALS, lists, tolerance, factor, expected);
+}
+
+/* These channels have moved and these are noisy, with outputs of exactly enough room or more. */
+static void compared(int line, struct crate one, struct crate two, kovrelna_tolerance tolerance,
+                     size_t factor, const uint16_t *moved, size_t moved_count,
+                     const uint16_t *noisy, size_t noisy_count) {
+  struct answer expected = answered(0, 0);
+  size_t spare;
+  expected.moved = moved_count;
+  expected.noisy = noisy_count;
+  for (spare = 0; spare < 4; spare++)
+    pedestals(line, one, two, tolerance, factor, one.lengths_len + spare % 2,
+              one.lengths_len + spare / 2, expected, moved, noisy);
+}
+
+#define COMPARED(one, two, tolerance, factor, moved, moved_count, noisy, noisy_count)              \
+  compared(__LINE__, one, two, tolerance, factor, moved, moved_count, noisy, noisy_count)
+
+/* Refused, without outputs and with them. */
+static void not_compared(int line, struct crate one, struct crate two,
+                         kovrelna_tolerance tolerance, size_t factor, uint32_t number,
+                         uint64_t value) {
+  pedestals(line, one, two, tolerance, factor, 0, 0, answered(number, value), NULL, NULL);
+  pedestals(line, one, two, tolerance, factor, 70, 70, answered(number, value), NULL, NULL);
+}
+
+#define NOT_COMPARED(one, two, tolerance, factor, number, value)                                   \
+  not_compared(__LINE__, one, two, tolerance, factor, number, value)
 
 /* The record is cut off after each of its bytes: the fault is at the command that is cut, or at the
  * end where one is missing. `commands` has the first byte of each. */
@@ -981,7 +1083,7 @@ static void records(void) {
   SAME(figure, 15, figure, 21, KOVRELNA_REFUSED_RECORD, 0, 9);
 }
 
-static void summary_layout(void) {
+static void layouts(void) {
   now_name = "layout of a summary";
   now_line = __LINE__;
   differ("size", sizeof(kovrelna_summary), 40);
@@ -998,6 +1100,12 @@ static void summary_layout(void) {
   differ("kept", offsetof(kovrelna_totals, kept), 24);
   differ("p", offsetof(kovrelna_totals, p), 32);
   differ("q", offsetof(kovrelna_totals, q), 40);
+  now_name = "layout of a comparison";
+  differ("size", sizeof(kovrelna_compared), 32);
+  differ("number", offsetof(kovrelna_compared, number), 0);
+  differ("value", offsetof(kovrelna_compared, value), 8);
+  differ("moved", offsetof(kovrelna_compared, moved), 16);
+  differ("noisy", offsetof(kovrelna_compared, noisy), 24);
 }
 
 static void reports(void) {
@@ -1049,7 +1157,7 @@ static void reports(void) {
   NO_REPORT(ticks, 8, values, 8, parts, 4, bad, KOVRELNA_REFUSED_TOLERANCE);
   for (out_len = 0; out_len < 4; out_len++)
     report(__LINE__, ticks, 8, values, 8, parts, 4, two, out_len,
-           refusal(KOVRELNA_REFUSED_ROOM, 4), NULL);
+           answered(KOVRELNA_REFUSED_ROOM, 4), NULL);
 
   /* 64 channels of 3 samples, of which every third has a tick that does not rise. */
   for (k = 0; k < CHANNELS + 1; k++) {
@@ -1073,7 +1181,7 @@ static void reports(void) {
   report(__LINE__, many_ticks, 3 * CHANNELS, many_values, 3 * CHANNELS, many, CHANNELS,
          kovrelna_ratio(32, 1), CHANNELS + 1, totals(3 * good, kept, 31, 1), many_rows);
   report(__LINE__, many_ticks, 3 * CHANNELS, many_values, 3 * CHANNELS, many, CHANNELS, two,
-         CHANNELS - 1, refusal(KOVRELNA_REFUSED_ROOM, CHANNELS), NULL);
+         CHANNELS - 1, answered(KOVRELNA_REFUSED_ROOM, CHANNELS), NULL);
   NO_REPORT(many_ticks, SAMPLES, many_values, SAMPLES, many, CHANNELS + 1, bad,
             KOVRELNA_REFUSED_CRATE);
   NO_REPORT(many_ticks, SAMPLES, many_values, SAMPLES, many, CHANNELS + 1, two,
@@ -1082,8 +1190,136 @@ static void reports(void) {
   NO_REPORT(NULL, 0, NULL, 0, huge, CHANNELS, two, KOVRELNA_REFUSED_CRATE);
 }
 
-/* Where a refusal comes in the order of the checks: by its number, only 11 before all others and 12
- * right after 1. */
+static void pedestal_runs(void) {
+  const uint16_t all[] = {0, 1, 2}, apart[] = {0, 2}, later[] = {1, 2}, channel_2[] = {2};
+  /* Ticks of the greatest span, and the last ones. */
+  const uint32_t others[] = {7, 9, 8000, 1048582, 0, 1, 2, 1048575, UINT32_MAX - 1048575,
+                             UINT32_MAX - 2, UINT32_MAX - 1, UINT32_MAX};
+  /* Channels of 1, 3 and 2 samples. In the first the values are 65,535 apart; the third is 15 times
+   * as wide in one run as in the other. */
+  const uint32_t six[] = {5, 5, 6, 7, 0, 9};
+  const int16_t widest[] = {32767, 8, 8, 8, -32768, 32767},
+                narrow[] = {-32768, 7, 8, 9, -2184, 2185};
+  const size_t mixed[] = {1, 3, 2};
+  struct crate one = CRATE(four_each, today, fours), two = CRATE(four_each, before, fours),
+               wide = CRATE(six, widest, mixed), other = CRATE(six, narrow, mixed);
+  kovrelna_tolerance half = kovrelna_ratio(1, 2), zero = kovrelna_ratio(0, 1);
+
+  COMPARED(one, two, half, 2, channel_0, 1, channel_1, 1);
+  COMPARED(one, two, kovrelna_ratio(3, 6), 2, channel_0, 1, channel_1, 1);
+  COMPARED(one, two, kovrelna_counts(0.5), 2, channel_0, 1, channel_1, 1);
+  COMPARED(one, two, kovrelna_noise(0.25, 2.0), 2, channel_0, 1, channel_1, 1);
+  COMPARED(one, CRATE(others, before, fours), half, 2, channel_0, 1, channel_1, 1);
+  COMPARED(CRATE(others, today, fours), two, half, 2, channel_0, 1, channel_1, 1);
+  /* The other way round, and a run with itself. */
+  COMPARED(two, one, half, 2, channel_0, 1, NULL, 0);
+  COMPARED(one, one, zero, 1, NULL, 0, NULL, 0);
+  /* The sums differ by 4, 1 and 2; the squared widths are 16 and 16, 3 and 0, 16 and 4. */
+  COMPARED(one, two, kovrelna_ratio(1, 1), 2, NULL, 0, channel_1, 1);
+  COMPARED(one, two, kovrelna_ratio(1048574, 1048575), 2, channel_0, 1, channel_1, 1);
+  COMPARED(one, two, kovrelna_ratio(1, 4), 1, apart, 2, later, 2);
+  COMPARED(one, two, kovrelna_ratio(262143, 1048575), 3, all, 3, channel_1, 1);
+  COMPARED(one, two, zero, 16, all, 3, channel_1, 1);
+
+  COMPARED(wide, other, kovrelna_ratio(65535, 1), 15, NULL, 0, NULL, 0);
+  COMPARED(wide, other, kovrelna_counts(65534.984375), 14, channel_0, 1, channel_2, 1);
+  COMPARED(other, wide, kovrelna_counts(65534.984375), 1, channel_0, 1, channel_1, 1);
+}
+
+static void no_comparison(void) {
+  enum { CHANNELS = KOVRELNA_CHANNELS_MAX };
+  /* Runs, with what is wrong with the trace of each channel. */
+  static const struct {
+    uint32_t ticks[12];
+    size_t lengths[3];
+    uint32_t numbers[3];
+  } runs[] = {
+      {{0, 1, 2, 3, 4, 5, 6, 7, 8, 9, 10, 11}, {4, 4, 4}, {0, 0, 0}},
+      {{0, 1, 2, 3, 4, 5, 6, 7, 8, 9, 10, 11}, {3, 5, 4}, {0, 0, 0}},
+      {{0, 1, 2, 3, 4, 5, 6, 7, 8, 9, 10, 11}, {4, 3, 5}, {0, 0, 0}},
+      {{0, 1, 2, 3, 4, 5, 6, 7, 8, 9, 10, 11}, {0, 8, 4}, {1, 0, 0}},
+      {{0, 1, 2, 3, 4, 5, 6, 7, 8, 9, 10, 11}, {4, 0, 8}, {0, 1, 0}},
+      {{0, 1, 2, 3, 4, 5, 6, 7, 8, 9, 10, 11}, {4, 8, 0}, {0, 0, 1}},
+      {{0, 0, 2, 3, 4, 5, 6, 7, 8, 9, 10, 11}, {4, 4, 4}, {2, 0, 0}},
+      {{0, 1, 2, 3, 4, 5, 6, 6, 8, 9, 10, 11}, {4, 4, 4}, {0, 2, 0}},
+      {{0, 1, 2, 3, 4, 5, 6, 7, 8, 9, 10, 0}, {4, 3, 5}, {0, 0, 2}},
+      {{0, 1, 2, 1048576, 4, 5, 6, 7, 8, 9, 10, 11}, {4, 4, 4}, {3, 0, 0}},
+      {{0, 1, 2, 3, 0, 1048576, 1048577, 1048578, 8, 9, 10, 11}, {4, 4, 4}, {0, 3, 0}},
+      {{0, 1, 2, 3, 4, 5, 6, 7, 8, 9, 10, UINT32_MAX}, {3, 5, 4}, {0, 0, 3}},
+      /* 2 before 3 in a trace; faults of every channel. */
+      {{0, 1, 2, 3, 0, 1048576, 1048577, 1048577, 8, 8, 8, 8}, {4, 4, 4}, {0, 2, 2}},
+      {{9, 1, 2, 3, 0, 1048576, 1048577, 1048578, 8, 8, 8, 8}, {4, 4, 4}, {2, 3, 2}},
+  };
+  static const int16_t flat[12] = {0};
+  static uint32_t ticks[CHANNELS + 1];
+  static int16_t values[CHANNELS + 1];
+  static size_t ones[CHANNELS + 1], zeros[CHANNELS + 1];
+  /* Sums that are 11 and 13, and one that would come round to 12 in the type's range. */
+  const size_t less[] = {4, 4, 3}, more[] = {4, 4, 5}, round[] = {SIZE_MAX, 9, 4}, pairs[] = {8, 4};
+  const size_t factors[] = {0, 17, (size_t)UINT32_MAX + 2, SIZE_MAX};
+  struct crate good = CRATE(runs[0].ticks, flat, fours), stuck = CRATE(runs[13].ticks, flat, fours),
+               fewer = CRATE(runs[0].ticks, flat, pairs),
+               most = crate(ticks, CHANNELS, values, CHANNELS, ones, CHANNELS), bad[9];
+  kovrelna_tolerance half = kovrelna_ratio(1, 2), none = kovrelna_ratio(0, 0);
+  size_t i, j, k;
+  for (k = 0; k < COUNT(ones); k++) ones[k] = 1;
+
+  /* 4; then channel by channel 1, 2 or 3 of run 1 and of run 2, and 13. */
+  for (i = 0; i < COUNT(runs); i++) {
+    struct crate one = CRATE(runs[i].ticks, flat, runs[i].lengths);
+    for (j = 0; j < COUNT(runs); j++) {
+      struct crate two = CRATE(runs[j].ticks, flat, runs[j].lengths);
+      uint32_t number = 0;
+      for (k = 0; k < 3 && number == 0; k++)
+        number = runs[i].numbers[k] != 0                    ? runs[i].numbers[k]
+                 : runs[j].numbers[k] != 0                  ? runs[j].numbers[k]
+                 : runs[i].lengths[k] != runs[j].lengths[k] ? KOVRELNA_REFUSED_SAMPLES
+                                                            : 0;
+      if (number != 0)
+        NOT_COMPARED(one, two, half, 1, number, k - 1);
+      else
+        COMPARED(one, two, half, 1, NULL, 0, NULL, 0);
+      NOT_COMPARED(one, two, none, 1, KOVRELNA_REFUSED_TOLERANCE, 0);
+    }
+  }
+
+  /* 14, then 11 of either run or of both; later rows fail too. */
+  bad[0] = crate(stuck.ticks, 12, flat, 12, NULL, 0);
+  bad[1] = crate(stuck.ticks, 12, flat, 12, less, 3);
+  bad[2] = crate(stuck.ticks, 12, flat, 12, more, 3);
+  bad[3] = crate(stuck.ticks, 12, flat, 12, round, 3);
+  bad[4] = crate(stuck.ticks, 12, flat, 12, fours, 2);
+  bad[5] = crate(stuck.ticks, 11, flat, 12, fours, 3);
+  bad[6] = crate(stuck.ticks, 12, flat, 11, fours, 3);
+  bad[7] = crate(NULL, 0, NULL, 0, zeros, CHANNELS + 1);
+  bad[8] = CRATE(ticks, values, ones);
+  for (i = 0; i < COUNT(bad); i++) {
+    for (j = 0; j < 6; j++) {
+      struct crate one = j % 3 == 1 ? good : bad[i], two = j % 3 == 2 ? good : bad[i];
+      kovrelna_tolerance tolerance = j < 3 ? half : none;
+      NOT_COMPARED(one, two, tolerance, 1, KOVRELNA_REFUSED_CRATE, 0);
+      NOT_COMPARED(one, two, tolerance, 17, KOVRELNA_REFUSED_FACTOR, 0);
+    }
+  }
+  /* Unequal channel counts. */
+  NOT_COMPARED(good, fewer, half, 1, KOVRELNA_REFUSED_CRATE, 0);
+  NOT_COMPARED(fewer, good, none, 1, KOVRELNA_REFUSED_CRATE, 0);
+  NOT_COMPARED(most, crate(ticks, 1, values, 1, ones, 1), half, 1, KOVRELNA_REFUSED_CRATE, 0);
+  COMPARED(most, most, half, 1, NULL, 0, NULL, 0);
+  for (k = 0; k < COUNT(factors); k++) {
+    NOT_COMPARED(good, good, half, factors[k], KOVRELNA_REFUSED_FACTOR, 0);
+    NOT_COMPARED(stuck, good, none, factors[k], KOVRELNA_REFUSED_FACTOR, 0);
+  }
+  /* Last 10, of either output or of both. */
+  for (k = 0; k < 3; k++) {
+    pedestals(__LINE__, good, good, half, 16, k, 3, answered(KOVRELNA_REFUSED_ROOM, 3), NULL, NULL);
+    pedestals(__LINE__, good, good, half, 16, 3, k, answered(KOVRELNA_REFUSED_ROOM, 3), NULL, NULL);
+    pedestals(__LINE__, good, good, half, 16, k, k, answered(KOVRELNA_REFUSED_ROOM, 3), NULL, NULL);
+  }
+}
+
+/* Where a refusal that an empty list may cause comes in the order of the checks: by its number,
+ * only 11 before all others and 12 right after 1. */
 static uint32_t place_of(uint32_t number) {
   return number == KOVRELNA_REFUSED_CRATE   ? 0
          : number == KOVRELNA_REFUSED_TABLE ? 2 * KOVRELNA_REFUSED_LENGTH + 1
@@ -1096,16 +1332,14 @@ static void empty_lists(void) {
   for (which = 0; which < COUNT(calls); which++) {
     const struct call *call = &calls[which];
     for (set = 0; set < (size_t)1 << call->lists; set++) {
-      struct answer expected = call->answer, none = {0, 0, 0, 0, 0, 0, 0, 0};
+      struct answer expected = call->answer;
       struct list lists[LISTS];
       for (k = 0; k < call->lists; k++) {
         const struct parameter *parameter = &call->parameters[k];
         if ((set >> k & 1) == 0 ||
             (expected.number != 0 && place_of(parameter->number) >= place_of(expected.number)))
           continue;
-        expected = none;
-        expected.number = parameter->number;
-        expected.value = parameter->value;
+        expected = answered(parameter->number, parameter->value);
       }
       for (k = 0; k < call->lists; k++) {
         const struct parameter *parameter = &call->parameters[k];
@@ -1115,7 +1349,8 @@ static void empty_lists(void) {
                                               : filled(len, parameter->size, parameter->written, 0,
                                                        parameter->count);
       }
-      run(__LINE__, (int)which, lists, kovrelna_ratio(4, 6), which == LEAST ? 2 : 0, expected);
+      run(__LINE__, (int)which, lists, kovrelna_ratio(4, 6),
+          which == LEAST || which == PEDESTALS ? 2 : 0, expected);
     }
   }
 }
@@ -1177,6 +1412,44 @@ static void longest_crate(void) {
          2, totals(SAMPLES, SAMPLES, 0, 1), rows);
 }
 
+/* Two runs of 64 channels of 4,096 samples: at the limits of both tests, and all at the ends of the
+ * range; then with a sample too many in channel 1. */
+static void longest_runs(void) {
+  enum { CHANNELS = KOVRELNA_CHANNELS_MAX, SAMPLES = KOVRELNA_SAMPLES_MAX };
+  static uint32_t ticks[CHANNELS * SAMPLES];
+  static int16_t values1[CHANNELS * SAMPLES], values2[CHANNELS * SAMPLES];
+  static size_t parts[CHANNELS];
+  uint16_t all[CHANNELS], moved[CHANNELS], noisy[CHANNELS];
+  struct crate one = CRATE(ticks, values1, parts), two = CRATE(ticks, values2, parts), longer;
+  const uint64_t greatest = 65535u * UINT64_C(1048575);
+  size_t k, moved_count = 0, noisy_count = 0;
+  for (k = 0; k < CHANNELS; k++) {
+    parts[k] = SAMPLES;
+    all[k] = (uint16_t)k;
+    if (k % 3 == 2) noisy[noisy_count++] = (uint16_t)k;
+    if (k % 3 == 2 && k % 2 == 0) moved[moved_count++] = (uint16_t)k;
+  }
+  /* Half the samples are 65,519, 65,520 or 65,521 above the others, and in the run before 4,095. */
+  for (k = 0; k < CHANNELS * SAMPLES; k++) {
+    int channel = (int)(k / SAMPLES), upper = (int)(k % 2);
+    ticks[k] = (uint32_t)(256 * (k % SAMPLES));
+    values1[k] = (int16_t)(-32768 + upper * (65519 + channel % 3));
+    values2[k] = (int16_t)(-32768 + upper * 4095 + channel % 2);
+  }
+  COMPARED(one, two, kovrelna_ratio(61425, 2), 16, moved, moved_count, noisy, noisy_count);
+  COMPARED(one, two, kovrelna_ratio(61421, 2), 15, all, CHANNELS, all, CHANNELS);
+  COMPARED(two, one, kovrelna_ratio(61427, 2), 1, NULL, 0, NULL, 0);
+  for (k = 0; k < CHANNELS * SAMPLES; k++) {
+    values1[k] = 32767;
+    values2[k] = -32768;
+  }
+  COMPARED(one, two, kovrelna_ratio(greatest, 1048575), 16, NULL, 0, NULL, 0);
+  COMPARED(two, one, kovrelna_ratio(greatest - 1, 1048575), 1, all, CHANNELS, NULL, 0);
+  longer = crate(ticks, 2 * SAMPLES + 1, values1, 2 * SAMPLES + 1, parts, 2);
+  parts[1] = SAMPLES + 1;
+  NOT_COMPARED(longer, longer, kovrelna_ratio(0, 1), 1, KOVRELNA_REFUSED_LENGTH, 1);
+}
+
 /* The version's numbers are those of its text. Every cause has words of its own. */
 static void words(void) {
   /* By a pointer that no compiler sees through, since some warn of words that always differ. */
@@ -1191,7 +1464,7 @@ static void words(void) {
   now_name = "cause";
   differ("no refusal", strcmp(cause(0), "none") != 0, 0);
   differ("no refusal", strcmp(cause(UINT32_MAX), "none") != 0, 0);
-  for (number = 0; number <= KOVRELNA_REFUSED_TABLE; number++)
+  for (number = 0; number <= KOVRELNA_REFUSED_FACTOR; number++)
     for (other = 0; other < number; other++)
       differ("the same words", strcmp(cause(number), cause(other)) == 0, 0);
 }
@@ -1208,11 +1481,14 @@ int main(void) {
   codes();
   tables();
   records();
-  summary_layout();
+  layouts();
   reports();
+  pedestal_runs();
+  no_comparison();
   empty_lists();
   longest();
   longest_crate();
+  longest_runs();
   words();
   if (failures != 0) return 1;
   puts("c: ok");
