@@ -1,6 +1,6 @@
 //! The C interface, call by call, as safe functions. `kovrelna.h` describes the structs.
 
-use crate::Summary;
+use crate::{Run, Summary};
 
 #[repr(C)]
 pub struct Answer {
@@ -63,6 +63,14 @@ pub struct Report {
     pub kept: u64,
     pub p: u64,
     pub q: u64,
+}
+
+#[repr(C)]
+pub struct Compared {
+    pub number: u32,
+    pub value: u64,
+    pub moved: u64,
+    pub noisy: u64,
 }
 
 extern "C" {
@@ -159,6 +167,26 @@ extern "C" {
         out: *mut Summary,
         out_len: usize,
     ) -> Report;
+    fn kovrelna_pedestals(
+        ticks1: *const u32,
+        ticks1_len: usize,
+        values1: *const i16,
+        values1_len: usize,
+        lengths1: *const usize,
+        lengths1_len: usize,
+        ticks2: *const u32,
+        ticks2_len: usize,
+        values2: *const i16,
+        values2_len: usize,
+        lengths2: *const usize,
+        lengths2_len: usize,
+        tolerance: Tolerance,
+        k: u64,
+        moved: *mut u16,
+        moved_len: usize,
+        noisy: *mut u16,
+        noisy_len: usize,
+    ) -> Compared;
 }
 
 // Each pointer and length passed below are those of one slice, which is aligned, valid for reads and
@@ -320,6 +348,39 @@ pub fn report(
             tolerance,
             out.as_mut_ptr(),
             out.len(),
+        )
+    }
+}
+
+pub fn pedestals(
+    today: Run,
+    before: Run,
+    tolerance: Tolerance,
+    k: u64,
+    moved: &mut [u16],
+    noisy: &mut [u16],
+) -> Compared {
+    // SAFETY: as above; the outputs are `moved` and `noisy`.
+    unsafe {
+        kovrelna_pedestals(
+            today.ticks.as_ptr(),
+            today.ticks.len(),
+            today.values.as_ptr(),
+            today.values.len(),
+            today.lengths.as_ptr(),
+            today.lengths.len(),
+            before.ticks.as_ptr(),
+            before.ticks.len(),
+            before.values.as_ptr(),
+            before.values.len(),
+            before.lengths.as_ptr(),
+            before.lengths.len(),
+            tolerance,
+            k,
+            moved.as_mut_ptr(),
+            moved.len(),
+            noisy.as_mut_ptr(),
+            noisy.len(),
         )
     }
 }

@@ -7,6 +7,7 @@
 //! - [`expand`], [`expand_with`]: the values of range codes, by the rule or by a table of the caller's.
 //! - [`write()`], [`Content`], [`read`], [`same`]: records of kept samples.
 //! - [`Summary`], [`Totals`], [`report`]: what walk does with each channel of a crate.
+//! - [`Run`], [`Pedestals`], [`pedestals`]: the channels of a crate that have moved or are noisy.
 //! - [`Refusal`]: why a call declined.
 //!
 //! A trace is two slices of equal length: ticks and values (ADC counts). It has 1 to 4,096 samples,
@@ -42,9 +43,11 @@ mod ffi;
 
 use std::fmt;
 
-/// Why a call declined. A call checks the rows that concern it in the order below, [`Refusal::Crate`]
-/// before all others and [`Refusal::Table`] right after [`Refusal::Length`], and answers with the first
-/// that fits; a refused call leaves every slice as it was.
+/// Why a call declined. A call checks the rows that concern it in the order below, only
+/// [`Refusal::Factor`] and then [`Refusal::Crate`] before all others, [`Refusal::Table`] right after
+/// [`Refusal::Length`], and [`Refusal::Channel`] and [`Refusal::Samples`], channel by channel, right
+/// before [`Refusal::Room`]. It answers with the first that fits; a refused call leaves every slice as
+/// it was.
 #[derive(Clone, Copy, Debug, PartialEq, Eq, Hash)]
 pub enum Refusal {
     /// 1: no samples or codes, too many, or ticks and values differ in length.
@@ -69,15 +72,28 @@ pub enum Refusal {
     SecondRecord(usize),
     /// 10: the output is too short; the entries or bytes needed.
     Room(usize),
-    /// 11: a crate has no channels, more than 64, or lengths that do not add up to the lists.
+    /// 11: a crate has no channels, more than 64, or lengths that do not add up to the lists; or two
+    /// runs have unequal channel counts.
     Crate,
     /// 12: the first code whose value in the range table is not above the one before; 0 if the table
     /// does not have 256 values.
     Table(usize),
+    /// 1, 2 or 3, in [`pedestals`]: the trace of a channel is refused, in today's run or in the one
+    /// before.
+    Channel {
+        /// The number of [`Refusal::Length`], [`Refusal::Tick`] or [`Refusal::Span`].
+        number: u32,
+        /// The channel.
+        channel: usize,
+    },
+    /// 13: the channel in whose number of samples two runs differ.
+    Samples(usize),
+    /// 14: the noise factor is below 1 or above 16.
+    Factor,
 }
 
 impl Refusal {
-    /// The refusal's number, 1 to 12.
+    /// The refusal's number, 1 to 14.
     pub fn number(self) -> u32 {
         match self {
             Refusal::Length => 1,
@@ -92,13 +108,20 @@ impl Refusal {
             Refusal::Room(_) => 10,
             Refusal::Crate => 11,
             Refusal::Table(_) => 12,
+            Refusal::Channel { number, .. } => number,
+            Refusal::Samples(_) => 13,
+            Refusal::Factor => 14,
         }
     }
 
     /// What is returned with the number: the payload, 0 where there is none.
     pub fn returned(self) -> usize {
         match self {
-            Refusal::Length | Refusal::Tolerance | Refusal::Allowance | Refusal::Crate => 0,
+            Refusal::Length
+            | Refusal::Tolerance
+            | Refusal::Allowance
+            | Refusal::Crate
+            | Refusal::Factor => 0,
             Refusal::Tick(value)
             | Refusal::Span(value)
             | Refusal::List(value)
@@ -106,7 +129,9 @@ impl Refusal {
             | Refusal::Record(value)
             | Refusal::SecondRecord(value)
             | Refusal::Room(value)
-            | Refusal::Table(value) => value,
+            | Refusal::Table(value)
+            | Refusal::Channel { channel: value, .. }
+            | Refusal::Samples(value) => value,
         }
     }
 
@@ -127,6 +152,8 @@ impl Refusal {
             10 => Refusal::Room(value),
             11 => Refusal::Crate,
             12 => Refusal::Table(value),
+            13 => Refusal::Samples(value),
+            14 => Refusal::Factor,
             _ => unreachable!("there is no refusal {number}"),
         })
     }
@@ -177,13 +204,26 @@ impl fmt::Display for Refusal {
             Refusal::Crate => {
                 write!(
                     f,
-                    "no channels, more than 64, or lengths that do not add up to the lists"
+                    "no channels, more than 64, lengths that do not add up to the lists, or two \
+                     runs with unequal channel counts"
                 )
             }
             Refusal::Table(0) => write!(f, "the range table does not have 256 values"),
             Refusal::Table(code) => {
                 write!(f, "the value of code {code} is not above the one before")
             }
+            Refusal::Channel { number, channel } => {
+                let cause = match number {
+                    1 => "no samples, or too many",
+                    2 => "a tick is not above the one before",
+                    _ => "the span is over 1,048,575 ticks",
+                };
+                write!(f, "channel {channel}: {cause}")
+            }
+            Refusal::Samples(channel) => {
+                write!(f, "the runs differ in the samples of channel {channel}")
+            }
+            Refusal::Factor => write!(f, "the noise factor is below 1 or above 16"),
         }
     }
 }
@@ -675,5 +715,93 @@ pub fn report(
             p: answer.p,
             q: answer.q,
         },
+    })
+}
+
+/// A pedestal run of a crate: the traces of its channels end to end, with the number of samples of each
+/// in `lengths`.
+#[derive(Clone, Copy, Debug)]
+pub struct Run<'a> {
+    /// The ticks of all channels.
+    pub ticks: &'a [u32],
+    /// The values of all channels.
+    pub values: &'a [i16],
+    /// The number of samples of each channel.
+    pub lengths: &'a [usize],
+}
+
+/// What [`pedestals`] returns.
+#[derive(Clone, Copy, Debug, PartialEq, Eq, Hash)]
+pub struct Pedestals {
+    /// How many channels have moved.
+    pub moved: usize,
+    /// How many channels are noisy.
+    pub noisy: usize,
+}
+
+/// Compares two pedestal runs of a crate channel by channel: today's, and one before.
+///
+/// A channel has n samples in either run; S is their sum and Q the sum of their squares, today's S1 and
+/// Q1, the other run's S2 and Q2. At tolerance p/q the channel has moved if |S1 - S2| times q exceeds p
+/// times n: its means S/n differ by more than p/q. It is noisy if n Q1 - S1 squared exceeds k squared
+/// times (n Q2 - S2 squared): its standard deviation is more than `k` times that of the run before.
+/// Equality is neither.
+///
+/// Returns how many channels have moved and how many are noisy: the first that many entries of `moved`
+/// and of `noisy` are exactly those channels, counted from 0, in channel order; the entries after them
+/// are as they were. The ticks of the two runs need not agree.
+///
+/// Refusals: [`Refusal::Factor`] if `k` is below 1 or above 16; [`Refusal::Crate`] if either run has no
+/// channels, more than 64, or lengths that do not add up to the length of its ticks and to that of its
+/// values, or if the runs have unequal channel counts; [`Refusal::Tolerance`]; then for each channel in
+/// turn [`Refusal::Channel`] if its trace is refused in today's run, then in the one before, and
+/// [`Refusal::Samples`] if the runs differ in its number of samples; last [`Refusal::Room`] if either
+/// list has fewer entries than there are channels.
+///
+/// ```
+/// use kovrelna::{pedestals, Pedestals, Refusal, Run, Tolerance};
+///
+/// let ticks = [0, 1, 2, 3, 0, 1, 2, 3, 0, 1, 2, 3];
+/// let lengths = [4, 4, 4];
+/// let today = Run {
+///     ticks: &ticks,
+///     values: &[11, 13, 11, 13, -5, -5, -5, -4, 0, 2, 0, 2],
+///     lengths: &lengths,
+/// };
+/// let before = Run { values: &[10, 12, 10, 12, -5, -5, -5, -5, 0, 1, 0, 1], ..today };
+/// let half = Tolerance::Ratio { p: 1, q: 2 };
+/// let (mut moved, mut noisy) = ([9; 3], [9; 3]);
+/// let answer = pedestals(today, before, half, 2, &mut moved, &mut noisy);
+/// assert_eq!(answer, Ok(Pedestals { moved: 1, noisy: 1 }));
+/// // Channel 0 has moved and channel 1 is noisy. Channel 2 is at both limits.
+/// assert_eq!((moved, noisy), ([0, 9, 9], [1, 9, 9]));
+///
+/// // Without the last channel's last sample; with a tick of channel 1 that is not above the one before.
+/// let short = Run { ticks: &ticks[..11], values: &before.values[..11], lengths: &[4, 4, 3] };
+/// let answer = pedestals(today, short, half, 2, &mut moved, &mut noisy);
+/// assert_eq!(answer, Err(Refusal::Samples(2)));
+/// let stuck = Run { ticks: &[0, 1, 2, 3, 0, 1, 1, 3, 0, 1, 2, 3], ..before };
+/// let answer = pedestals(today, stuck, half, 2, &mut moved, &mut noisy);
+/// assert_eq!(answer, Err(Refusal::Channel { number: 2, channel: 1 }));
+/// let answer = pedestals(today, stuck, half, 17, &mut moved, &mut noisy);
+/// assert_eq!(answer, Err(Refusal::Factor));
+/// ```
+pub fn pedestals(
+    today: Run,
+    before: Run,
+    tolerance: Tolerance,
+    k: u64,
+    moved: &mut [u16],
+    noisy: &mut [u16],
+) -> Result<Pedestals, Refusal> {
+    let answer = ffi::pedestals(today, before, tolerance.into(), k, moved, noisy);
+    if let number @ 1..=3 = answer.number {
+        let channel = answer.value as usize;
+        return Err(Refusal::Channel { number, channel });
+    }
+    Refusal::check(answer.number, answer.value)?;
+    Ok(Pedestals {
+        moved: answer.moved as usize,
+        noisy: answer.noisy as usize,
     })
 }
