@@ -19,10 +19,11 @@ pub enum Call {
     Read,
     Same,
     Report,
+    Pedestals,
 }
 
 /// Every call.
-pub const CALLS: [Call; 12] = [
+pub const CALLS: [Call; 13] = [
     Call::Hold,
     Call::Judge,
     Call::Walk,
@@ -35,10 +36,11 @@ pub const CALLS: [Call; 12] = [
     Call::Read,
     Call::Same,
     Call::Report,
+    Call::Pedestals,
 ];
 
 /// How many rows the table has.
-pub const ROWS: usize = 12;
+pub const ROWS: usize = 14;
 
 /// How often a call was compared: first with an answer, then with each row of the table.
 pub type Counts = [u64; ROWS + 1];
@@ -58,10 +60,12 @@ impl Call {
             Call::Read => "read",
             Call::Same => "same",
             Call::Report => "report",
+            Call::Pedestals => "pedestals",
         }
     }
 
-    /// The numbers of the rows with which it may refuse, in the order in which it checks them.
+    /// The numbers of the rows with which it may refuse, in the order in which it checks them; those of
+    /// a channel in the order of one channel.
     pub fn rows(self) -> &'static [u32] {
         match self {
             Call::Hold => &[4],
@@ -74,6 +78,7 @@ impl Call {
             Call::Read => &[8, 10],
             Call::Same => &[8, 9],
             Call::Report => &[11, 4, 10],
+            Call::Pedestals => &[14, 11, 4, 1, 2, 3, 13, 10],
         }
     }
 

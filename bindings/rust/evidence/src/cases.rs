@@ -3,21 +3,21 @@
 //!
 //! - [`FAMILIES`], [`any`]: every sort, and one drawn from them.
 //! - [`held_tolerances`], [`judge_list`], [`codes`], [`codes_with_tables`], [`round_trip`],
-//!   [`random_commands`], [`comparison`], [`random_faults`], [`crates`]: sorts that the tests run by
-//!   themselves too.
+//!   [`random_commands`], [`comparison`], [`random_faults`], [`crates`], [`pedestal_runs`]: sorts that
+//!   the tests run by themselves too.
 //! - [`codes_and_room`]: codes, and the entries of their output.
 
 use crate::compare::{
-    exactly, expand, expand_with, form, hold, judge, least, noise, ratio, read, reduce, report,
-    same, write,
+    exactly, expand, expand_with, form, hold, judge, least, noise, pedestals, ratio, read, reduce,
+    report, same, write,
 };
 use crate::reductions::{
     any_tolerance, least_list, lists, shortest_lists, size_bounds, tolerances,
 };
-use kovrelna::Tolerance::Counts;
+use kovrelna::Tolerance::{self, Counts};
 use kovrelna_reference::generate::{
-    any_trace, channels, content, damaged, damaged_table, just_below, kept_list, range_table,
-    Random, Trace,
+    any_trace, channels, content, crate_of, damage_crate, damage_trace, damaged, damaged_table,
+    just_below, kept_list, range_table, runs, Random, Runs, Trace,
 };
 use kovrelna_reference::record::{encode, end, first, long, short, tolerance, Content};
 use kovrelna_reference::{held, link_error, list_error, trace_refusal, Fraction, METHODS, TRIED};
@@ -30,7 +30,7 @@ pub struct Family {
 }
 
 /// Every sort.
-pub const FAMILIES: [Family; 18] = [
+pub const FAMILIES: [Family; 20] = [
     Family {
         name: "tolerances",
         weight: 40,
@@ -125,6 +125,16 @@ pub const FAMILIES: [Family; 18] = [
         name: "crates of long traces",
         weight: 1,
         case: |random| crates(3, 4_096, random),
+    },
+    Family {
+        name: "pedestal runs",
+        weight: 60,
+        case: |random| pedestal_runs(64, 12, random),
+    },
+    Family {
+        name: "pedestal runs of long traces",
+        weight: 2,
+        case: |random| pedestal_runs(3, 4_096, random),
     },
 ];
 
@@ -409,7 +419,7 @@ pub fn random_faults(random: &mut Random) {
             3 => ticks[at..].iter_mut().for_each(|tick| *tick |= 1 << 20),
             4 => list = damaged(&list, samples, random),
             5 => room = at,
-            _ => tolerance = random.choose(&[ratio(1, 0), noise(0.0, -1.0)]),
+            _ => tolerance = no_tolerance(random),
         }
         if ticks.len() != samples {
             break;
@@ -438,27 +448,66 @@ pub fn crates(most: i64, samples: usize, random: &mut Random) {
         None => vec![any_tolerance(random)],
     };
     let mut tolerance = random.choose(&tolerances);
-    let at = random.below(count as u64) as usize;
-    let length = channels.lengths[at];
     for _ in 0..random.below(6).saturating_sub(3) {
         match random.below(12) {
-            0 => channels.lengths[at] = length + 1,
-            1 => channels.lengths[at] = length.wrapping_sub(1),
-            2 => channels.lengths.clear(),
-            3 => channels.lengths.resize(65, 0),
-            4 => drop(channels.ticks.pop()),
-            5 => channels.values.push(0),
-            // The sum is that of the lists if it is cut to 64 bits, or to 32.
-            6 => channels.lengths.extend([usize::MAX, 1]),
-            7 => channels.lengths.push(1 << 32),
-            8 | 9 => tolerance = random.choose(&[ratio(1, 0), noise(0.0, -1.0)]),
-            _ => room = at,
-        }
-        if channels.lengths.len() != count {
-            break;
+            0..=7 => damage_crate(&mut channels, random),
+            8 | 9 => tolerance = no_tolerance(random),
+            _ => room = random.below(count as u64) as usize,
         }
     }
     let _ = report(&channels, tolerance, room);
+}
+
+/// A tolerance that is not allowed.
+fn no_tolerance(random: &mut Random) -> Tolerance {
+    random.choose(&[ratio(1, 0), noise(0.0, -1.0)])
+}
+
+/// Two pedestal runs of so many channels at most, of traces of up to so many samples. Half of them may
+/// have faults that the call refuses: up to three in the traces of either run, and up to two in the
+/// lengths, the lists, the factor, the tolerance or the outputs.
+pub fn pedestal_runs(most: i64, samples: usize, random: &mut Random) {
+    let any = random.within(1, most) as usize;
+    let count = random.choose(&[1, 2, 3, any, any, most as usize]);
+    let Runs {
+        today,
+        before,
+        tolerance,
+        mut k,
+    } = runs(count, samples, random);
+    let mut traces = [today, before];
+    let mut tolerance = match random.below(6) {
+        0 => any_tolerance(random),
+        _ => exactly(tolerance),
+    };
+    let faulty = random.below(2);
+    for _ in 0..faulty * random.below(4) {
+        let run = &mut traces[random.below(2) as usize];
+        let trace = &mut run[random.below(count as u64) as usize];
+        match random.below(2) {
+            0 => damage_trace(trace, random),
+            // A sample fewer.
+            _ => {
+                trace.ticks.pop();
+                trace.values.pop();
+            }
+        }
+    }
+    let mut crates = traces.map(|run| crate_of(&run));
+    let mut rooms = [(); 2].map(|_| count + random.choose(&[0, 0, 1, 7]));
+    for _ in 0..faulty * random.below(3) {
+        let run = &mut crates[random.below(2) as usize];
+        match random.below(8) {
+            0 => damage_crate(run, random),
+            // A channel more, which this run alone may have.
+            1 => run.lengths.push(0),
+            2 | 3 => k = random.choose(&[0, 17, 1 << 32 | 2, u64::MAX]),
+            4 => tolerance = no_tolerance(random),
+            _ => rooms[random.below(2) as usize] = random.below(count as u64) as usize,
+        }
+    }
+    let [today, before] = crates;
+    let _ = pedestals(&today, &before, tolerance, k, (rooms[0], rooms[1]));
 }
 
 #[cfg(test)]

@@ -3,8 +3,9 @@
 //! difference panics, with the input. Each function returns the answer that both gave.
 
 use crate::calls::Call;
-use kovrelna::{Ratio, Refusal, Summary, Tolerance, Totals, Verdict};
+use kovrelna::{Ratio, Refusal, Run, Summary, Tolerance, Totals, Verdict};
 use kovrelna_reference::generate::Channels;
+use kovrelna_reference::pedestals::{self, Pedestals};
 use kovrelna_reference::record::{self, Content};
 use kovrelna_reference::report::{self, Report};
 use kovrelna_reference::{Form, Fraction, Least, Method, Reduced, Row};
@@ -72,8 +73,11 @@ struct Guarded<T> {
 /// How many guard elements there are on either side.
 const GUARD: usize = 3;
 
-/// The two kinds of guard elements beside ticks, values, lists and bytes.
-const GUARDS: [(u32, i16, u16, u8); 2] = [(0, 0, 0, 0), (u32::MAX, i16::MIN, u16::MAX, u8::MAX)];
+/// Guard elements beside ticks, values, lists and bytes.
+type Guards = (u32, i16, u16, u8);
+
+/// The two kinds of them.
+const GUARDS: [Guards; 2] = [(0, 0, 0, 0), (u32::MAX, i16::MIN, u16::MAX, u8::MAX)];
 
 impl<T: Copy + PartialEq> Guarded<T> {
     fn new(slice: &[T], guard: T) -> Self {
@@ -377,6 +381,35 @@ pub fn same(one: &[u8], other: &[u8]) -> Result<bool, Row> {
     expected
 }
 
+/// The lists of a crate between guard elements.
+struct GuardedCrate {
+    ticks: Guarded<u32>,
+    values: Guarded<i16>,
+    lengths: Guarded<usize>,
+}
+
+impl GuardedCrate {
+    fn new(channels: &Channels, guards: Guards) -> Self {
+        GuardedCrate {
+            ticks: Guarded::new(&channels.ticks, guards.0),
+            values: Guarded::new(&channels.values, guards.1),
+            lengths: Guarded::new(&channels.lengths, guards.2.into()),
+        }
+    }
+
+    fn run(&self) -> Run<'_> {
+        Run {
+            ticks: self.ticks.slice(),
+            values: self.values.slice(),
+            lengths: self.lengths.slice(),
+        }
+    }
+
+    fn as_expected(&self) -> bool {
+        self.ticks.as_expected() && self.values.as_expected() && self.lengths.as_expected()
+    }
+}
+
 /// Calls `report` with an output of `room` entries between two kinds of guard elements, compares with the
 /// reference, sees that the output begins with the summaries and that no other element changed, and
 /// returns the report or the refusal's row.
@@ -389,9 +422,7 @@ pub fn report(channels: &Channels, tolerance: Tolerance, room: usize) -> Result<
     let expected = report::report(ticks, values, lengths, form(tolerance), room);
     Call::Report.count(&expected);
     for guards in GUARDS {
-        let ticks = Guarded::new(ticks, guards.0);
-        let values = Guarded::new(values, guards.1);
-        let lengths = Guarded::new(lengths, guards.2.into());
+        let lent = GuardedCrate::new(channels, guards);
         // No channel has such a summary.
         let other = |k: usize| Summary {
             samples: !k,
@@ -401,13 +432,13 @@ pub fn report(channels: &Channels, tolerance: Tolerance, room: usize) -> Result<
         };
         let before: Vec<Summary> = (0..room).map(other).collect();
         let mut out = Guarded::new(&before, other(room));
-        let (t, v, l) = (ticks.slice(), values.slice(), lengths.slice());
-        let answer = kovrelna::report(t, v, l, tolerance, out.slice_mut()).map_err(row);
-        let input = || {
-            format!(
-                "report on ticks, values, lengths: {t:?} {v:?} {l:?}\n{tolerance:?} room {room}"
-            )
-        };
+        let Run {
+            ticks,
+            values,
+            lengths,
+        } = lent.run();
+        let answer = kovrelna::report(ticks, values, lengths, tolerance, out.slice_mut());
+        let input = || format!("report on {:?}\n{tolerance:?} room {room}", lent.run());
         let totals = match &expected {
             Ok(report) => {
                 let summaries: Vec<Summary> = report.channels.iter().map(summary).collect();
@@ -421,12 +452,9 @@ pub fn report(channels: &Channels, tolerance: Tolerance, room: usize) -> Result<
             }
             Err(row) => Err(*row),
         };
-        assert_eq!(answer, totals, "{}", input());
+        assert_eq!(answer.map_err(row), totals, "{}", input());
         assert!(
-            ticks.as_expected()
-                && values.as_expected()
-                && lengths.as_expected()
-                && out.as_expected(),
+            lent.as_expected() && out.as_expected(),
             "an input, a summary behind the last or an element beside a slice was changed\n{}",
             input()
         );
@@ -447,4 +475,69 @@ fn summary(channel: &report::Channel) -> Summary {
 fn ratio_of(Fraction { p, q }: Fraction) -> Ratio {
     let (p, q) = (p as u64, q as u64);
     Ratio { p, q }
+}
+
+/// Calls `pedestals` with lists of so many entries between two kinds of guard elements, compares with the
+/// reference, sees that the lists begin with the channels and that no other element changed, and returns
+/// the channels or the refusal's row.
+pub fn pedestals(
+    today: &Channels,
+    before: &Channels,
+    tolerance: Tolerance,
+    k: u64,
+    rooms: (usize, usize),
+) -> Result<Pedestals, Row> {
+    let expected = pedestals::pedestals(today, before, form(tolerance), k, rooms);
+    Call::Pedestals.count(&expected);
+    for guards in GUARDS {
+        let [today, before] = [today, before].map(|run| GuardedCrate::new(run, guards));
+        let (mut moved, mut noisy) = (output(rooms.0, guards.2), output(rooms.1, guards.2));
+        let answer = kovrelna::pedestals(
+            today.run(),
+            before.run(),
+            tolerance,
+            k,
+            moved.slice_mut(),
+            noisy.slice_mut(),
+        );
+        let input = || {
+            let runs = (today.run(), before.run());
+            format!("pedestals of {runs:?}\n{tolerance:?} k {k} rooms {rooms:?}")
+        };
+        // What is wrong with a trace is said of its channel.
+        let of_sample = |refusal: &Refusal| {
+            matches!(
+                refusal,
+                Refusal::Length | Refusal::Tick(_) | Refusal::Span(_)
+            )
+        };
+        assert!(
+            !answer.is_err_and(|refusal| of_sample(&refusal)),
+            "{}",
+            input()
+        );
+        let answer = answer
+            .map(|counts| (counts.moved, counts.noisy))
+            .map_err(row);
+        let counts = match &expected {
+            Ok(channels) => {
+                moved.expect(0, &channels.moved);
+                noisy.expect(0, &channels.noisy);
+                Ok((channels.moved.len(), channels.noisy.len()))
+            }
+            Err(row) => Err(*row),
+        };
+        assert_eq!(answer, counts, "{}", input());
+        assert!(
+            today.as_expected()
+                && before.as_expected()
+                && moved.as_expected()
+                && noisy.as_expected(),
+            "a channel is wrong, or another element was changed: {:?} {:?}\n{}",
+            moved.slice(),
+            noisy.slice(),
+            input()
+        );
+    }
+    expected
 }

@@ -1,6 +1,6 @@
 //! `evidence`: compares the library with the slow reference on random and adversarial traces, crates,
-//! range tables and damaged records, for so many cases or minutes, and reports what was compared and
-//! what differed.
+//! pedestal runs, range tables and damaged records, for so many cases or minutes, and reports what was
+//! compared and what differed.
 
 use kovrelna_evidence::calls::{CALLS, ROWS};
 use kovrelna_evidence::cases;
@@ -16,8 +16,8 @@ use std::time::{Duration, Instant};
 
 const HELP: &str = "\
 Compares the library with the slow reference on random and adversarial traces,
-crates, range tables and damaged records. Prints how often each call was
-compared, by answer and by refusal, and how many cases differed.
+crates, pedestal runs, range tables and damaged records. Prints how often each
+call was compared, by answer and by refusal, and how many cases differed.
 
 Usage: evidence [--cases N | --minutes M] [--seed S]
        evidence --seed S --case K

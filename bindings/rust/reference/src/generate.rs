@@ -1,5 +1,5 @@
-//! Repeatable random traces, lists, range tables, contents of records and crates, chosen to find
-//! mistakes.
+//! Repeatable random traces, lists, range tables, contents of records, crates and pedestal runs, chosen
+//! to find mistakes.
 //!
 //! - [`Random`]: numbers from a seed.
 //! - [`Trace`], [`Kind`], [`trace`]: traces within the limits, of several kinds.
@@ -9,8 +9,11 @@
 //! - [`just_below`]: the tolerance nearest below a link's error.
 //! - [`range_table`], [`damaged_table`]: range tables that are allowed, and others.
 //! - [`content`]: contents of records.
-//! - [`Channels`], [`channels`]: crates whose channels are traces and others.
+//! - [`Channels`], [`crate_of`], [`channels`]: crates whose channels are traces and others.
+//! - [`damage_trace`], [`damage_crate`]: what makes a trace, or the lists of a crate, none.
+//! - [`Runs`], [`runs`]: pedestal runs at the limits of what has moved and is noisy, and beside them.
 
+use crate::pedestals::{Sums, FACTOR};
 use crate::record::Content;
 use crate::{Fraction, DENOMINATOR, SAMPLES, SPAN, TOLERANCE};
 
@@ -380,28 +383,146 @@ impl Channels {
     }
 }
 
+/// The crate of these channels.
+pub fn crate_of(traces: &[Trace]) -> Channels {
+    let mut channels = Channels::default();
+    traces.iter().for_each(|trace| channels.push(trace));
+    channels
+}
+
 /// A crate with so many channels: traces of up to `most` samples of any kind or shape, and among them
-/// channels without samples, with a tick that is not above the one before, with a span that is too long,
-/// and with too many samples.
+/// channels that are none.
 pub fn channels(count: usize, most: usize, random: &mut Random) -> Channels {
     let mut channels = Channels::default();
     for _ in 0..count {
         let samples = random.within(1, most as i64) as usize;
         let mut trace = any_trace(samples, random);
-        let at = random.below(samples as u64) as usize;
-        let Trace { ticks, values } = &mut trace;
-        match random.below(24) {
-            0..=2 => ticks.clear(),
-            3 => ticks.insert(at, ticks[at]),
-            4 => ticks[..=at].reverse(),
-            5..=7 => ticks[at..].iter_mut().for_each(|tick| *tick ^= 1 << 31),
-            8 => *ticks = (0..(SAMPLES + 1 + at % 2) as u32).collect(),
-            _ => (),
+        if random.below(24) < 9 {
+            damage_trace(&mut trace, random);
         }
-        values.resize(ticks.len(), 7);
         channels.push(&trace);
     }
     channels
+}
+
+/// Leaves no samples, a tick that is not above the one before, a span that is too long, or too many
+/// samples, at a place drawn for it. Of a trace without samples nothing is changed; a short one may
+/// still be a trace.
+pub fn damage_trace(Trace { ticks, values }: &mut Trace, random: &mut Random) {
+    if ticks.is_empty() {
+        return;
+    }
+    let at = random.below(ticks.len() as u64) as usize;
+    match random.below(9) {
+        0..=2 => ticks.clear(),
+        3 => ticks.insert(at, ticks[at]),
+        4 => ticks[..=at].reverse(),
+        5..=7 => ticks[at..].iter_mut().for_each(|tick| *tick ^= 1 << 31),
+        _ => *ticks = (0..(SAMPLES + 1 + at % 2) as u32).collect(),
+    }
+    values.resize(ticks.len(), 7);
+}
+
+/// Changes the lengths of the channels or the lists so that they do not add up, or so that there are no
+/// channels or too many. A crate without channels stays as it is.
+pub fn damage_crate(channels: &mut Channels, random: &mut Random) {
+    let lengths = &mut channels.lengths;
+    if lengths.is_empty() {
+        return;
+    }
+    let at = random.below(lengths.len() as u64) as usize;
+    match random.below(9) {
+        0 => lengths[at] = lengths[at].wrapping_add(1),
+        1 => lengths[at] = lengths[at].wrapping_sub(1),
+        2 => lengths.clear(),
+        3 => lengths.resize(65, 0),
+        4 => drop(channels.ticks.pop()),
+        5 => channels.values.push(0),
+        // The sum is that of the lists if it is cut to 64 bits, or to 32.
+        6 => lengths.extend([usize::MAX, 1]),
+        7 => lengths.push(1 << 32),
+        _ => lengths
+            .iter_mut()
+            .take(2)
+            .for_each(|length| *length ^= 1 << 63),
+    }
+}
+
+/// Two pedestal runs of a crate, channel by channel, with a tolerance and a noise factor.
+#[derive(Clone, Debug)]
+pub struct Runs {
+    pub today: Vec<Trace>,
+    pub before: Vec<Trace>,
+    pub tolerance: Fraction,
+    pub k: u64,
+}
+
+/// Two runs of so many channels with traces of up to `most` samples. Most channels are alike, at the limit
+/// of both tests, but for up to two values that are one higher or lower in either run; the others are any
+/// two traces. The tolerance is the difference of the means at that limit, or just below it.
+pub fn runs(count: usize, most: usize, random: &mut Random) -> Runs {
+    let any = random.within(1, most as i64) as usize;
+    let samples = random.choose(&[any, any, any, most]);
+    let any = 1 + random.below(FACTOR);
+    let k = random.choose(&[1, 2, any, FACTOR]);
+    let limits = at_the_limits(samples, k as i64, random);
+    let [one, two] = limits.each_ref().map(|values| Sums::of(values));
+    let (p, q) = ((one.s - two.s).abs(), one.n);
+    let limit = Fraction { p, q }.lowest();
+    let mut runs = Runs {
+        today: Vec::new(),
+        before: Vec::new(),
+        tolerance: match random.below(4) {
+            0 if p > 0 => just_below(limit),
+            _ => limit,
+        },
+        k,
+    };
+    for _ in 0..count {
+        let mut channel = limits.clone();
+        if random.below(8) == 0 {
+            let samples = random.within(1, most as i64) as usize;
+            channel = [(); 2].map(|_| any_trace(samples, random).values);
+        }
+        for _ in 0..random.below(3) {
+            let values = &mut channel[random.below(2) as usize];
+            let at = random.below(values.len() as u64) as usize;
+            values[at] = values[at].saturating_add(random.choose(&[-1, 1]));
+        }
+        let [today, before] = channel.map(|values| Trace {
+            ticks: ticks(values.len(), random),
+            values,
+        });
+        runs.today.push(today);
+        runs.before.push(before);
+    }
+    runs
+}
+
+/// The values of a channel in two runs, today's first, of which n Q - S squared is today exactly k squared
+/// times what it is in the run before: today's are the others times k, backwards, and begin elsewhere. They
+/// are equal, near each other, or as far apart as can be; many begin or end where the range does.
+fn at_the_limits(samples: usize, k: i64, random: &mut Random) -> [Vec<i16>; 2] {
+    let (low, high) = (i64::from(i16::MIN), i64::from(i16::MAX));
+    let widest = (high - low) / k;
+    let any = random.within(0, widest);
+    let width = random.choose(&[0, 1, 1, 2, 3, any, widest]).min(widest);
+    let ends = random.below(2) == 0;
+    let mut offsets: Vec<i64> = (0..samples)
+        .map(|_| match ends {
+            true => random.choose(&[0, width]),
+            false => random.within(0, width),
+        })
+        .collect();
+    let mut run = |k: i64| {
+        offsets.reverse();
+        let latest = high - k * width;
+        let any = random.within(low, latest);
+        let first = random.choose(&[low, any, latest]);
+        let value = |offset: &i64| (first + k * offset) as i16;
+        offsets.iter().map(value).collect()
+    };
+    [run(k), run(1)]
 }
 
 /// The x from 0 to q - 1 with p x = 1 modulo q.
@@ -418,6 +539,7 @@ fn inverse(p: i128, q: i128) -> i128 {
 #[cfg(test)]
 mod tests {
     use super::*;
+    use crate::pedestals::{shift_over, spread_over};
     use crate::record::table_fault;
     use crate::{link_error, link_valid, list_refusal, trace_refusal};
 
@@ -476,12 +598,12 @@ mod tests {
             assert_eq!(channels.lengths.len(), 12);
             assert_eq!(channels.lengths.iter().sum::<usize>(), channels.ticks.len());
             assert_eq!(channels.ticks.len(), channels.values.len());
-            let mut again = Channels::default();
-            for trace in channels.traces() {
-                again.push(&trace);
+            let traces = channels.traces();
+            for trace in &traces {
                 let row = trace_refusal(&trace.ticks, &trace.values);
                 seen[row.map_or(0, |(number, _)| number as usize)] += 1;
             }
+            let again = crate_of(&traces);
             assert_eq!(
                 (again.ticks, again.values),
                 (channels.ticks, channels.values)
@@ -489,6 +611,39 @@ mod tests {
             assert_eq!(again.lengths, channels.lengths);
         }
         assert!(seen.iter().all(|&count| count > 20), "{seen:?}");
+    }
+
+    /// Pedestal runs are traces with as many samples in either run. Channels exactly at the limit of each
+    /// test come up, and one unit above and below it; every factor, and the ends of the range.
+    #[test]
+    fn runs_at_the_limits() {
+        let random = &mut Random::new(9);
+        let (mut shifts, mut spreads, mut factors, mut ends) = ([0; 3], [0; 3], [0; 16], [0; 2]);
+        for _ in 0..3_000 {
+            let runs = runs(6, 9, random);
+            factors[runs.k as usize - 1] += 1;
+            for (today, before) in runs.today.iter().zip(&runs.before) {
+                for Trace { ticks, values } in [today, before] {
+                    assert_eq!(trace_refusal(ticks, values), None);
+                    ends[0] += u32::from(values.iter().all(|&value| value == i16::MIN));
+                    ends[1] += u32::from(values.iter().all(|&value| value == i16::MAX));
+                }
+                let (one, two) = (Sums::of(&today.values), Sums::of(&before.values));
+                assert_eq!(one.n, two.n);
+                let shift = shift_over(one, two, runs.tolerance);
+                let spread = spread_over(one, two, runs.k);
+                for (over, seen) in [(shift, &mut shifts), (spread, &mut spreads)] {
+                    if (-1..=1).contains(&over) {
+                        seen[(over + 1) as usize] += 1;
+                    }
+                }
+            }
+        }
+        let seen = shifts.iter().chain(&spreads).chain(&factors).chain(&ends);
+        assert!(
+            seen.min() > Some(&25),
+            "{shifts:?} {spreads:?} {factors:?} {ends:?}"
+        );
     }
 
     #[test]

@@ -1,4 +1,4 @@
-//! The slow reference: document 01 and the first and the third request of document 02 once more, in
+//! The slow reference: document 01 and the first, third and fourth request of document 02 once more, in
 //! exact whole numbers, clear before fast. It knows nothing of the library that is compared with it.
 //!
 //! - [`Fraction`]: exact fractions, compared by cross multiplication.
@@ -13,9 +13,12 @@
 //! - [`fewest`]: how short a kept list within a fraction can be.
 //! - [`record`]: range codes and records.
 //! - [`report`]: the report on a crate.
-//! - [`generate`]: repeatable random traces, lists, range tables, contents of records and crates.
+//! - [`pedestals`]: two pedestal runs of a crate, compared.
+//! - [`generate`]: repeatable random traces, lists, range tables, contents of records, crates and
+//!   pedestal runs.
 
 pub mod generate;
+pub mod pedestals;
 pub mod record;
 pub mod report;
 

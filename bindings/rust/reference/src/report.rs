@@ -34,13 +34,11 @@ pub fn report(
     form: Form,
     room: usize,
 ) -> Result<Report, Row> {
-    let channels = lengths.len();
-    let samples: i128 = lengths.iter().map(|&length| length as i128).sum();
-    let add_up = |list: usize| list as i128 == samples;
-    if channels == 0 || channels > CHANNELS || !add_up(ticks.len()) || !add_up(values.len()) {
+    if !is_crate(ticks, values, lengths) {
         return Err((11, 0));
     }
     held(form).ok_or((4, 0))?;
+    let channels = lengths.len();
     if room < channels {
         return Err((10, channels as u64));
     }
@@ -62,6 +60,13 @@ pub fn report(
         (ticks, values) = (&ticks[length..], &values[length..]);
     }
     Ok(report)
+}
+
+/// Whether there are 1 to 64 channels whose lengths add up to the length of each list.
+pub fn is_crate(ticks: &[u32], values: &[i16], lengths: &[usize]) -> bool {
+    let samples: i128 = lengths.iter().map(|&length| length as i128).sum();
+    let adds_up = |list: usize| list as i128 == samples;
+    (1..=CHANNELS).contains(&lengths.len()) && adds_up(ticks.len()) && adds_up(values.len())
 }
 
 /// The summary of a channel with this trace, at an allowed tolerance.

@@ -9,12 +9,14 @@
 //! - `codes`: range codes, with their own values and with those of a table.
 //! - `records`: records written, read, damaged and compared.
 //! - `report`: reports on crates.
+//! - `pedestals`: pedestal runs, compared.
 
 mod codes;
 mod figures;
 mod hold;
 mod judge;
 mod least;
+mod pedestals;
 mod records;
 mod reduce;
 mod refusals;

@@ -6,9 +6,10 @@ use kovrelna_evidence::calls::Call::{self, *};
 use kovrelna_evidence::calls::CALLS;
 use kovrelna_evidence::cases::random_faults;
 use kovrelna_evidence::compare::{
-    expand, expand_with, hold, judge, least, noise, ratio, read, reduce, report, same, write,
+    expand, expand_with, hold, judge, least, noise, pedestals, ratio, read, reduce, report, same,
+    write,
 };
-use kovrelna_reference::generate::{Channels, Random};
+use kovrelna_reference::generate::{crate_of, Channels, Random, Trace};
 use kovrelna_reference::record::{end, first, short, tolerance};
 use kovrelna_reference::{Method, Row};
 
@@ -26,15 +27,25 @@ struct Input {
     second: Vec<u8>,
     /// The samples of each channel of a crate.
     lengths: Vec<usize>,
-    /// The entries of the output, and of the second one of read.
+    /// Two pedestal runs, and the noise factor.
+    today: Channels,
+    before: Channels,
+    factor: u64,
+    /// The entries of the output, and of the second one of read and of pedestals.
     rooms: (usize, usize),
     /// The bytes of the writer's buffer.
     size: usize,
     place: usize,
 }
 
-/// Eight samples, codes or channels, and outputs with exactly enough room: no call refuses it.
+/// Eight samples, codes or channels, and outputs with exactly enough room: no call refuses it. The
+/// channels of the two runs have three samples each.
 fn accepted() -> Input {
+    let run = Channels {
+        ticks: (0..24).collect(),
+        values: vec![0; 24],
+        lengths: vec![3; 8],
+    };
     let mut record = [tolerance(1, 2), first(7, 7)].concat();
     record.extend(short(1, 1).repeat(7));
     record.extend(end(8));
@@ -49,6 +60,9 @@ fn accepted() -> Input {
         second: record.clone(),
         record,
         lengths: vec![1; 8],
+        today: run.clone(),
+        before: run,
+        factor: 1,
         rooms: (8, 8),
         size: 22,
         place: 0,
@@ -90,6 +104,10 @@ fn refused(call: Call, input: &Input) -> Option<Row> {
             };
             report(&channels, tolerance, room).err()
         }
+        Pedestals => {
+            let Input { today, before, .. } = input;
+            pedestals(today, before, tolerance, input.factor, input.rooms).err()
+        }
     }
 }
 
@@ -97,11 +115,11 @@ fn refused(call: Call, input: &Input) -> Option<Row> {
 /// an output of an entry for each sample, code or channel.
 const TRACES: &[Call] = &[Judge, Walk, Gallop, Minimum, Least, Write];
 const LONG_TRACES: &[Call] = &[Judge, Walk, Gallop, Minimum, Write];
-const TOLERANCES: &[Call] = &[Hold, Judge, Walk, Gallop, Minimum, Write, Report];
+const TOLERANCES: &[Call] = &[Hold, Judge, Walk, Gallop, Minimum, Write, Report, Pedestals];
 const LISTS: &[Call] = &[Judge, Write];
 const CODES: &[Call] = &[Expand, ExpandWith];
 const OUTPUTS: &[Call] = &[
-    Walk, Gallop, Minimum, Least, Expand, ExpandWith, Read, Report,
+    Walk, Gallop, Minimum, Least, Expand, ExpandWith, Read, Report, Pedestals,
 ];
 
 /// A fault: the calls that refuse it, the row, and how it comes into an input. For each call and row
@@ -110,7 +128,9 @@ type Fault = (&'static [Call], Row, Change);
 type Change = fn(&mut Input);
 
 const FAULTS: &[Fault] = &[
+    (&[Pedestals], (14, 0), |input| input.factor = 17),
     (&[Report], (11, 0), |input| input.lengths[3] = 2),
+    (&[Pedestals], (11, 0), |input| input.before.values.push(0)),
     (TRACES, (1, 0), |input| input.values.push(0)),
     (CODES, (1, 0), |input| input.codes = vec![9; 4_097]),
     // No code of the input is this one.
@@ -126,6 +146,23 @@ const FAULTS: &[Fault] = &[
     }),
     (TOLERANCES, (4, 0), |input| {
         input.tolerance = Tolerance::Counts(f64::NAN)
+    }),
+    // The channels of pedestals' own rows are 1, 2, 3 and 4.
+    (&[Pedestals], (1, 1), |input| {
+        for run in [&mut input.today, &mut input.before] {
+            (run.lengths[0], run.lengths[1]) = (6, 0);
+        }
+    }),
+    (&[Pedestals], (2, 2), |input| {
+        input.today.ticks[7] = input.today.ticks[6]
+    }),
+    (&[Pedestals], (3, 3), |input| {
+        input.before.ticks[10..12]
+            .iter_mut()
+            .for_each(|tick| *tick += 1_048_576)
+    }),
+    (&[Pedestals], (13, 4), |input| {
+        (input.before.lengths[4], input.before.lengths[5]) = (2, 4)
     }),
     (&[Least], (5, 0), |input| input.allowance = 1),
     (LISTS, (6, 1), |input| input.list = vec![0, 0, 7]),
@@ -190,6 +227,8 @@ fn limits() {
         links(),
         records(),
         crates(),
+        runs(),
+        factors(),
         rooms(),
     ];
     for (calls, input, row) in parts.concat() {
@@ -537,15 +576,21 @@ fn records() -> Vec<Entry> {
     cases.map(entry).to_vec()
 }
 
+/// The limits of a crate: for report, and those that are refused for pedestals, in either run or in both.
 fn crates() -> Vec<Entry> {
     const MAX: usize = usize::MAX;
     const HALF: usize = MAX / 2 + 1;
     let mut entries: Vec<Entry> = Vec::new();
     let mut add = |lengths: &[usize], ticks: u32, values: usize, allowed: bool| {
-        let input = Input {
+        let channels = Channels {
             ticks: (0..ticks).collect(),
             values: vec![0; values],
             lengths: lengths.to_vec(),
+        };
+        let input = Input {
+            ticks: channels.ticks.clone(),
+            values: channels.values.clone(),
+            lengths: channels.lengths.clone(),
             rooms: (64, 0),
             ..accepted()
         };
@@ -557,7 +602,20 @@ fn crates() -> Vec<Entry> {
                 rooms: (0, 0),
                 ..input
             };
-            entries.push((&[Report], input, Some((11, 0))));
+            entries.push((&[Report], input.clone(), Some((11, 0))));
+            let good = accepted().today;
+            for (today, before) in [
+                (&channels, &good),
+                (&good, &channels),
+                (&channels, &channels),
+            ] {
+                let input = Input {
+                    today: today.clone(),
+                    before: before.clone(),
+                    ..input.clone()
+                };
+                entries.push((&[Pedestals], input, Some((11, 0))));
+            }
         }
     };
     // The number of channels.
@@ -594,6 +652,105 @@ fn crates() -> Vec<Entry> {
     entries
 }
 
+/// A fault of a channel of two runs: the run, 0 for today's, the channel, the number, and its ticks.
+type ChannelFault = (usize, usize, u32, Vec<u32>);
+
+/// Two pedestal runs, each by itself a crate: unequal channel counts, and faults of channels.
+fn runs() -> Vec<Entry> {
+    let mut entries: Vec<Entry> = Vec::new();
+    // Unequal channel counts; later rows fail too.
+    for lengths in [
+        &[24][..],
+        &[3, 3, 3, 3, 3, 3, 6],
+        &[3, 3, 3, 3, 3, 3, 3, 3, 0],
+    ] {
+        let mut input = Input {
+            tolerance: ratio(0, 0),
+            rooms: (0, 0),
+            ..accepted()
+        };
+        input.today.lengths = lengths.to_vec();
+        entries.push((&[Pedestals], input.clone(), Some((11, 0))));
+        std::mem::swap(&mut input.today, &mut input.before);
+        entries.push((&[Pedestals], input, Some((11, 0))));
+    }
+    // 13 is a sample fewer today, or one more before.
+    let mut faults: Vec<ChannelFault> = Vec::new();
+    for (run, channel) in [(0, 0), (0, 1), (0, 2), (1, 0), (1, 1), (1, 2)] {
+        for (number, ticks) in [
+            (1, vec![]),
+            (1, (0..4_097).collect()),
+            (2, vec![0, 1, 1, 3]),
+            (2, vec![0, 1_048_576, 1_048_577, 1_048_577]),
+            (3, vec![0, 1, 2, 1_048_576]),
+            (13, (0..[3, 5][run]).collect()),
+        ] {
+            faults.push((run, channel, number, ticks));
+        }
+    }
+    // One fault, and any two. The first channel is named; of a channel today's own number comes first,
+    // then that of the run before, then 13.
+    let place =
+        |&(run, channel, number, _): &ChannelFault| (channel, if number == 13 { 2 } else { run });
+    for (k, one) in faults.iter().enumerate() {
+        for two in &faults[k..] {
+            if (one.0, one.1) == (two.0, two.1) && one != two {
+                continue;
+            }
+            let mut runs = [[(); 3], [(); 3]].map(|run| run.map(|_| vec![0, 1, 2, 1_048_575]));
+            for (run, channel, _, ticks) in [one, two] {
+                runs[*run][*channel] = ticks.clone();
+            }
+            let [today, before] = runs.map(|run| {
+                let traces = run.map(|ticks| Trace {
+                    values: vec![0; ticks.len()],
+                    ticks,
+                });
+                crate_of(&traces)
+            });
+            let (_, channel, number, _) = if place(one) <= place(two) { one } else { two };
+            let input = Input {
+                today,
+                before,
+                rooms: (0, 0),
+                ..accepted()
+            };
+            let row = (*number, *channel as u64);
+            entries.push((&[Pedestals], input, Some(row)));
+        }
+    }
+    entries
+}
+
+fn factors() -> Vec<Entry> {
+    let mut entries: Vec<Entry> = Vec::new();
+    for (factor, allowed) in [
+        (0, false),
+        (1, true),
+        (2, true),
+        (16, true),
+        (17, false),
+        (1 << 32 | 2, false),
+        (u64::MAX, false),
+    ] {
+        let input = Input {
+            factor,
+            ..accepted()
+        };
+        entries.push((&[Pedestals], input.clone(), (!allowed).then_some((14, 0))));
+        // Later rows fail too.
+        let input = Input {
+            today: Channels::default(),
+            tolerance: ratio(0, 0),
+            rooms: (0, 0),
+            ..input
+        };
+        let row = if allowed { (11, 0) } else { (14, 0) };
+        entries.push((&[Pedestals], input, Some(row)));
+    }
+    entries
+}
+
 fn rooms() -> Vec<Entry> {
     let rooms = |calls, rooms, enough: bool| -> Entry {
         let input = Input {
@@ -615,9 +772,9 @@ fn rooms() -> Vec<Entry> {
         rooms(OUTPUTS, (9, 8), true),
         rooms(OUTPUTS, (7, 9), false),
         rooms(OUTPUTS, (0, 0), false),
-        rooms(&[Read], (8, 9), true),
-        rooms(&[Read], (8, 7), false),
-        rooms(&[Read], (9, 0), false),
+        rooms(&[Read, Pedestals], (8, 9), true),
+        rooms(&[Read, Pedestals], (8, 7), false),
+        rooms(&[Read, Pedestals], (9, 0), false),
         places(23, 1, true),
         places(22, 1, false),
         places(0, 0, false),
@@ -630,6 +787,7 @@ fn rooms() -> Vec<Entry> {
 /// Numbers, values and words.
 #[test]
 fn numbers() {
+    let channel = |number, channel| Refusal::Channel { number, channel };
     let cases = [
         (Refusal::Length, 1, 0),
         (Refusal::Tick(21), 2, 21),
@@ -644,6 +802,11 @@ fn numbers() {
         (Refusal::Crate, 11, 0),
         (Refusal::Table(0), 12, 0),
         (Refusal::Table(121), 12, 121),
+        (channel(1, 17), 1, 17),
+        (channel(2, 27), 2, 27),
+        (channel(3, 37), 3, 37),
+        (Refusal::Samples(131), 13, 131),
+        (Refusal::Factor, 14, 0),
     ];
     for (refusal, number, returned) in cases {
         assert_eq!((refusal.number(), refusal.returned()), (number, returned));
@@ -653,8 +816,15 @@ fn numbers() {
             "{words}"
         );
     }
-    let words = Refusal::Table(0).to_string();
-    assert!(words.contains("256 values"), "{words}");
+    for (refusal, part) in [
+        (Refusal::Table(0), "256 values"),
+        (channel(1, 5), "channel 5: no samples"),
+        (channel(2, 5), "channel 5: a tick"),
+        (channel(3, 5), "channel 5: the span"),
+    ] {
+        let words = refusal.to_string();
+        assert!(words.contains(part), "{words}");
+    }
 }
 
 #[test]

@@ -4,15 +4,11 @@ use kovrelna_evidence::calls::Call;
 use kovrelna_evidence::cases::crates;
 use kovrelna_evidence::compare::{exactly, judge, ratio, reduce, report};
 use kovrelna_evidence::reductions::any_tolerance;
-use kovrelna_reference::generate::{channels, just_below, trace, Channels, Random, Trace, KINDS};
+use kovrelna_reference::generate::{
+    channels, crate_of, just_below, trace, Channels, Random, Trace, KINDS,
+};
 use kovrelna_reference::report::{Channel, Report, CHANNELS};
 use kovrelna_reference::{Fraction, Method, TOLERANCE};
-
-fn crate_of(traces: &[Trace]) -> Channels {
-    let mut channels = Channels::default();
-    traces.iter().for_each(|trace| channels.push(trace));
-    channels
-}
 
 fn whole(p: i128) -> Fraction {
     Fraction { p, q: 1 }
