@@ -5,6 +5,7 @@
 - `walk`, `Galloped`, `gallop`, `minimum`: kept lists with every link valid.
 - `Least`, `least`: the least error that so many samples allow.
 - `Summary`, `Report`, `report`: a row for each channel of a crate, and totals.
+- `Run`, `Pedestals`, `pedestals`: which channels have moved or are noisy since a run before.
 - `expand`, `expand_with`: the values of range codes, by the rule or by a table of one's own.
 - `write`, `Content`, `read`, `same`: records of kept samples.
 - `Checked`, `check`: whether a record may stand for its trace, before that is erased.
@@ -25,8 +26,8 @@ Its links join neighbouring entries and are counted from 0.
 Lists are lent as buffers and not copied: arrays of numpy, array.array, bytes, bytearray,
 memoryview, or anything else with a one-dimensional, contiguous, aligned buffer of these elements.
 Other elements and masked arrays raise TypeError; nothing is converted. Only a list, a tuple or a
-range of whole numbers is copied into such a buffer, and the few lengths of `report`, whatever holds
-them; a number that does not fit raises OverflowError.
+range of whole numbers is copied into such a buffer, and the few lengths of `report` and
+`pedestals`, whatever holds them; a number that does not fit raises OverflowError.
 
 An output is a buffer that the caller lends, or is made anew: an array of numpy if the ticks (the
 codes, the record) are one or if that is asked for (`expand`, `expand_with`, `read`), otherwise an
@@ -54,7 +55,7 @@ from __future__ import annotations
 import operator
 from dataclasses import dataclass
 from fractions import Fraction
-from typing import Any, List, NamedTuple, Optional, SupportsIndex, overload
+from typing import Any, List, NamedTuple, Optional, SupportsIndex, Tuple, overload
 
 from . import _library, _tolerance
 from ._lists import BYTE, ENTRY, LENGTH, SPARE, TICK, VALUE, Lent, Loan, Numbers, Output, Whole
@@ -71,9 +72,11 @@ __all__ = [
     "Galloped",
     "Least",
     "Noise",
+    "Pedestals",
     "Ratio",
     "Refusal",
     "Report",
+    "Run",
     "Summary",
     "Verdict",
     "check",
@@ -84,6 +87,7 @@ __all__ = [
     "judge",
     "least",
     "minimum",
+    "pedestals",
     "read",
     "report",
     "same",
@@ -98,10 +102,10 @@ _CHANNELS = 64
 
 
 class Refusal(ValueError):
-    """A call declined. It checks the rows that concern it in rising number, only 11 before all
-    others and 12 right after 1, and answers with the first that fits; a refused call leaves every
-    list as it was. `number` and `value` are the row's; `words` say what is wrong with what was
-    given.
+    """A call declined. It checks the rows that concern it in rising number, only 14 and then 11
+    before all others and 12 right after 1; `pedestals` checks 1, 2, 3 and 13 after 4, channel by
+    channel. It answers with the first that fits; a refused call leaves every list as it was.
+    `number` and `value` are the row's; `words` say what is wrong with what was given.
 
     | Number | Cause | Value |
     |---|---|---|
@@ -116,12 +120,15 @@ if it only stops short; 0 if it is empty |
     | 8 | the record is faulty | the fault's byte |
     | 9 | the second record of a comparison is faulty | the fault's byte |
     | 10 | the output is too short | the entries or bytes needed |
-    | 11 | there are no channels, more than 64, or lengths that do not add up to the lists | 0 |
+    | 11 | there are no channels, more than 64, lengths that do not add up to the lists, or two runs \
+with unequal channel counts | 0 |
     | 12 | the range table does not have 256 values, or does not rise | 0; the first code whose \
 value is not above the one before |
+    | 13 | two runs differ in a channel's number of samples | the channel |
+    | 14 | the noise factor is below 1 or above 16 | 0 |
 
-    A bad entry is a first one that is not 0, one that is not above the entry before it, or one beyond
-    the trace.
+    In `pedestals` the value of 1, 2 and 3 is the channel. A bad entry is a first one that is not 0,
+    one that is not above the entry before it, or one beyond the trace.
 
     >>> try:
     ...     walk([5, 5], [0, 0], 1)
@@ -287,6 +294,12 @@ def minimum(
     return _bounded(_library.minimum, ticks, values, tolerance, out)[1]
 
 
+def _number(given: SupportsIndex) -> int:
+    """A whole number of which 0 is not allowed. One that does not fit the library's is lent as 0."""
+    number = operator.index(given)
+    return number if 0 <= number < 2**64 else 0
+
+
 class Least(NamedTuple):
     """What `least` returns."""
 
@@ -307,9 +320,7 @@ def least(
     >>> least(range(5), [0, 3, 0, 3, 0], 3)
     Least(kept=array('H', [0, 3, 4]), error=Fraction(2, 1))
     """
-    samples = operator.index(allowance)
-    # One that does not fit the library's number is lent as 0, which is not allowed either.
-    lent = samples if 0 <= samples < 2**64 else 0
+    lent = _number(allowance)
     answer, kept = _reduce(
         _library.least, ticks, values, lent, out, most=_LEAST_SAMPLES, allowance=allowance
     )
@@ -342,6 +353,20 @@ class Report(NamedTuple):
     """The greatest of their errors."""
 
 
+def _crate(
+    loan: Loan, ticks: Lent, values: Lent, lengths: Whole, run: str = ""
+) -> Tuple[Any, ...]:
+    """The three lists of a crate, lent under names that begin with that of the run."""
+    # Where there are more channels, one too many is refused as well.
+    parts = whole(f"{run}lengths", lengths, LENGTH, _CHANNELS + 1)
+    most = sum(parts) + SPARE
+    return (
+        *loan.input(f"{run}ticks", ticks, TICK, most),
+        *loan.input(f"{run}values", values, VALUE, most),
+        *loan.input(f"{run}lengths", parts, LENGTH),
+    )
+
+
 def report(ticks: Lent, values: Lent, lengths: Whole, tolerance: Tolerance) -> Report:
     """Reports on a crate of 1 to 64 channels, whose traces come end to end in ticks and values;
     `lengths` has the number of samples of each: whole numbers in a list, an array of any kind, or
@@ -360,19 +385,10 @@ def report(ticks: Lent, values: Lent, lengths: Whole, tolerance: Tolerance) -> R
     >>> crate.samples, crate.kept, crate.error
     (3, 2, Fraction(3, 1))
     """
-    # Where there are more channels, one too many is refused as well.
-    parts = whole("lengths", lengths, LENGTH, _CHANNELS + 1)
-    most = sum(parts) + SPARE
-    rows = (_library.Summary * len(parts))()
     with Loan() as loan:
-        answer = _library.report(
-            *loan.input("ticks", ticks, TICK, most),
-            *loan.input("values", values, VALUE, most),
-            *loan.input("lengths", parts, LENGTH),
-            _tolerance.lend(tolerance),
-            rows,
-            len(rows),
-        )
+        crate = _crate(loan, ticks, values, lengths)
+        rows = (_library.Summary * crate[-1])()
+        answer = _library.report(*crate, _tolerance.lend(tolerance), rows, len(rows))
         _check(answer, loan, tolerance=tolerance)
     return Report(
         [Summary(row.samples, row.kept, Fraction(row.p, row.q), row.number) for row in rows],
@@ -380,6 +396,83 @@ def report(ticks: Lent, values: Lent, lengths: Whole, tolerance: Tolerance) -> R
         answer.kept,
         Fraction(answer.p, answer.q),
     )
+
+
+class Run(NamedTuple):
+    """A run of a crate of 1 to 64 channels, whose traces come end to end, as `report` takes them."""
+
+    ticks: Lent
+    """The ticks of all channels."""
+    values: Lent
+    """The values of all channels."""
+    lengths: Whole
+    """The number of samples of each channel."""
+
+
+class Pedestals(NamedTuple):
+    """What `pedestals` returns: channels, counted from 0, in channel order."""
+
+    moved: List[int]
+    """Those that have moved."""
+    noisy: List[int]
+    """Those that are noisy."""
+
+
+def _run(loan: Loan, name: str, run: Any) -> Tuple[Any, ...]:
+    """The three lists of a run."""
+    if not isinstance(run, tuple) or len(run) != 3:
+        given = f"a tuple of {len(run)}" if isinstance(run, tuple) else type(run).__name__
+        message = f"{name} must be a Run, or another tuple of ticks, values and lengths"
+        raise TypeError(f"{message}, not {given}")
+    ticks, values, lengths = run
+    return _crate(loan, ticks, values, lengths, f"{name}.")
+
+
+def pedestals(
+    today: Tuple[Lent, Lent, Whole],
+    before: Tuple[Lent, Lent, Whole],
+    tolerance: Tolerance,
+    k: SupportsIndex,
+) -> Pedestals:
+    """Compares two pedestal runs of a crate, today's and one before, channel by channel. Each is a
+    `Run`, or another tuple of ticks, values and lengths, with ticks of its own. A channel has n
+    samples in both; S1 is the sum of its values today and Q1 that of their squares, S2 and Q2 are
+    those of the run before.
+
+    A channel has moved if |S1 - S2| q exceeds p n for the tolerance p/q: its means differ by more
+    than that. It is noisy if n Q1 - S1^2 exceeds k^2 (n Q2 - S2^2): its standard deviation is more
+    than k times that of the run before. The noise factor `k` is whole, from 1 to 16. Both tests are
+    exact. The channels are plain lists, also where the ticks are an array of numpy.
+
+    Refusals: 14; 11; 4; then, channel by channel, 1, 2 or 3 for today's trace, 1, 2 or 3 for the one
+    before, and 13, each with the channel.
+
+    >>> ticks, lengths = 3 * [0, 1, 2, 3], [4, 4, 4]
+    >>> today = Run(ticks, [11, 13, 11, 13, -5, -5, -5, -4, 0, 2, 0, 2], lengths)
+    >>> before = Run(ticks, [10, 12, 10, 12, -5, -5, -5, -5, 0, 1, 0, 1], lengths)
+    >>> pedestals(today, before, Ratio(1, 2), 2)
+    Pedestals(moved=[0], noisy=[1])
+    >>> pedestals(today, before._replace(ticks=[0, 1, 2, 2] + ticks[4:]), Ratio(1, 2), 2)
+    Traceback (most recent call last):
+        ...
+    kovrelna.Refusal: refused as 2: the run before: in channel 0, the tick of sample 3 is not above \
+the one before: 2 after 2
+    """
+    with Loan() as loan:
+        first, second = _run(loan, "today", today), _run(loan, "before", before)
+        moved, noisy = ((_library.Channel * first[-1])() for _ in range(2))
+        answer = _library.pedestals(
+            *first,
+            *second,
+            _tolerance.lend(tolerance),
+            _number(k),
+            moved,
+            len(moved),
+            noisy,
+            len(noisy),
+        )
+        _check(answer, loan, tolerance=tolerance, factor=k)
+    return Pedestals(moved[: answer.moved], noisy[: answer.noisy])
 
 
 def _expand(

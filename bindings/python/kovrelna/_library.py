@@ -5,7 +5,7 @@ Assumes that the library found is the one of that header.
 
 import ctypes
 import os
-from ctypes import Structure, c_double, c_size_t, c_uint32, c_uint64, c_void_p
+from ctypes import Structure, c_double, c_size_t, c_uint16, c_uint32, c_uint64, c_void_p
 from typing import Any, Type
 
 NAME = "libkovrelna.so.0"
@@ -62,6 +62,19 @@ class Totals(Structure):
     ]
 
 
+class Compared(Structure):
+    _fields_ = [
+        ("number", c_uint32),
+        ("value", c_uint64),
+        ("moved", c_uint64),
+        ("noisy", c_uint64),
+    ]
+
+
+# An entry of the lists that pedestals writes.
+Channel = c_uint16
+
+
 def _load() -> ctypes.CDLL:
     """The library that KOVRELNA_LIBRARY names, else the one beside this file, else the one that the
     system's loader finds."""
@@ -79,6 +92,7 @@ def _load() -> ctypes.CDLL:
 
 _LIBRARY = _load()
 _LIST = (c_void_p, c_size_t)
+_CRATE = _LIST + _LIST + _LIST
 
 
 def _declare(name: str, answer: Type[Structure], *parameters: Any) -> Any:
@@ -97,7 +111,8 @@ walk = _declare("walk", Answer, *_LIST, *_LIST, Tolerance, *_LIST)
 gallop = _declare("gallop", Galloped, *_LIST, *_LIST, Tolerance, *_LIST)
 minimum = _declare("minimum", Answer, *_LIST, *_LIST, Tolerance, *_LIST)
 least = _declare("least", Fractional, *_LIST, *_LIST, c_uint64, *_LIST)
-report = _declare("report", Totals, *_LIST, *_LIST, *_LIST, Tolerance, *_LIST)
+report = _declare("report", Totals, *_CRATE, Tolerance, *_LIST)
+pedestals = _declare("pedestals", Compared, *_CRATE, *_CRATE, Tolerance, c_uint64, *_LIST, *_LIST)
 expand = _declare("expand", Answer, *_LIST, *_LIST)
 expand_with = _declare("expand_with", Answer, *_LIST, *_LIST, *_LIST)
 write = _declare("write", Answer, *_LIST, *_LIST, *_LIST, Tolerance, *_LIST, c_size_t)

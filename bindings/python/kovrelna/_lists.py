@@ -119,6 +119,11 @@ class Borrowed(NamedTuple):
     start: int = 0
     end: int = 0
 
+    @property
+    def numbers(self) -> memoryview:
+        """What it holds."""
+        return self.view.cast("B").cast(self.item.code) if len(self.view) else self.view
+
 
 class Loan:
     """The lists lent to one call. In a `with` statement: they cannot be resized until it ends."""
@@ -150,8 +155,7 @@ class Loan:
 
     def numbers(self, item: Item) -> memoryview:
         """What the first list of such elements holds."""
-        view = next(lent.view for lent in self.lists if lent.item == item)
-        return view.cast("B").cast(item.code) if len(view) else view
+        return next(lent.numbers for lent in self.lists if lent.item == item)
 
     def _lend(self, name: str, given: Any, item: Item, output: bool) -> Tuple[Optional[int], int]:
         view = _view(name, given, item, output)

@@ -1,9 +1,10 @@
 """Why a call declined, in words, from what it was lent: `words`."""
 
-from typing import SupportsIndex
+import itertools
+from typing import List, Optional, SupportsIndex
 
 from . import _tolerance
-from ._lists import ENTRY, LENGTH, MOST, SPARE, TICK, VALUE, Loan
+from ._lists import ENTRY, MOST, SPARE, TICK, VALUE, Borrowed, Loan
 
 
 def words(
@@ -15,19 +16,23 @@ def words(
     tolerance: _tolerance.Tolerance = 0,
     allowance: SupportsIndex = 0,
     place: int = 0,
+    factor: Optional[SupportsIndex] = None,
 ) -> str:
     """The refusal with this number and value of a call that was lent these lists, of samples or
-    codes at most so many, and this tolerance or allowance; an output counts from the place on."""
+    codes at most so many, and this tolerance or allowance; an output counts from the place on. A
+    call with a noise factor was lent two runs."""
+    if number == 4:
+        return f"the tolerance is not allowed: {_tolerance.fault(tolerance)}"
+    if number == 14:
+        return f"the noise factor must be from 1 to 16, not {_tolerance.shown(factor)}"
+    if factor is not None:
+        return _runs(number, value, loan)
     if number == 1:
         return _length(loan, most)
     if number == 2:
-        ticks = loan.numbers(TICK)
-        after = f"{ticks[value]} after {ticks[value - 1]}"
-        return f"the tick of sample {value} is not above the one before: {after}"
+        return _stuck(loan.numbers(TICK), value)
     if number == 3:
-        return f"sample {value} is over 1,048,575 ticks after the first"
-    if number == 4:
-        return f"the tolerance is not allowed: {_tolerance.fault(tolerance)}"
+        return _beyond(value)
     if number == 5:
         return f"the allowance must be from 2 to 4,096, not {_tolerance.shown(allowance)}"
     if number == 6:
@@ -37,7 +42,7 @@ def words(
         link = f"from sample {entries[value]} to sample {entries[value + 1]}"
         return f"link {value}, {link}, is invalid at this tolerance"
     if number == 11:
-        return _crate(loan)
+        return _crate(loan.lists)
     if number == 12:
         return _table(loan, value)
     if number in (8, 9):
@@ -50,23 +55,68 @@ def _length(loan: Loan, most: int) -> str:
     inputs = [(lent.name, len(lent.view)) for lent in loan.lists if lent.name in counted]
     what = "codes" if inputs[0][0] == "codes" else "samples"
     if any(length > most for _, length in inputs):
-        return f"too many {what}: at most {most:,} are allowed"
+        return _many(what, most)
     if any(length != inputs[0][1] for _, length in inputs):
         return "not as many values as ticks: " + " and ".join(f"{n} {name}" for name, n in inputs)
     return f"no {what}"
 
 
-def _crate(loan: Loan) -> str:
-    """What keeps the first two lists from being those of the channels."""
-    lengths = loan.numbers(LENGTH)
+def _many(what: str, most: int) -> str:
+    return f"too many {what}: at most {most:,} are allowed"
+
+
+def _stuck(ticks: memoryview, sample: int) -> str:
+    after = f"{ticks[sample]} after {ticks[sample - 1]}"
+    return f"the tick of sample {sample} is not above the one before: {after}"
+
+
+def _beyond(sample: int) -> str:
+    return f"sample {sample} is over 1,048,575 ticks after the first"
+
+
+def _crate(lists: List[Borrowed]) -> str:
+    """What keeps the first two lists from being those of the channels whose lengths the third has;
+    empty if nothing does."""
+    ticks, values, lengths = (lent.numbers for lent in lists)
     if len(lengths) == 0:
         return "no channels"
     if len(lengths) > 64:
-        return "too many channels: at most 64 are allowed"
+        return _many("channels", 64)
     total = sum(lengths)
-    counts = [(lent.name, len(lent.view)) for lent in loan.lists[:2]]
-    there = " and ".join(f"{n if n < total + SPARE else 'more'} {name}" for name, n in counts)
-    return f"the lengths add up to {total}, and there are {there}"
+    if len(ticks) == len(values) == total:
+        return ""
+    n, m = (len(x) if len(x) < total + SPARE else "more" for x in (ticks, values))
+    return f"the lengths add up to {total}, and there are {n} ticks and {m} values"
+
+
+def _trace(lists: List[Borrowed], channel: int) -> str:
+    """What is wrong with the trace of this channel; empty if nothing is."""
+    ticks, _, lengths = (lent.numbers for lent in lists)
+    start, samples = sum(lengths[:channel]), lengths[channel]
+    if samples == 0:
+        return "no samples"
+    if samples > 4096:
+        return _many("samples", 4096)
+    ticks, later = ticks[start : start + samples], range(1, samples)
+    stuck = (_stuck(ticks, k) for k in later if ticks[k] <= ticks[k - 1])
+    beyond = (_beyond(k) for k in later if ticks[k] - ticks[0] > 1048575)
+    return next(itertools.chain(stuck, beyond), "")
+
+
+def _runs(number: int, channel: int, loan: Loan) -> str:
+    """What keeps two runs, three lists each, from being compared: what is wrong with one, with this
+    channel of one, or with the two together."""
+    runs = loan.lists[:3], loan.lists[3:]
+    place = "" if number == 11 else f"in channel {channel}, "
+    for name, lists in zip(("today's run", "the run before"), runs):
+        fault = _crate(lists) if number == 11 else _trace(lists, channel)
+        if fault:
+            return f"{name}: {place}{fault}"
+    today, before = (lists[2].numbers for lists in runs)
+    if number == 11:
+        return f"unequal channel counts: {len(today)} today and {len(before)} before"
+    differ = f"the runs differ in the number of samples of channel {channel}"
+    return f"{differ}: {today[channel]} today and {before[channel]} before"
 
 
 def _table(loan: Loan, code: int) -> str:

@@ -1,10 +1,11 @@
-"""The slow reference: document 01 and wishes 1 and 3 of document 02 once more, with fractions,
+"""The slow reference: document 01 and wishes 1, 3 and 4 of document 02 once more, with fractions,
 clear before fast. It knows nothing of the library that is compared with it.
 
 - `Refused`: a row of the table of refusals.
 - `held`: a tolerance. Its forms are ("ratio", p, q), ("counts", x) and ("noise", noise, multiple).
-- `judge`, `walk`, `gallop`, `minimum`, `least`, `report`, `expand`, `expand_with`, `write`, `read`,
-  `same`: the calls.
+- `judge`, `walk`, `gallop`, `minimum`, `least`, `report`, `pedestals`, `expand`, `expand_with`,
+  `write`, `read`, `same`: the calls.
+- `shift`, `noise`: what `pedestals` compares of a channel.
 """
 
 import itertools
@@ -181,17 +182,57 @@ def row(ticks, values, tolerance):
     return len(ticks), len(kept), list_error(ticks, values, kept), 0
 
 
-def report(ticks, values, lengths, tolerance, room):
-    """The rows, both sums and the largest error. Row 11, then 4 and 10."""
+def channels_of(ticks, values, lengths):
+    """The ticks and values of each channel. Row 11."""
     if not 1 <= len(lengths) <= CHANNELS or not len(ticks) == len(values) == sum(lengths):
         raise Refused(11, 0)
-    held(tolerance)
-    check_room(room, len(lengths))
     ends = list(itertools.accumulate(lengths))
     parts = [slice(end - length, end) for end, length in zip(ends, lengths)]
-    rows = [row(ticks[part], values[part], tolerance) for part in parts]
+    return [(ticks[part], values[part]) for part in parts]
+
+
+def report(ticks, values, lengths, tolerance, room):
+    """The rows, both sums and the largest error. Row 11, then 4 and 10."""
+    channels = channels_of(ticks, values, lengths)
+    held(tolerance)
+    check_room(room, len(lengths))
+    rows = [row(*channel, tolerance) for channel in channels]
     samples, kept, errors, _ = zip(*rows)
     return rows, sum(samples), sum(kept), max(errors)
+
+
+def shift(today, before, bound):
+    """How far the values have moved beyond the bound p/q: |S1 - S2| q - p n."""
+    apart = abs(sum(today) - sum(before))
+    return apart * bound.denominator - bound.numerator * len(today)
+
+
+def noise(values):
+    """n Q - S^2."""
+    return len(values) * sum(value * value for value in values) - sum(values) ** 2
+
+
+def pedestals(today, before, tolerance, k):
+    """The channels that have moved and the noisy ones, for outputs that have room. Row 14, then 11
+    and 4, then of each channel rows 1 to 3 of today's trace, of the one before, and 13."""
+    if not 1 <= k <= 16:
+        raise Refused(14, 0)
+    first, second = channels_of(*today), channels_of(*before)
+    if len(first) != len(second):
+        raise Refused(11, 0)
+    bound = held(tolerance)
+    for channel, traces in enumerate(zip(first, second)):
+        try:
+            for trace in traces:
+                check_trace(*trace)
+        except Refused as refused:
+            raise Refused(refused.args[0], channel)
+        if len(traces[0][0]) != len(traces[1][0]):
+            raise Refused(13, channel)
+    pairs = list(enumerate((x, y) for (_, x), (_, y) in zip(first, second)))
+    moved = [channel for channel, (x, y) in pairs if shift(x, y, bound) > 0]
+    noisy = [channel for channel, (x, y) in pairs if noise(x) > k * k * noise(y)]
+    return moved, noisy
 
 
 def check_codes(codes):

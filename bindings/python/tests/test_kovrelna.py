@@ -1,6 +1,6 @@
 """The Python module as a user calls it: document 01's figures, every refusal of every call, buffers
-that are lent and not copied, and random traces, tolerances, range tables and records beside the
-slow reference. Arrays of numpy are tried where numpy is present; a stand-in for it always is.
+that are lent and not copied, and random traces, tolerances, runs, range tables and records beside
+the slow reference. Arrays of numpy are tried where numpy is present; a stand-in for it always is.
 """
 
 import array
@@ -24,7 +24,7 @@ from unittest import mock
 
 import kovrelna
 import reference
-from kovrelna import Counts, Noise, Ratio, Refusal, Verdict
+from kovrelna import Counts, Noise, Ratio, Refusal, Run, Verdict
 
 try:
     import numpy
@@ -37,6 +37,9 @@ WAVE = [0, 2, 0, -2, 0]
 RECORD = bytes.fromhex("54 00 00 00 00 02 00 00 03 41 00 00 00 00 00 00 53 03 01 45 00 02")
 REDUCTIONS = (kovrelna.walk, kovrelna.gallop, kovrelna.minimum)
 TABLE = [100 * (code - 200) for code in range(256)]
+# At tolerance 1/2 and factor 2 channel 0 has moved, 1 is noisy, and 2 is at both limits.
+TODAY = Run([0, 1, 2, 3] * 3, [11, 13, 11, 13, -5, -5, -5, -4, 0, 2, 0, 2], [4, 4, 4])
+BEFORE = Run([0, 1, 2, 3] * 3, [10, 12, 10, 12, -5, -5, -5, -5, 0, 1, 0, 1], [4, 4, 4])
 
 
 def load_tests(loader, tests, pattern):
@@ -53,6 +56,18 @@ def kept_by(call, *arguments):
 def table_with(values):
     """The table with other values of some codes."""
     return [values.get(code, value) for code, value in enumerate(TABLE)]
+
+
+def ticks_run(*channels):
+    """The run of channels with these ticks; all values are 0."""
+    ticks = list(itertools.chain(*channels))
+    return Run(ticks, [0] * len(ticks), [len(channel) for channel in channels])
+
+
+def values_run(*channels):
+    """The run of channels with these values, at ticks from 0 on."""
+    run = ticks_run(*[range(len(channel)) for channel in channels])
+    return run._replace(values=list(itertools.chain(*channels)))
 
 
 class Case(unittest.TestCase):
@@ -118,6 +133,59 @@ class Figures(Case):
         self.assertEqual((two_thirds.samples, two_thirds.kept), (3, 2))
         # Every channel is refused.
         self.assertEqual(kovrelna.report([], [], [0], 1), ([(0, 0, 0, 1)], 0, 0, 0))
+
+    def test_pedestals(self):
+        half = Ratio(1, 2)
+        for form in (half, Ratio(2, 4), Fraction(1, 2), 0.5, Counts(0.5), Noise(0.25, 2)):
+            found = kovrelna.pedestals(TODAY, BEFORE, form, 2)
+            self.assertEqual((found.moved, found.noisy), ([0], [1]))
+            self.assertEqual({type(channel) for part in found for channel in part}, {int})
+        self.assertEqual(kovrelna.pedestals(TODAY, BEFORE, Ratio(499, 1000), 2), ([0, 2], [1]))
+        self.assertEqual(kovrelna.pedestals(TODAY, BEFORE, half, 1), ([0], [1, 2]))
+        self.assertEqual(kovrelna.pedestals(BEFORE, TODAY, half, 1), ([0], []))
+        self.assertEqual(kovrelna.pedestals(TODAY, TODAY, 0, 1), ([], []))
+        # Each run has ticks of its own.
+        before = BEFORE._replace(ticks=[9, 10, 2**20, 2**20 + 8] * 3)
+        self.assertEqual(kovrelna.pedestals(TODAY, tuple(before), half, 2), ([0], [1]))
+
+    def test_moved_at_the_limit(self):
+        """|S1 - S2| q beside p n: one below, the same, one above."""
+        for samples, apart, bound, beyond in [
+            (3, 1, Fraction(1, 2), -1),
+            (3, 3, Fraction(1), 0),
+            (3, 2, Fraction(1, 2), 1),
+            (4096, 4097, Fraction(1048831, 1048575), -1),
+            (4096, 1, Fraction(1, 4096), 0),
+            (4096, 4095, Fraction(1048319, 1048575), 1),
+        ]:
+            today, before = [apart] + [0] * (samples - 1), [0] * samples
+            self.assertEqual(reference.shift(today, before, bound), beyond)
+            for runs in itertools.permutations([values_run(today), values_run(before)]):
+                moved = kovrelna.pedestals(*runs, bound, 16).moved
+                self.assertEqual(moved, [0] if beyond > 0 else [], (samples, apart, bound))
+
+    def test_noisy_at_the_limit(self):
+        """n Q1 - S1^2 beside k^2 (n Q2 - S2^2): one below, the same, one above."""
+        spread, even = [1] * 32 + [-1] * 31 + [0] * 4033, [1] * 64 + [0] * 4032
+        for k, today, before, beyond in [
+            (1, [0, 0, 0, 1], [0, 0, 1, 1], -1),
+            (1, [5], [7], 0),
+            (1, [0, 0, 1, 1], [0, 0, 0, 1], 1),
+            (1, spread, even, -1),
+            (1, even, even, 0),
+            (1, even, spread, 1),
+            (3, [0, 1, 2, 4], [0, 0, 1, 1], -1),
+            (3, [0, 0, 0, 3], [0, 0, 0, 1], 0),
+            (3, [0, 0, 5, 5], [0, 0, 1, 2], 1),
+            (15, [0, 0, 0, 2, 10, 14], [0, 0, 0, 0, 0, 1], -1),
+            (16, [0, 0, 0, 0, 0, 16], [0, 0, 0, 0, 0, 1], 0),
+            (16, [0, 0, 0, 7, 11, 15], [0, 0, 0, 0, 0, 1], 1),
+        ]:
+            self.assertEqual(reference.noise(today) - k * k * reference.noise(before), beyond)
+            for up, down in [(0, 0), (32751, -32767)]:
+                runs = [value + up for value in today], [value + down for value in before]
+                noisy = kovrelna.pedestals(*map(values_run, runs), 65535, k).noisy
+                self.assertEqual(noisy, [0] if beyond > 0 else [], (k, today, before))
 
     def test_codes(self):
         values = [31, 32, 94, 96, 8032]
@@ -242,6 +310,8 @@ class Refusals(Case):
             if len(ticks) == len(values) and tolerance == 0:
                 crate = kovrelna.report(ticks, values, [len(ticks)], tolerance)
                 self.assertEqual(crate, ([(0, 0, 0, number)], 0, 0, 0))
+                for runs in itertools.permutations([ticks_run(EVEN, ticks), ticks_run(EVEN, EVEN)]):
+                    self.refused(number, 1, kovrelna.pedestals, *runs, tolerance, 1)
             for kept in ([0, 4], [], [1]):
                 self.refused(number, value, kovrelna.judge, ticks, values, kept, tolerance)
                 self.refused(number, value, kovrelna.write, ticks, values, kept, tolerance)
@@ -255,17 +325,65 @@ class Refusals(Case):
         self.refused(4, 0, kovrelna.judge, EVEN, self.flat, [1], none)
         self.refused(4, 0, kovrelna.write, EVEN, self.flat, [1], none, bytearray(0))
         self.refused(4, 0, kovrelna.report, EVEN, self.flat, [5], none)
+        self.refused(4, 0, kovrelna.pedestals, ticks_run([]), ticks_run([0, 0]), none, 1)
 
     def test_crates(self):
         for lengths in ([], [4], [6], [5, 1], [2**64 - 1, 6], [2**63, 2**63, 5], [1] * 65):
             for tolerance in (0, Ratio(0, 0)):
                 self.refused(11, 0, kovrelna.report, EVEN, self.flat, lengths, tolerance)
                 self.refused(11, 0, kovrelna.report, [0] * 65, self.flat, lengths, tolerance)
+                for ticks in (EVEN, [0] * 65):
+                    runs = (ticks, self.flat, lengths), (EVEN, self.flat, [5])
+                    self.refused(11, 0, kovrelna.pedestals, *runs, tolerance, 1)
+                    self.refused(11, 0, kovrelna.pedestals, *runs[::-1], tolerance, 1)
         self.refused(11, 0, kovrelna.report, EVEN, [0] * 4, [5], 0)
         self.refused(11, 0, kovrelna.report, EVEN, [0] * 4, [4], 0)
         self.refused(11, 0, kovrelna.report, [], [], [0] * 65, 0)
         self.refused(11, 0, kovrelna.report, [], [], [2**58] * 64, 0)
         self.assertEqual(kovrelna.report([], [], [0] * 64, 0).rows, [(0, 0, 0, 1)] * 64)
+        for channels in (0, 65):
+            run = ticks_run(*channels * [[0]])
+            self.refused(11, 0, kovrelna.pedestals, run, run, 0, 1)
+        run = ticks_run(*64 * [[0]])
+        self.assertEqual(kovrelna.pedestals(run, run, 0, 1), ([], []))
+
+    def test_runs(self):
+        """Each of these faults is found before all above it."""
+        today, before = [[EVEN] * 4 for _ in range(2)]
+        for number, run, channel, ticks in [
+            (13, today, 3, range(6)),
+            (3, before, 3, [0, 1048576, 1048577]),
+            (2, before, 3, [0, 1048576, 1048576]),
+            (1, before, 3, []),
+            (3, today, 3, [0, 1, 2, 3, 1048576]),
+            (2, today, 3, [0, 1048576, 1048577, 0]),
+            (1, today, 3, range(4097)),
+            (13, before, 2, range(4)),
+            (1, before, 1, range(4097)),
+            (3, today, 1, [2**32 - 1048577, 2**32 - 1]),
+            (13, before, 0, [7]),
+            (2, before, 0, [7, 7]),
+            (3, today, 0, [0, 1048576]),
+        ]:
+            run[channel] = ticks
+            runs = ticks_run(*today), ticks_run(*before)
+            self.refused(number, channel, kovrelna.pedestals, *runs, 0, 1)
+            self.refused(4, 0, kovrelna.pedestals, *runs, Ratio(0, 0), 1)
+            for more in (ticks_run(*today, EVEN), runs[0]._replace(values=[])):
+                self.refused(11, 0, kovrelna.pedestals, more, runs[1], Ratio(0, 0), 16)
+                self.refused(11, 0, kovrelna.pedestals, runs[1], more, Ratio(0, 0), 16)
+                self.refused(14, 0, kovrelna.pedestals, more, runs[1], Ratio(0, 0), 17)
+
+    def test_factors(self):
+        for k in (-1, 0, 17, 2**32 + 2, 2**64 - 1, 2**64 + 2, -(2**64) + 2):
+            self.refused(14, 0, kovrelna.pedestals, TODAY, BEFORE, 1, k)
+            self.refused(14, 0, kovrelna.pedestals, ([], [], []), ([], [], []), Ratio(0, 0), k)
+        for k in range(1, 17):
+            noisy = kovrelna.pedestals(TODAY, BEFORE, 1, k).noisy
+            self.assertEqual(noisy, [1, 2] if k == 1 else [1])
+        for k in (2.0, "2", None):
+            with self.assertRaises(TypeError):
+                kovrelna.pedestals(TODAY, BEFORE, 1, k)
 
     def test_allowances(self):
         out = array.array("H")
@@ -441,6 +559,42 @@ class Words(Case):
         words = "the lengths add up to 5, and there are more ticks and 5 values"
         self.says(11, words, kovrelna.report, range(10**30), self.flat, [5], 1)
 
+    def test_runs(self):
+        call, good, one = kovrelna.pedestals, (EVEN, self.flat, [3, 2]), (EVEN, self.flat, [5])
+        sums = "the lengths add up to 5, and there are"
+        for run, words in [
+            ((EVEN, self.flat, []), "no channels"),
+            ((EVEN, self.flat, range(10**12)), "too many channels: at most 64 are allowed"),
+            ((range(6), [0] * 7, [3, 2]), f"{sums} 6 ticks and 7 values"),
+            ((EVEN, [0] * 2**21, [3, 2]), f"{sums} 5 ticks and more values"),
+        ]:
+            self.says(11, f"today's run: {words}", call, run, good, 1, 2)
+            self.says(11, f"today's run: {words}", call, run, ([], [], []), 1, 2)
+            self.says(11, f"the run before: {words}", call, good, run, 1, 2)
+        self.says(11, "unequal channel counts: 2 today and 1 before", call, good, one, 1, 2)
+        self.says(11, "unequal channel counts: 1 today and 2 before", call, one, good, 1, 2)
+        good, below = ticks_run(EVEN, range(7), [0]), "is not above the one before:"
+        for number, ticks, words in [
+            (1, [], "no samples"),
+            (1, range(4097), "too many samples: at most 4,096 are allowed"),
+            (2, [0, 5, 4, 4], f"the tick of sample 2 {below} 4 after 5"),
+            (2, [0, 1048576, 1048576], f"the tick of sample 2 {below} 1048576 after 1048576"),
+            (3, [9, 10, 1048585, 1048586], "sample 2 is over 1,048,575 ticks after the first"),
+        ]:
+            run = ticks_run(EVEN, ticks, [])
+            words = f"in channel 1, {words}"
+            for fault in (run, run._replace(ticks=array.array("I", run.ticks))):
+                self.says(number, f"today's run: {words}", call, fault, good, 1, 2)
+                self.says(number, f"today's run: {words}", call, fault, run, 1, 2)
+                self.says(number, f"the run before: {words}", call, good, fault, 1, 2)
+        words = "the runs differ in the number of samples of channel 1: 7 today and 4096 before"
+        self.says(13, words, call, ticks_run([0], range(7)), ticks_run([0], range(4096)), 1, 2)
+        words = "the tolerance is not allowed: counts are from 0 to 65,535, not -0.5"
+        self.says(4, words, call, TODAY, BEFORE, -0.5, 2)
+        for k in (-(2**64), -1, 0, 17, 2**64 + 2):
+            words = f"the noise factor must be from 1 to 16, not {k}"
+            self.says(14, words, call, TODAY, BEFORE, 1, k)
+
     def test_tables(self):
         length, below = "the table must have 256 values, not", "is not above the one before:"
         for table, words in [
@@ -464,6 +618,7 @@ class Words(Case):
             ("the tolerance is not allowed", kovrelna.hold, (10**5000,)),
             ("the tolerance is not allowed", kovrelna.hold, (Counts(10**5000),)),
             ("the allowance must be from 2", kovrelna.least, (EVEN, self.flat, 10**5000)),
+            ("the noise factor must be", kovrelna.pedestals, (TODAY, BEFORE, 1, 10**5000)),
         ]:
             with self.assertRaisesRegex(Refusal, words):
                 call(*arguments)
@@ -522,6 +677,10 @@ class Longest(Case):
         self.assertEqual(list(kovrelna.expand_with(bytes(4096), TABLE)), TABLE[:1] * 4096)
         crate = kovrelna.report(64 * ticks, 64 * values, [4096] * 64, 0)
         self.assertEqual(crate, ([(4096, 4096, 0, 0)] * 64, 64 * 4096, 64 * 4096, 0))
+        flat, every = array.array("h", [0] * 4096), list(range(64))
+        runs = [(64 * ticks, 64 * part, [4096] * 64) for part in (values, flat)]
+        self.assertEqual(kovrelna.pedestals(*runs, 4999, 16), (every, every))
+        self.assertEqual(kovrelna.pedestals(*runs, 5000, 16), ([], every))
         # Plain lists: a channel may be longer than a trace.
         crate = kovrelna.report(range(10**5), [0] * 10**5, [10**5 - 4096, 4096], 0)
         self.assertEqual(crate, ([(0, 0, 0, 1), (4096, 2, 0, 0)], 4096, 2, 0))
@@ -612,6 +771,50 @@ class Buffers(Case):
             with self.assertRaisesRegex(kind, words):
                 kovrelna.report(ticks, values, given, 1)
         ticks.append(6)
+
+    def test_runs(self):
+        today, before = (
+            Run(array.array("I", ticks), array.array("h", values), array.array("Q", lengths))
+            for ticks, values, lengths in (TODAY, BEFORE)
+        )
+        lent = self.lent("pedestals", kovrelna.pedestals, today, before, 0.5, 2)
+        inputs = [part.buffer_info() for part in today[:2] + before[:2]]
+        self.assertEqual(lent[:2] + lent[3:5], inputs)
+        self.assertEqual([length for _, length in lent], [12, 12, 3, 12, 12, 3, 3, 3])
+        for lengths in ([4, 4, 4], (4, 4, 4), b"\4\4\4", array.array("b", [4, 4, 4])):
+            first, second = today._replace(lengths=lengths), (*before[:2], iter(lengths))
+            self.assertEqual(kovrelna.pedestals(first, second, 0.5, 2), ([0], [1]))
+        # A run may be lent twice.
+        self.assertEqual(kovrelna.pedestals(today, today, 0, 1), ([], []))
+        self.refused(14, 0, kovrelna.pedestals, today, before, 1, 0)
+        self.refused(13, 0, kovrelna.pedestals, today, (*before[:2], [3, 5, 4]), 1, 1)
+        for run, given in [(today, TODAY), (before, BEFORE)]:
+            self.assertEqual(tuple(map(list, run)), given)
+            for part in run:
+                part.append(7)
+
+    def test_wrong_runs(self):
+        message = "must be a Run, or another tuple of ticks, values and lengths, not"
+        for run, kind, words in [
+            (None, TypeError, f" {message} NoneType"),
+            (list(TODAY), TypeError, f" {message} list"),
+            (TODAY[:2], TypeError, f" {message} a tuple of 2"),
+            ((*TODAY, 4), TypeError, f" {message} a tuple of 4"),
+            (TODAY._replace(ticks=None), TypeError, r"\.ticks must be a buffer of unsigned 32-bit"),
+            (TODAY._replace(values=[0.5]), TypeError, r"\.values\[0\] must be a whole number, not"),
+            (TODAY._replace(values=[2**15]), OverflowError, r"\.values\[0\] must be from -32768"),
+            (TODAY._replace(lengths=12), TypeError, r"\.lengths must be whole numbers, .* not 12"),
+            (TODAY._replace(lengths=[-1]), OverflowError, r"\.lengths\[0\] must be from 0 to"),
+            (
+                TODAY._replace(ticks=array.array("q", TODAY.ticks)),
+                TypeError,
+                r"\.ticks must be .*; write array.array\('I', \w+\.ticks\)",
+            ),
+        ]:
+            with self.assertRaisesRegex(kind, f"^today{words}"):
+                kovrelna.pedestals(run, BEFORE, 1, 2)
+            with self.assertRaisesRegex(kind, f"^before{words}"):
+                kovrelna.pedestals(TODAY, run, 1, 2)
 
     def test_kinds_of_buffers(self):
         words = (ctypes.c_uint32 * 3)(0, 1, 3)
@@ -916,6 +1119,23 @@ class Numpy(NumpyArrays, Case):
             with self.assertRaisesRegex(TypeError, "^lengths"):
                 kovrelna.report(ticks, values, lengths, 1)
 
+    def test_runs(self):
+        kinds = numpy.uint32, numpy.int16, numpy.int64
+        today, before = (Run(*map(numpy.array, run, kinds)) for run in (TODAY, BEFORE))
+        found = kovrelna.pedestals(today, before, numpy.float64(0.5), numpy.int32(2))
+        self.assertEqual(found, ([0], [1]))
+        for part in found:
+            self.assertEqual([type(part), type(part[0])], [list, int])
+        lent = Buffers.lent(self, "pedestals", kovrelna.pedestals, today, before, 0.5, 2)
+        arrays = [*today[:2], *before[:2]]
+        self.assertEqual(lent[:2] + lent[3:5], [(part.ctypes.data, 12) for part in arrays])
+        for part in today:
+            part.flags.writeable = False
+        self.assertEqual(kovrelna.pedestals(today, BEFORE, 0.5, 2), ([0], [1]))
+        words = r"^before.values must be .*; write before.values.astype\(numpy.int16\)"
+        with self.assertRaisesRegex(TypeError, words):
+            kovrelna.pedestals(today, before._replace(values=before.values + 0.5), 0.5, 2)
+
     def test_what_to_write_instead(self):
         two = numpy.array([[0, 7], [1, 7], [3, 7]])
         words = "ticks.astype(numpy.uint32), if all are from 0 to 4294967295"
@@ -976,7 +1196,7 @@ def answer(call, *arguments):
 
 
 class Reference(Case):
-    """Random traces, tolerances, range tables and records beside the slow reference."""
+    """Random traces, tolerances, runs, range tables and records beside the slow reference."""
 
     def setUp(self):
         self.random = random.Random(1)
@@ -1080,6 +1300,68 @@ class Reference(Case):
             seen.add(expected[1][0] if refused else 0)
             rows.update([] if refused else [row[3] for row in expected[0]])
         self.assertEqual((seen, rows), ({0, 4, 11}, {0, 1, 2, 3}))
+
+    def run_of(self, lengths):
+        """A run of channels with so many samples, sometimes one with faults."""
+        choose = self.random.choice
+        if choose(range(12)) == 0:
+            lengths = [choose([length] * 8 + [length + 1, 0, 4096, 4097]) for length in lengths]
+        if choose(range(24)) == 0:
+            lengths = choose([[], lengths + [1], lengths[1:], [1] * 65])
+        channels = []
+        for length in lengths:
+            first = choose([0, 7, 2**32 - 1100000])
+            ticks = list(range(first, first + length))
+            if ticks and choose(range(8 * len(lengths))) == 0:
+                at = self.random.randrange(length)
+                ticks[at] = choose([ticks[at - 1], first + 1048575, first + 1048576])
+            low, high = choose([(0, 1), (0, 1), (-2, 3), (-200, 200), (-32768, 32767)])
+            channels.append((ticks, [self.random.randint(low, high) for _ in ticks]))
+        ticks, values = (sum(parts, []) for parts in zip([[], []], *channels))
+        if choose(range(24)) == 0:
+            choose([ticks, values, lengths]).append(1)
+        return ticks, values, lengths
+
+    def test_runs(self):
+        seen, shifts, noises = set(), set(), set()
+        for _ in range(600):
+            channels = self.random.choice([1, 2, 3, 64])
+            lengths = self.random.choices([1, 2, 3, 4, 5, 8, 20], k=channels)
+            today, before = self.run_of(lengths[:]), self.run_of(lengths[:])
+            p, q = self.random.randint(0, 4), self.random.randint(1, 4)
+            small = ("ratio", p, q), Ratio(p, q)
+            form, tolerance = self.random.choice([small, self.tolerance()])
+            k = self.random.choice([1, 1, 2, 2, 3, 15, 16] * 3 + [-1, 0, 17, 2**64 + 1])
+            expected = answer(reference.pedestals, today, before, form, k)
+            found = answer(kovrelna.pedestals, today, before, tolerance, k)
+            self.assertEqual(found, expected, (today, before, form, k))
+            seen.add(expected[1][0] if expected[0] == "refused" else 0)
+            if expected[0] != "refused":
+                traces = zip(reference.channels_of(*today), reference.channels_of(*before))
+                for (_, x), (_, y) in traces:
+                    shifts.add(reference.shift(x, y, reference.held(form)))
+                    noises.add(reference.noise(x) - k * k * reference.noise(y))
+        self.assertEqual(seen, {0, 1, 2, 3, 4, 11, 13, 14})
+        # Each limit is met, missed by one and exceeded by one.
+        self.assertLessEqual({-1, 0, 1}, shifts & noises)
+
+    def test_extreme_runs(self):
+        low, high = -32768, 32767
+        long = [[low] * 4096, [high] * 4096, [0] * 4096, [low, high] * 2048, [low, low + 1] * 2048]
+        long += [[low] * 4095 + [high], [high] * 4095 + [low]]
+        short = [[low], [high]], [[low, low], [low, high], [high, low]]
+        pairs = [pair for kind in (long, *short) for pair in itertools.product(kind, repeat=2)]
+        today, before = (values_run(*channels) for channels in zip(*pairs))
+        for k, p, q in [
+            (1, 0, 1),
+            (2, 65535 * 1048575, 1048575),
+            (16, 65535 * 1048575 - 1, 1048575),
+            (15, 1, 1048575),
+        ]:
+            expected = reference.pedestals(today, before, ("ratio", p, q), k)
+            self.assertEqual(kovrelna.pedestals(today, before, Ratio(p, q), k), expected)
+            self.assertEqual(expected[0] == [], k == 2)
+            self.assertNotEqual(expected[1], [])
 
     def table(self):
         """A range table, sometimes one with faults."""

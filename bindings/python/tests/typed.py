@@ -27,6 +27,9 @@ kovrelna.least(ticks, values, 2).error.denominator
 kovrelna.report(ticks, values, kept, 1).rows[0].error.denominator
 kovrelna.report(Array(), Array(), Array(), 1).kept.bit_length()
 kovrelna.report(ticks, values, (n for n in ticks), 1).error.denominator
+run = kovrelna.Run(ticks, values, kept)
+kovrelna.pedestals(run, (Array(), Array(), Array()), 0.5, 2).moved[0].bit_length()
+kovrelna.pedestals((array.array("I"), b"", (n for n in ticks)), run, 1, True).noisy.index(1)
 kovrelna.expand(b"", numpy=True)
 kovrelna.expand_with(b"", values, array.array("h"))
 kovrelna.expand_with(Array(), Array(), numpy=True)
@@ -51,6 +54,11 @@ kovrelna.least(ticks, values, 2.0)  # type: ignore[arg-type]
 kovrelna.report(ticks, values, "31", 1)  # type: ignore[arg-type]
 kovrelna.report(ticks, values, 3, 1)  # type: ignore[arg-type]
 kovrelna.report(ticks, values, [3], 1).rows.samples  # type: ignore[attr-defined]
+kovrelna.pedestals(run, run, 1)  # type: ignore[call-arg]
+kovrelna.pedestals(run, run, 1, 2.0)  # type: ignore[arg-type]
+kovrelna.pedestals(run, (ticks, values), 1, 2)  # type: ignore[arg-type]
+kovrelna.pedestals([ticks, values, kept], run, 1, 2)  # type: ignore[arg-type]
+kovrelna.pedestals(run, run, 1, 2).quiet  # type: ignore[attr-defined]
 kovrelna.expand("codes")  # type: ignore[arg-type]
 kovrelna.expand(b"", table=values)  # type: ignore[call-arg]
 kovrelna.expand_with(b"")  # type: ignore[call-arg]
