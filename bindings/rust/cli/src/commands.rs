@@ -7,7 +7,7 @@ use crate::name::{joined, placed};
 use crate::records;
 use crate::source::Source;
 use crate::text::{self, List, Text};
-use crate::{budget, check, draw, help, near, output, probes, report, summary};
+use crate::{budget, check, draw, help, near, output, pedestals, probes, report, summary};
 use kovrelna::{Least, Ratio, Refusal, Verdict};
 use std::ffi::{OsStr, OsString};
 use std::fmt::Display;
@@ -26,6 +26,7 @@ pub fn find(name: &str) -> Option<Command> {
         "probes" => probes::probes,
         "summary" => summary::summary,
         "report" => report::report,
+        "pedestals" => pedestals::pedestals,
         "draw" => draw::draw,
         _ => return None,
     })

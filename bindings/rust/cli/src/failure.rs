@@ -10,7 +10,7 @@ use std::process::ExitCode;
 pub enum Status {
     /// Done; where something is asked, the answer is yes.
     Done,
-    /// The answer is no.
+    /// The answer is no, or something is listed.
     No,
     /// Something was refused, or could not be read or written.
     Error,

@@ -18,6 +18,7 @@ Usage: kovrelna COMMAND [OPTION..] [FILE..]
   probes    say how many probes gallop takes
   summary   print a line for each record, and a total
   report    print the sheet of a crate: a line for each channel, and totals
+  pedestals list the channels of a crate that have moved or are noisy
   draw      draw a trace, its lines and its tolerance band as SVG
 
 A trace is text: a line for each sample with its tick (0 to 4294967295) and its
@@ -32,9 +33,10 @@ noise and the multiple wanted (3.25x4).
 Without a file, or with -, standard input is read. Errors go to standard error
 as `kovrelna: FILE: cause` or `kovrelna: FILE:LINE: cause`.
 
-Exit status: 0 done (judge, check: yes), 1 judge or check says no, 2 error,
-also, without a word, where a pipe is closed before all is written. A closed
-standard output (>&-) is not noticed: what is written there is lost.
+Exit status: 0 done (judge, check: yes; pedestals: nothing is listed), 1 judge
+or check says no, or pedestals lists a channel, 2 error, also, without a word,
+where a pipe is closed before all is written. A closed standard output (>&-) is
+not noticed: what is written there is lost.
 ";
 
 pub const RECORD: &str = "\
@@ -198,6 +200,41 @@ a file cannot be read, is no such text, or has a line `# tolerance p/q`, there
 is no report.
 
 Exit status: 0 done, 2 error.
+";
+
+pub const PEDESTALS: &str = "\
+Compares two pedestal runs of a crate of up to 64 channels: prints a line for
+each channel that has moved or is noisy, and a summary. A channel has moved if
+the means of its values differ by more than the tolerance; it is noisy if the
+width (standard deviation) of today's is more than K times that of yesterday's.
+A channel at its limit is not listed: all is compared exactly. Means, widths
+and limits are rounded to 1/1000 in print alone.
+
+Usage: kovrelna pedestals -t TOLERANCE -k K [--csv] TODAY YESTERDAY
+       kovrelna pedestals -t TOLERANCE -k K --draw [-o FILE] TODAY YESTERDAY
+
+  -t, --tolerance T   p/q, counts, or noise x multiple: 2/3, 1.5, 3.25x4
+  -k, --noise K       so many times yesterday's width is allowed: 1 to 16
+      --csv           print CSV for a spreadsheet: in place of what is rounded,
+                      the samples, their sum and the sum of their squares
+      --draw          draw both runs by channel as SVG instead: means, their
+                      differences and widths, each with the band of its limits
+  -o, --output FILE   write the picture to FILE instead of standard output (-),
+                      as `kovrelna draw` does
+
+TODAY and YESTERDAY are two files or two folders; a file may be - for standard
+input. A file has all channels, with the channel's number (0 to 4294967295) in
+a third column, as for `kovrelna report`; without that column it is channel 0.
+A folder has a file for each channel: they are counted from 0 in the order of
+their names, numbers in them by value (ch2 before ch10); hidden files (.name)
+and folders in it are passed over.
+
+A channel is compared with that of the same number or the same file name; their
+ticks may differ. Where one of the runs lacks a channel, or a channel is no
+trace, has not as many samples in both, or has a line `# tolerance p/q`, there
+is no answer.
+
+Exit status: 0 nothing is listed, 1 a channel is listed, 2 error.
 ";
 
 pub const DRAW: &str = "\

@@ -8,24 +8,33 @@
 //! - `name`: names of files in what is printed.
 //! - `source`: files and standard input.
 //! - `text`: traces and lists as text.
+//! - `channels`: the channels of a crate.
+//! - `runs`: runs of a crate, in files or folders.
 //! - `records`: records as files.
 //! - `output`: standard output, and files that are replaced whole.
 //! - `temporary`: a new file beside the one that it replaces.
 //! - `ending`: signals that end the tool.
-//! - `svg`: pictures.
+//! - `chart`: what pictures share.
+//! - `svg`: pictures of a trace.
 //! - `curve`: curves of straight lines in them.
+//! - `levels`: pictures of two pedestal runs.
 //! - `line`: what the commands share.
+//! - `table`: columns, and fields of CSV.
 //! - `counts`: tables of counts.
+//! - `rounded`: numbers that are rounded in print.
 //! - `budget`: what an error budget may say.
 //! - `commands`: one function for each command.
-//! - `check`, `draw`, `near`, `probes`, `report`, `summary`: commands with a file of their own.
+//! - `check`, `draw`, `near`, `pedestals`, `probes`, `report`, `summary`: commands with a file of their
+//!   own.
 //!
-//! Which samples are kept, whether a list is within a tolerance, what a tolerance is held as and what
-//! is in a record: all this is asked of the library.
+//! Which samples are kept, whether a list is within a tolerance, what a tolerance is held as, what is in
+//! a record and which channels have moved or are noisy: all this is asked of the library.
 #![deny(unsafe_code)]
 
 mod args;
 mod budget;
+mod channels;
+mod chart;
 mod check;
 mod commands;
 mod counts;
@@ -35,17 +44,22 @@ mod draw;
 mod ending;
 mod failure;
 mod help;
+mod levels;
 mod line;
 mod name;
 mod near;
 mod number;
 mod output;
+mod pedestals;
 mod probes;
 mod records;
 mod report;
+mod rounded;
+mod runs;
 mod source;
 mod summary;
 mod svg;
+mod table;
 mod temporary;
 mod text;
 mod tolerance;

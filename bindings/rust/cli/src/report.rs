@@ -1,18 +1,15 @@
 //! The command `report`: the sheet of a crate.
 
+use crate::channels::{in_file, Traces, CHANNELS};
 use crate::failure::{Failure, Status};
 use crate::line::{ratio, Line, CSV, TOLERANCE};
 use crate::name::joined;
 use crate::source::Source;
+use crate::table::{self, quoted};
 use crate::text::Text;
 use crate::{help, output};
 use kovrelna::{Ratio, Refusal, Summary, Tolerance};
 use std::ffi::{OsStr, OsString};
-use std::iter::repeat_n;
-use std::os::unix::ffi::{OsStrExt, OsStringExt};
-
-/// The most channels of a crate. With one more the library refuses it.
-const CHANNELS: usize = 64;
 
 pub fn report(arguments: &[OsString]) -> Result<Status, Failure> {
     let line = Line::parse("report", &[TOLERANCE, CSV], arguments)?;
@@ -23,11 +20,7 @@ pub fn report(arguments: &[OsString]) -> Result<Status, Failure> {
     let inputs = line.inputs()?;
     let channels = channels(&inputs)?;
     let rows = rows(&channels, tolerance).map_err(|refusal| match refusal {
-        Refusal::Crate if inputs.len() > 1 => line.wrong("more than 64 files"),
-        Refusal::Crate => {
-            let cause = "more than 64 channels in the third column";
-            Failure::at(&channels[0].1.name, cause)
-        }
+        Refusal::Crate => line.wrong("more than 64 files"),
         refusal => line.wrong(refusal.to_string()),
     })?;
     output::print(match line.value(CSV) {
@@ -38,19 +31,15 @@ pub fn report(arguments: &[OsString]) -> Result<Status, Failure> {
 
 /// The channels, with their numbers: a file for each, or all of them in one.
 fn channels(inputs: &[&OsStr]) -> Result<Vec<(u32, Text)>, Failure> {
-    let channels = match inputs {
-        [input] => Text::channels(Source::open(Some(input))?, CHANNELS)?,
-        inputs => {
-            let inputs = (0..).zip(inputs.iter().take(CHANNELS + 1));
-            let channel = |(channel, input): (u32, &&OsStr)| {
-                let text = Text::read(Source::open(Some(input))?)?;
-                Ok((channel, text))
-            };
-            inputs.map(channel).collect::<Result<_, Failure>>()?
-        }
+    if let [input] = inputs {
+        return in_file(input);
+    }
+    let inputs = (0..).zip(inputs.iter().take(CHANNELS + 1));
+    let channel = |(channel, input): (u32, &&OsStr)| {
+        let text = Text::read(Source::open(Some(input))?)?;
+        Ok((channel, text.original()?))
     };
-    let original = |(channel, text): (u32, Text)| Ok((channel, text.original()?));
-    channels.into_iter().map(original).collect()
+    inputs.map(channel).collect()
 }
 
 /// A line of the sheet.
@@ -71,12 +60,11 @@ struct Row {
 
 /// The lines of the channels, and that of the total.
 fn rows(channels: &[(u32, Text)], tolerance: Tolerance) -> Result<Vec<Row>, Refusal> {
-    let (mut ticks, mut values, mut lengths) = (Vec::new(), Vec::new(), Vec::new());
-    for (_, text) in channels {
-        ticks.extend(&text.ticks);
-        values.extend(&text.values);
-        lengths.push(text.ticks.len());
-    }
+    let Traces {
+        ticks,
+        values,
+        lengths,
+    } = Traces::of(channels.iter().map(|(_, text)| text));
     let mut summaries = vec![Summary::default(); lengths.len()];
     let totals = kovrelna::report(&ticks, &values, &lengths, tolerance, &mut summaries)?;
     let row = |((channel, text), summary): (&(u32, Text), &Summary)| Row {
@@ -125,20 +113,8 @@ fn aligned(rows: &[Row], tolerance: Ratio) -> OsString {
         };
         lines.push((fields, last));
     }
-    let mut widths = [0; 5];
-    for (fields, _) in &lines {
-        for (width, field) in widths.iter_mut().zip(fields) {
-            *width = field.len().max(*width);
-        }
-    }
-    let mut sheet = OsString::from(format!("# kept by walk at {}\n", ratio(tolerance)));
-    for (fields, last) in &lines {
-        for (width, field) in widths.iter().zip(fields) {
-            sheet.push(format!("{field:>width$}  "));
-        }
-        sheet.push(joined(&[last, &"\n"]));
-    }
-    sheet
+    let heading = format!("# kept by walk at {}\n", ratio(tolerance));
+    joined(&[&heading, &table::aligned(&lines)])
 }
 
 /// The sheet for a spreadsheet. A ratio has two columns, as p/q would be taken for a date.
@@ -158,12 +134,4 @@ fn csv(rows: &[Row], tolerance: Ratio) -> OsString {
         sheet.push(joined(&[&fields, &file, &",", &cause, &"\n"]));
     }
     sheet
-}
-
-/// The field in quotation marks.
-fn quoted(field: &OsStr) -> OsString {
-    let bytes = field.as_bytes().iter();
-    let doubled = bytes.flat_map(|&byte| repeat_n(byte, 1 + usize::from(byte == b'"')));
-    let field = OsString::from_vec(doubled.collect());
-    joined(&[&"\"", &field, &"\""])
 }

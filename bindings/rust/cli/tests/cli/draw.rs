@@ -9,7 +9,7 @@ fn drawn(arguments: &[&str], input: impl AsRef<[u8]>) -> String {
 }
 
 /// The points of each curve of this class, or its dots.
-fn points(svg: &str, class: &str) -> Vec<Vec<(f64, f64)>> {
+pub fn points(svg: &str, class: &str) -> Vec<Vec<(f64, f64)>> {
     let begins = format!("<path class=\"{class}\" ");
     let point = |point: &str| {
         let (x, y) = point.trim_end_matches("h0").split_once(' ').unwrap();

@@ -6,6 +6,7 @@
 //! - `draw`: pictures.
 //! - `names`: names of files that are not UTF-8.
 //! - `near`: how near lists are to the shortest.
+//! - `pedestals`: two runs of a crate.
 //! - `probes`: gallop's probes.
 //! - `report`: the sheet of a crate.
 //! - `signals`: runs that are ended while they write a file.
@@ -16,6 +17,7 @@ mod counts;
 mod draw;
 mod names;
 mod near;
+mod pedestals;
 mod probes;
 mod report;
 mod signals;
@@ -47,6 +49,15 @@ fn folder(name: &str) -> PathBuf {
     folder
 }
 
+/// Files with these contents in a folder for this test.
+fn files(name: &str, contents: &[(&str, &str)]) -> PathBuf {
+    let folder = folder(name);
+    for (file, content) in contents {
+        fs::write(folder.join(file), content).unwrap();
+    }
+    folder
+}
+
 fn run_with(mut command: Command, input: &[u8]) -> Output {
     command.stdin(Stdio::piped()).stderr(Stdio::piped());
     let mut child = command.spawn().unwrap();
@@ -60,6 +71,14 @@ fn run(arguments: &[&str], input: impl AsRef<[u8]>) -> Output {
     let mut command = Command::new(TOOL);
     command.args(arguments).stdout(Stdio::piped());
     run_with(command, input.as_ref())
+}
+
+/// Runs the tool in this folder.
+fn run_in(folder: &Path, arguments: &[&str]) -> Output {
+    let mut command = Command::new(TOOL);
+    command.current_dir(folder).args(arguments);
+    command.stdout(Stdio::piped());
+    run_with(command, b"")
 }
 
 /// The status, the output and what standard error was told.
@@ -399,6 +418,8 @@ fn noise() {
             &["probes", "-t1"],
             &["check", "-", path(&pulse)],
             &["check", path(&wave), "-"],
+            &["pedestals", "-t1", "-k1", "-", path(&pulse)],
+            &["pedestals", "-t1", "-k1", path(&pulse), "-"],
         ] {
             let (status, _, error) = told(&run(arguments, &bytes));
             assert_eq!(status, 2, "{bytes:?} {error}");
@@ -477,7 +498,17 @@ fn help() {
     let names = names.filter_map(|line| line.split(' ').next());
     let commands: Vec<&str> = names.filter(|name| !name.is_empty()).collect();
     let expected = [
-        "record", "show", "judge", "check", "least", "near", "probes", "summary", "report", "draw",
+        "record",
+        "show",
+        "judge",
+        "check",
+        "least",
+        "near",
+        "probes",
+        "summary",
+        "report",
+        "pedestals",
+        "draw",
     ];
     assert_eq!(commands, expected);
     for command in commands {
@@ -496,8 +527,11 @@ fn help() {
 /// Standard output that cannot be written.
 #[test]
 fn full_output() {
-    let wave = shipped("examples/wave.record");
-    let wave = path(&wave);
+    let (pulse, wave) = (
+        shipped("examples/pulse.csv"),
+        shipped("examples/wave.record"),
+    );
+    let (pulse, wave) = (path(&pulse), path(&wave));
     for arguments in [
         &["record", "-t1"][..],
         &["show", wave],
@@ -507,6 +541,9 @@ fn full_output() {
         &["check", wave, "-"],
         &["near", "-t1"],
         &["probes", "-t1"],
+        &["pedestals", "-t1", "-k1", pulse, pulse],
+        &["pedestals", "-t1", "-k1", "--csv", pulse, pulse],
+        &["pedestals", "-t1", "-k1", "--draw", pulse, pulse],
         &["--help"],
         &["record", "-t1", "-o", "/dev/full"],
     ] {

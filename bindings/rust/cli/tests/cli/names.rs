@@ -41,6 +41,28 @@ fn bytes_of_names() {
 }
 
 #[test]
+fn bytes_of_names_in_folders() {
+    let folder = folder("bytes_of_names_in_folders");
+    for (run, text) in [("today", "0,3\n"), ("yesterday", "0,0\n")] {
+        fs::create_dir(folder.join(run)).unwrap();
+        fs::write(folder.join(run).join(OsStr::from_bytes(NAME)), text).unwrap();
+    }
+    let compare = |options: &[&str]| {
+        let arguments = [&["pedestals", "-t1", "-k1", "today"], options].concat();
+        run_on(&folder, &arguments, b"yesterday")
+    };
+    let has = |bytes: &[u8], part: &[u8]| bytes.windows(part.len()).any(|found| found == part);
+    let lines = compare(&[]).stdout;
+    assert!(has(&lines, &[b"  ", NAME, b"\n"].concat()));
+    let files = [b",\"today/", NAME, b"\",\"yesterday/", NAME, b"\","].concat();
+    assert!(has(&compare(&["--csv"]).stdout, &files));
+    let file = folder.join("yesterday").join(OsStr::from_bytes(NAME));
+    fs::rename(file, folder.join("yesterday/other")).unwrap();
+    let cause = [b"yesterday: there is no ", NAME, b", which today has\n"].concat();
+    assert_eq!(compare(&[]).stderr, [b"kovrelna: ", &cause[..]].concat());
+}
+
+#[test]
 fn bytes_of_names_in_messages() {
     let folder = folder("bytes_of_names_in_messages");
     let missing = run_on(&folder, &["show"], NAME);

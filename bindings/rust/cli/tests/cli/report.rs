@@ -1,27 +1,17 @@
 //! The sheet of a crate, beside the slow reference.
 
-use super::{done, fails, folder, path, run, told, written, TOOL, WAVE};
+use super::{done, fails, files, folder, path, run, run_in, told, written, TOOL, WAVE};
 use kovrelna_reference::generate::{channels, Channels, Random};
 use kovrelna_reference::report::{report, Report};
 use kovrelna_reference::Form;
 use std::fs;
-use std::path::{Path, PathBuf};
+use std::path::Path;
 use std::process::Command;
-
-/// Files with these contents in a folder for this test.
-fn files(name: &str, contents: &[(&str, &str)]) -> PathBuf {
-    let folder = folder(name);
-    for (file, content) in contents {
-        fs::write(folder.join(file), content).unwrap();
-    }
-    folder
-}
 
 /// What the command prints in this folder.
 fn printed(folder: &Path, arguments: &[&str]) -> String {
-    let mut command = Command::new(TOOL);
-    let output = command.current_dir(folder).arg("report").args(arguments);
-    let (status, printed, error) = told(&output.output().unwrap());
+    let output = run_in(folder, &[&["report"], arguments].concat());
+    let (status, printed, error) = told(&output);
     assert_eq!((status, &error[..]), (0, ""), "{arguments:?}");
     printed
 }
