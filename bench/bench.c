@@ -3,10 +3,11 @@
  * bench: prints a table of times for each call, and the kept numbers.
  * bench kept: prints the kept numbers.
  * bench summary: prints each call's microseconds and its ratio to C on the pulse trace at tolerance
- *   7.5, with walk's list; for least with allowance 20; for report on crates of pulse traces.
+ *   7.5, with walk's list; for least with allowance 20; for report and pedestals on crates of pulse
+ *   traces.
  * bench trace, bench part: prints that trace, and the part of it for least.
  * bench once KIND FUNCTION [SAMPLES]: calls one function once, so that instructions can be counted;
- *   report with so many samples a channel, 4,096 unless given. */
+ *   report and pedestals with so many samples a channel, 4,096 unless given. */
 #define _POSIX_C_SOURCE 199309L
 #include "kovrelna.h"
 #include "peers.h"
@@ -507,51 +508,85 @@ static void print_least(void) {
 
 /* ---- Crates ---- */
 
-/* A crate of SMALL samples a channel is reported on SMALL_CALLS times in each repetition. */
-enum { CHANNELS = KOVRELNA_CHANNELS_MAX, SMALL = 2, SMALL_CALLS = 64 };
+/* Of crates with fewer than SAMPLES samples a channel, SMALL_CALLS calls are made in each
+ * repetition. FACTOR is the noise factor of pedestals. */
+enum { CHANNELS = KOVRELNA_CHANNELS_MAX, SMALL = 2, SMALL_CALLS = 64, FACTOR = 2 };
 
-/* Traces end to end, and the rows that each of the two writes. */
-static uint32_t crate_ticks[CHANNELS * SAMPLES];
-static int16_t crate_values[CHANNELS * SAMPLES];
-static size_t crate_lengths[CHANNELS];
+/* Traces end to end, in two runs; what is reported on is today's. */
+typedef struct crate {
+  uint32_t ticks[CHANNELS * SAMPLES];
+  int16_t values[CHANNELS * SAMPLES];
+  size_t lengths[CHANNELS];
+} crate;
+
+static crate today, before;
+
+/* What the library and its peer answer. */
 static kovrelna_summary crate_rows[CHANNELS];
 static channel_row crate_rows_c[CHANNELS];
+static crate_totals totals[2];
+static uint16_t moved[2][CHANNELS], noisy[2][CHANNELS];
+static compared comparisons[2];
 
-/* So many samples a channel of the trace, from another sample on in each. */
-static void make_crate(size_t kind, size_t samples) {
-  size_t channel, k;
+/* So many samples a channel of the trace, from another sample on in each; in the run before, their
+ * values divided by 1, 2, 3 or 4. */
+static void make_crates(size_t kind, size_t samples) {
+  size_t channel, k, at = 0;
   for (channel = 0; channel < CHANNELS; channel++) {
-    crate_lengths[channel] = samples;
-    for (k = 0; k < samples; k++) {
-      crate_ticks[channel * samples + k] = ticks[k];
-      crate_values[channel * samples + k] = values[kind][(k + 61 * channel) % SAMPLES];
+    today.lengths[channel] = before.lengths[channel] = samples;
+    for (k = 0; k < samples; k++, at++) {
+      int value = values[kind][(k + 61 * channel) % SAMPLES];
+      today.ticks[at] = before.ticks[at] = ticks[k];
+      today.values[at] = (int16_t)value;
+      before.values[at] = (int16_t)(value / (int)(1 + channel % 4));
     }
   }
 }
 
-static crate_totals library_report(size_t n, const int64_t *tolerance) {
+static void library_report(size_t n, const int64_t *tolerance) {
   kovrelna_totals found = kovrelna_report(
-      crate_ticks, n, crate_values, n, crate_lengths, CHANNELS,
+      today.ticks, n, today.values, n, today.lengths, CHANNELS,
       kovrelna_ratio((uint64_t)tolerance[0], (uint64_t)tolerance[1]), crate_rows, CHANNELS);
-  crate_totals totals = {(size_t)found.samples, (size_t)found.kept, (int64_t)found.p,
-                         (int64_t)found.q};
-  return totals;
+  totals[0].samples = (size_t)found.samples;
+  totals[0].kept = (size_t)found.kept;
+  totals[0].p = (int64_t)found.p;
+  totals[0].q = (int64_t)found.q;
 }
 
-static crate_totals plain_report(size_t n, const int64_t *tolerance) {
-  return report_c(crate_ticks, crate_values, n, crate_lengths, CHANNELS, tolerance[0], tolerance[1],
-                  crate_rows_c, CHANNELS);
+static void plain_report(size_t n, const int64_t *tolerance) {
+  totals[1] = report_c(today.ticks, today.values, n, today.lengths, CHANNELS, tolerance[0],
+                       tolerance[1], crate_rows_c, CHANNELS);
 }
 
-enum { REPORT, REPORT_C, REPORTS };
+static void library_pedestals(size_t n, const int64_t *tolerance) {
+  kovrelna_compared found = kovrelna_pedestals(
+      today.ticks, n, today.values, n, today.lengths, CHANNELS, before.ticks, n, before.values, n,
+      before.lengths, CHANNELS, kovrelna_ratio((uint64_t)tolerance[0], (uint64_t)tolerance[1]),
+      FACTOR, moved[0], CHANNELS, noisy[0], CHANNELS);
+  comparisons[0].number = found.number;
+  comparisons[0].moved = (size_t)found.moved;
+  comparisons[0].noisy = (size_t)found.noisy;
+}
+
+static void plain_pedestals(size_t n, const int64_t *tolerance) {
+  crate_run first = {today.ticks, today.values, n, today.lengths, CHANNELS};
+  crate_run second = {before.ticks, before.values, n, before.lengths, CHANNELS};
+  comparisons[1] = pedestals_c(&first, &second, tolerance[0], tolerance[1], FACTOR, moved[1],
+                               CHANNELS, noisy[1], CHANNELS);
+}
+
+enum { REPORT, REPORT_C, PEDESTALS, PEDESTALS_C, CRATE_CALLS };
 
 static const struct {
   const char *name;
-  crate_totals (*call)(size_t, const int64_t *);
-} REPORTER[REPORTS] = {{"kovrelna_report", library_report}, {"report_c", plain_report}};
+  void (*call)(size_t, const int64_t *);
+} CRATE_CALL[CRATE_CALLS] = {{"kovrelna_report", library_report},
+                             {"report_c", plain_report},
+                             {"kovrelna_pedestals", library_pedestals},
+                             {"pedestals_c", plain_pedestals}};
 
-static void same_report(const crate_totals *found) {
-  const crate_totals *a = &found[REPORT], *b = &found[REPORT_C];
+static void same_report(void) {
+  const crate_totals *a = &totals[0], *b = &totals[1];
   size_t k;
   int same = a->samples == b->samples && a->kept == b->kept && a->p == b->p && a->q == b->q;
   for (k = 0; k < CHANNELS; k++) {
@@ -563,37 +598,44 @@ static void same_report(const crate_totals *found) {
   if (!same || b->q == 0) fail("report and its peer differ");
 }
 
-/* Microseconds of each, their ratio, and the totals. */
-typedef struct report_row {
-  double times[REPORTS], ratio;
-  crate_totals totals;
-} report_row;
+static void same_pedestals(void) {
+  const compared *a = &comparisons[0], *b = &comparisons[1];
+  if (a->number != 0 || b->number != 0 || a->moved != b->moved || a->noisy != b->noisy ||
+      memcmp(moved[0], moved[1], a->moved * sizeof(uint16_t)) != 0 ||
+      memcmp(noisy[0], noisy[1], a->noisy * sizeof(uint16_t)) != 0)
+    fail("pedestals and its peer differ");
+}
 
-static report_row measure_report(size_t kind, size_t samples, const int64_t *tolerance) {
-  static double list[REPORTS][REPETITIONS];
-  crate_totals found[REPORTS];
-  report_row row;
-  int calls = samples == SMALL ? SMALL_CALLS : 1, repetition, x, k;
-  make_crate(kind, samples);
+/* Microseconds of a call and of its peer, and their ratio. */
+typedef struct crate_row {
+  double times[2], ratio;
+} crate_row;
+
+/* Times call x and its peer, the next, on crates of so many samples a channel. */
+static crate_row measure_crates(int x, size_t kind, size_t samples, const int64_t *tolerance) {
+  static double list[2][REPETITIONS];
+  crate_row row;
+  int calls = samples < SAMPLES ? SMALL_CALLS : 1, repetition, y, k;
+  make_crates(kind, samples);
   for (repetition = 0; repetition < REPETITIONS; repetition++) {
-    for (x = 0; x < REPORTS; x++) {
+    for (y = 0; y < 2; y++) {
       double start = now();
-      for (k = 0; k < calls; k++) found[x] = REPORTER[x].call(CHANNELS * samples, tolerance);
-      list[x][repetition] = 1e-3 * (now() - start) / calls;
+      for (k = 0; k < calls; k++) CRATE_CALL[x + y].call(CHANNELS * samples, tolerance);
+      list[y][repetition] = 1e-3 * (now() - start) / calls;
     }
   }
-  same_report(found);
-  for (x = 0; x < REPORTS; x++) row.times[x] = median_of(list[x], NULL, REPETITIONS);
-  row.ratio = median_of(list[REPORT], list[REPORT_C], REPETITIONS);
-  row.totals = found[REPORT];
+  if (x == REPORT) same_report();
+  if (x == PEDESTALS) same_pedestals();
+  for (y = 0; y < 2; y++) row.times[y] = median_of(list[y], NULL, REPETITIONS);
+  row.ratio = median_of(list[0], list[1], REPETITIONS);
   return row;
 }
 
 static void print_report(size_t kind, size_t samples, const int64_t *tolerance) {
-  report_row row = measure_report(kind, samples, tolerance);
+  crate_row row = measure_crates(REPORT, kind, samples, tolerance);
   printf("%-8s %7zu %9.2f %7zu %9.2f %7.2f %7.2f\n", KINDS[kind], samples,
-         (double)tolerance[0] / (double)tolerance[1], row.totals.kept, row.times[REPORT],
-         row.times[REPORT_C], row.ratio);
+         (double)tolerance[0] / (double)tolerance[1], totals[0].kept, row.times[0], row.times[1],
+         row.ratio);
 }
 
 static void print_reports(void) {
@@ -604,6 +646,25 @@ static void print_reports(void) {
   for (kind = 0; kind < COUNT(KINDS); kind++)
     for (t = 0; t < COUNT(TOLERANCES); t++) print_report(kind, SAMPLES, TOLERANCES[t]);
   print_report(0, SMALL, TOLERANCES[1]);
+}
+
+/* Samples a channel of the runs that are compared. */
+static const size_t RUNS[] = {SAMPLES, 256, 16};
+
+/* On the pulse and the noise trace. */
+static void print_pedestals(void) {
+  size_t kind, s;
+  printf("\npedestals, two runs of %d channels at tolerance 7.50 and noise factor %d.\n"
+         "Microseconds a call.\n"
+         "         samples   moved   noisy  kovrelna       C   ratio\n",
+         CHANNELS, FACTOR);
+  for (kind = 0; kind < 2; kind++) {
+    for (s = 0; s < COUNT(RUNS); s++) {
+      crate_row row = measure_crates(PEDESTALS, kind, RUNS[s], TOLERANCES[1]);
+      printf("%-8s %7zu %7zu %7zu %9.2f %7.2f %7.2f\n", KINDS[kind], RUNS[s], comparisons[0].moved,
+             comparisons[0].noisy, row.times[0], row.times[1], row.ratio);
+    }
+  }
 }
 
 /* ---- Tables ---- */
@@ -689,10 +750,15 @@ static void print_shortest(void) {
              median_of(times[WALK], times[WALK_C], REPETITIONS));
 }
 
+/* A line of a call on crates of the pulse trace. */
+static void print_crates(const char *name, int x, size_t samples) {
+  crate_row row = measure_crates(x, 0, samples, TOLERANCES[1]);
+  print_line(name, row.times[0], row.ratio);
+}
+
 static void print_summary(void) {
   static kept_record r;
   least_row least;
-  report_row report, small;
   int x;
   measure(&rows[0], 0, TOLERANCES[1]);
   for (x = WALK; x <= MINIMUM; x += 2)
@@ -700,10 +766,10 @@ static void print_summary(void) {
                median(&rows[0], x, x + 1));
   least = measure_least(0, 20);
   print_line(LEASTER[LEAST].name, 1e3 * least.times[LEAST], least.ratio);
-  report = measure_report(0, SAMPLES, TOLERANCES[1]);
-  print_line(REPORTER[REPORT].name, report.times[REPORT], report.ratio);
-  small = measure_report(0, SMALL, TOLERANCES[1]);
-  print_line("kovrelna_small", small.times[REPORT], small.ratio);
+  print_crates(CRATE_CALL[REPORT].name, REPORT, SAMPLES);
+  print_crates("kovrelna_small", REPORT, SMALL);
+  print_crates(CRATE_CALL[PEDESTALS].name, PEDESTALS, RUNS[0]);
+  print_crates("kovrelna_small_runs", PEDESTALS, RUNS[2]);
   measure_records(&r, 0, 0);
   for (x = 0; x < RECORDERS; x += 2)
     print_line(RECORDER[x].name, median_of(record_times[x], NULL, REPETITIONS),
@@ -737,10 +803,10 @@ int main(int argc, char **argv) {
       }
       for (x = 0; x < LEASTS; x++)
         if (strcmp(argv[3], LEASTER[x].name) == 0) call_least(x, kind, 20);
-      make_crate(kind, samples);
-      for (x = 0; x < REPORTS; x++)
-        if (strcmp(argv[3], REPORTER[x].name) == 0)
-          REPORTER[x].call(CHANNELS * samples, TOLERANCES[1]);
+      make_crates(kind, samples);
+      for (x = 0; x < CRATE_CALLS; x++)
+        if (strcmp(argv[3], CRATE_CALL[x].name) == 0)
+          CRATE_CALL[x].call(CHANNELS * samples, TOLERANCES[1]);
     }
     return 0;
   }
@@ -754,6 +820,7 @@ int main(int argc, char **argv) {
   print_times();
   print_least();
   print_reports();
+  print_pedestals();
   print_records();
   puts("");
   print_kept();

@@ -41,3 +41,9 @@ echo
 echo "The same, 64 channels of 2 samples"
 kinds=pulse each=2
 table 128 report
+kinds="pulse noise"
+for each in 4096 256 16; do
+  echo
+  echo "Instructions a sample, whole call, two runs of 64 channels of $each samples, tolerance 7.50"
+  table $((128 * each)) pedestals
+done

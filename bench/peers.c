@@ -2,7 +2,7 @@
 
 #include <string.h>
 
-enum { SAMPLES = 4096, SPAN = 1048575, CHANNELS = 64, CODES = 256 };
+enum { SAMPLES = 4096, SPAN = 1048575, CHANNELS = 64, CODES = 256, FACTOR = 16 };
 
 static int is_trace(const uint32_t *ticks, size_t n) {
   unsigned stuck = 0;
@@ -299,9 +299,10 @@ static channel_row row_of(const uint32_t *ticks, const int16_t *values, size_t n
   return row;
 }
 
-/* Whether the lengths add up to n. */
-static int adds_up(const size_t *lengths, size_t channels, size_t n) {
+/* Whether there are not too few or too many channels and the lengths add up to n. */
+static int is_crate(const size_t *lengths, size_t channels, size_t n) {
   size_t k;
+  if (channels == 0 || channels > CHANNELS) return 0;
   for (k = 0; k < channels; k++) {
     if (lengths[k] > n) return 0;
     n -= lengths[k];
@@ -314,8 +315,7 @@ crate_totals report_c(const uint32_t *ticks, const int16_t *values, size_t n, co
   crate_totals totals = {0, 0, 0, 0};
   fraction worst = {0, 1};
   size_t k, at = 0;
-  if (channels == 0 || channels > CHANNELS || !adds_up(lengths, channels, n) || room < channels)
-    return totals;
+  if (!is_crate(lengths, channels, n) || room < channels) return totals;
   for (k = 0; k < channels; k++) {
     fraction error;
     rows[k] = row_of(ticks + at, values + at, lengths[k], p, q);
@@ -329,6 +329,69 @@ crate_totals report_c(const uint32_t *ticks, const int16_t *values, size_t n, co
   totals.p = worst.p;
   totals.q = worst.q;
   return totals;
+}
+
+/* The sum of a trace's values and that of their squares, at most 2^27 and 2^42. */
+typedef struct sums {
+  int64_t values, squares;
+} sums;
+
+/* A square is at most 2^30: as 32 bits without a sign it is widened at the least cost. */
+static sums sums_of(const int16_t *values, size_t n) {
+  int32_t sum = 0;
+  uint64_t squares = 0;
+  sums s;
+  size_t k;
+  for (k = 0; k < n; k++) {
+    sum += values[k];
+    squares += (uint32_t)(values[k] * values[k]);
+  }
+  s.values = sum;
+  s.squares = (int64_t)squares;
+  return s;
+}
+
+/* n squared times the variance, at most 2^54. */
+static int64_t noise_of(sums s, int64_t n) { return n * s.squares - s.values * s.values; }
+
+static compared declined(unsigned number, size_t value) {
+  compared answer = {number, value, 0, 0};
+  return answer;
+}
+
+/* The number under which a trace is refused, 0 if it is not. */
+static unsigned number_of(const uint32_t *ticks, size_t n) {
+  return is_trace(ticks, n) ? 0 : refused_as(ticks, n);
+}
+
+compared pedestals_c(const crate_run *today, const crate_run *before, int64_t p, int64_t q,
+                     int64_t k, uint16_t *moved, size_t moved_room, uint16_t *noisy,
+                     size_t noisy_room) {
+  compared answer = {0, 0, 0, 0};
+  size_t channels = today->channels, c, at = 0;
+  if (k < 1 || k > FACTOR) return declined(14, 0);
+  if (!is_crate(today->lengths, channels, today->n) ||
+      !is_crate(before->lengths, before->channels, before->n) || before->channels != channels)
+    return declined(11, 0);
+  for (c = 0; c < channels; c++) {
+    size_t n = today->lengths[c];
+    unsigned number = number_of(today->ticks + at, n);
+    if (number == 0) number = number_of(before->ticks + at, before->lengths[c]);
+    if (number == 0 && before->lengths[c] != n) number = 13;
+    if (number != 0) return declined(number, c);
+    at += n;
+  }
+  if (moved_room < channels || noisy_room < channels) return declined(10, channels);
+  for (c = 0, at = 0; c < channels; c++) {
+    size_t n = today->lengths[c];
+    sums x = sums_of(today->values + at, n), y = sums_of(before->values + at, n);
+    int64_t change = x.values - y.values;
+    if ((change < 0 ? -change : change) * q > p * (int64_t)n) moved[answer.moved++] = (uint16_t)c;
+    if (noise_of(x, (int64_t)n) > k * k * noise_of(y, (int64_t)n))
+      noisy[answer.noisy++] = (uint16_t)c;
+    at += n;
+  }
+  return answer;
 }
 
 /* A trace with the allowance, the list tried last, and the number of lists tried. */

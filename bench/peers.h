@@ -69,6 +69,28 @@ typedef struct crate_totals {
 crate_totals report_c(const uint32_t *ticks, const int16_t *values, size_t n, const size_t *lengths,
                       size_t channels, int64_t p, int64_t q, channel_row *rows, size_t room);
 
+/* A run of a crate: channels whose traces of n samples come end to end. */
+typedef struct crate_run {
+  const uint32_t *ticks;
+  const int16_t *values;
+  size_t n;
+  const size_t *lengths;
+  size_t channels;
+} crate_run;
+
+/* number 0: how many channels have moved and how many are noisy. Otherwise: the refusal's number
+ * and value. */
+typedef struct compared {
+  unsigned number;
+  size_t value, moved, noisy;
+} compared;
+
+/* Compares two pedestal runs with noise factor k: checks all ticks, then sums all values once.
+ * Writes the channels into the first of so many entries of each list. */
+compared pedestals_c(const crate_run *today, const crate_run *before, int64_t p, int64_t q,
+                     int64_t k, uint16_t *moved, size_t moved_room, uint16_t *noisy,
+                     size_t noisy_room);
+
 /* Whether the list is a kept list of the trace and each link is valid. */
 int judge_c(const uint32_t *ticks, const int16_t *values, size_t n, const uint16_t *list,
             size_t kept, int64_t p, int64_t q);

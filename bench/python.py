@@ -67,6 +67,8 @@ def main():
     codes = bytes((7 * k + value) % 256 for k, value in enumerate(values))
     table = array("h", (k * (k + 1) // 2 for k in range(256)))
     two = [numbers[:2] for numbers in whole]
+    long, short = ([crate(*whole, count) for _ in range(2)] for count in (4096, 16))
+    runs = f"two runs of {CHANNELS} channels"
     samples = f"{len(ticks):,} samples, tolerance 7.5"
     listed = f"a list of {len(kept)} of {len(ticks):,} samples"
     calls = {
@@ -75,6 +77,7 @@ def main():
         "minimum": (samples, kovrelna.minimum, *whole, 7.5),
         "least": (f"{len(part[0])} samples, allowance 20", kovrelna.least, *part, 20),
         "report": (f"{CHANNELS} channels of {samples}", kovrelna.report, *crate(*whole, 4096), 7.5),
+        "pedestals": (f"{runs} of {samples}, factor 2", kovrelna.pedestals, *long, 7.5, 2),
         "judge": (listed, kovrelna.judge, *whole, kept, 7.5),
         "write": (listed, kovrelna.write, *whole, kept, 7.5),
         "read": (f"a record of {len(kept)} samples", kovrelna.read, record),
@@ -82,6 +85,7 @@ def main():
         "expand_with": (f"{len(codes):,} codes, a table", kovrelna.expand_with, codes, table),
         "shortest": ("2 samples", kovrelna.walk, *two, 7.5),
         "small": (f"{CHANNELS} channels of 2 samples", kovrelna.report, *crate(*whole, 2), 7.5),
+        "small_runs": (f"{runs} of 16 samples", kovrelna.pedestals, *short, 7.5, 2),
     }
     rounds = {name: [] for name in calls}
     for _ in range(ROUNDS):
