@@ -8,7 +8,7 @@ use native.Mathlib.Numerals.{add-one}
 use native.Mathlib.Omega.{arith}
 use lib.Dec.{leb, ltb, eqb}
 use lib.IntN.{ℤ}
-use lib.ListN.{length, take, drop, getD, length-take, length-drop}
+use lib.ListN.{length, take, drop, getD, length-drop}
 use lib.Seq.{take-suc, take-all, length-take-le}
 use borrow.Author.Tests.{eq-eqb, ne-eqb, eqb-true, eqb-false, le-leb, lt-leb, leb-true, leb-false, ltb-true, ltb-false}
 use Rattle.lists.proofs.Tests.{by-test, and-first}
@@ -34,7 +34,7 @@ use Rattle.pedestals.specs.declared.Cause.the-variants.{Call, Trace}
 use Rattle.pedestals.specs.declared.Check.{Check}
 use Rattle.pedestals.specs.declared.Check.the-variants.{Fine, Refused}
 use Rattle.pedestals.specs.Compare.{Run, ticksOf, valuesOf, ratioOf, called, inChannel, _then_, factorRow, runsRow, channelRow, channelRows, roomsRow, compareRows}
-use Rattle.pedestals.specs.Checking.{OwnChecked, rowAt, SecondChecked, ChannelChecked, Alike, ChannelsChecked, DividedRuns, EarlierChecked, RunsChecked, CallChecked, RestChecked, Called, Passed}
+use Rattle.pedestals.specs.Checking.{OwnChecked, rowAt, SecondChecked, ChannelChecked, ChannelsChecked, DividedRuns, EarlierChecked, RunsChecked, CallChecked, RestChecked, Called, Passed}
 
 -- a refusal is no pass
 not-failed : {A : Type 0} {x : Refusal} → Fails x ≡ Passes → A

@@ -10,11 +10,11 @@ use native.Mathlib.Numerals.{add-one}
 use native.Mathlib.Omega.{arith}
 use lib.IntN.{ℤ}
 use lib.Dec.{ltb}
-use lib.ListN.{length, set, take, drop, getD, length-append, List·getD-append}
+use lib.ListN.{length, take, drop, getD, length-append, List·getD-append}
 use lib.Seq.{getD-append-add}
 use borrow.Author.Tests.{ltb-true, ltb-false}
 use Rattle.lists.proofs.Tests.{by-test}
-use Rattle.lists.specs.Overwrite.{overwrite, Wrote}
+use Rattle.lists.specs.Overwrite.{Wrote}
 use Rattle.lists.proofs.OverwriteLaws.{overwrite-length, overwrite-snoc}
 use Rattle.channels.specs.Channels.{sum, placeOf, part, ofChannel}
 use Rattle.channels.proofs.ChannelLaws.{place-next, place-fits}

@@ -12,7 +12,7 @@ use lib.Dec.{ltb}
 use lib.IntN.{ℤ, pos, negsuc, negℤ, subℕ, _+ℤ_, _-ℤ_, _*ℤ_, natAbs, +ℤ-assoc, +ℤ-idl, +ℤ-idr, +ℤ-invr, pos-+ℤ-pos, pos-*ℤ-pos, negsuc-*ℤ-negsuc}
 use lib.ListN.{length, drop, getD, drop-of-length-le}
 use lib.Seq.{drop-cons}
-use lib.Signed.{mag, ltZ, natAbs-le}
+use lib.Signed.{mag, natAbs-le}
 use borrow.Author.Tests.{ltb-true, ltb-false, le-ltb}
 use Rattle.ratio.specs.declared.Ratio.{Ratio}
 use Rattle.pedestals.specs.declared.Sums.{Sums}

@@ -3,7 +3,10 @@
 --   secondRow, rowAt                 the rows of channel c from a place on: of run 2 and 13; of both runs and 13
 --   SecondChecked, ChannelChecked    what the checks of a channel find
 --   Alike, ChannelsChecked           equal lengths, each at most 4,096; what the checks of all channels find
---   DividedRuns, RunsChecked         both runs divided into as many channels; what the checks 14 and 11 find
+--   DividedRuns                      both runs are divided into as many channels
+--   earlierRow, EarlierChecked       row 11 of run 2, with the counts, and what its check finds
+--   RunsChecked, CallChecked         what check 11 of both runs finds, and with 14 before it
+--   RestChecked, Called              what the checks of the channels and 10 find; what 14 and 11 show
 --   Passed, Readied                  what all checks show, and what they find
 -- Assumes nothing.
 use mathlib.Core.Path.{_≡_}

@@ -8,10 +8,11 @@
 --   channelRow, channelRows       the first row that applies to a channel: run 1's 1, 2, 3, run 2's, 13; to each of several channels
 --   roomsRow, compareRows         row 10; the first row that applies to the call
 --   listed                        the channels below a number that a test holds of, in rising order
+--   hasMoved, isNoisy             the two tests of a channel
 --   movedChannels, noisyChannels  the two lists
 --   Listed, CompareOutcome        the contract, by cases on the answer
 -- A refused call leaves both lent lists as they were. Otherwise the first entries of each are its channels, and the others stay.
--- Laws are in RowLaws and ListLaws. Assumes nothing.
+-- Laws are in CheckLaws and ListLaws. Assumes nothing.
 use mathlib.Core.Path.{_≡_}
 use mathlib.Core.Bool.{Bool, _&&_, cond}
 use mathlib.Core.List.{List, [], _∷_, _++_}

@@ -3,6 +3,9 @@
 --   spread           n Q - S²: the square of n times the width of n values
 --   moved, noisy     the two tests of today's values and those of the run before
 --   Summed           S and Q as they are computed, with what bounds them
+--   Sized, spreadIn  sums that fit their numbers, and n Q - S² from them
+--   Comparable       values that the checks pass
+--   Judged           what is said of a channel is what the two tests say
 -- Laws are in SumLaws. Assumes nothing.
 use mathlib.Core.Path.{_≡_}
 use mathlib.Core.Bool.{Bool}

@@ -1,10 +1,7 @@
 // The two lists of channels.
-ghost use mathlib.Core.Path.{_≡_};
-ghost use mathlib.Core.Bool.{cond};
-ghost use Prim.Native.Nat.{_+_, _≤_, _<_};
-ghost use lib.ListN.{length, set};
+ghost use Prim.Native.Nat.{_≤_, _<_};
+ghost use lib.ListN.{length};
 ghost use Rattle.channels.specs.Channels.{part};
-ghost use Rattle.tolerance.specs.Meaning.{Held};
 ghost use Rattle.pedestals.specs.Sums.{Judged};
 ghost use Rattle.pedestals.specs.Listing.{Put, PartFits, ListReady, BothListed};
 use crate::Counts;

@@ -1,11 +1,11 @@
 -- A constant added to every value of two runs changes no verdict on a channel.
 --   moved-shift, noisy-shift   the two tests
 -- Each integer is taken as a difference of two naturals. Assumes nothing.
-use mathlib.Core.Path.{_≡_, refl, sym, _∙_, ap, subst}
+use mathlib.Core.Path.{_≡_, sym, _∙_, ap, subst}
 use mathlib.Core.List.{List, [], _∷_}
-use Prim.Native.Nat.{ℕ, suc, _+_, _-_, _*_}
+use Prim.Native.Nat.{ℕ, suc, _+_, _*_}
 use native.Mathlib.Omega.{arith}
-use lib.IntN.{ℤ, pos, negsuc, _+ℤ_, _-ℤ_, natAbs}
+use lib.IntN.{ℤ, pos, negsuc, _+ℤ_, natAbs}
 use lib.ListN.{length, length-map}
 use Rattle.ratio.specs.declared.Ratio.{Ratio}
 use Rattle.trace.proofs.Difference.{Diff, same, plus, less, alike}
@@ -27,9 +27,9 @@ parted (pos n) = omega arith
 parted (negsuc n) = omega arith
 
 -- (a - b)² + 2 a b = a² + b²
-squared : {x : ℤ} {a b : ℕ} → Diff x a b → natAbs x * natAbs x + 2 * (a * b) ≡ a * a + b * b
-squared {x = pos n} {a} {b} h = subst (λ (z : ℕ). n * n + 2 * (z * b) ≡ z * z + b * b) (h .diff) (omega arith)
-squared {x = negsuc n} {a} {b} h = subst (λ (z : ℕ). suc n * suc n + 2 * (a * z) ≡ a * a + z * z) (h .diff) (omega arith)
+square-parts : {x : ℤ} {a b : ℕ} → Diff x a b → natAbs x * natAbs x + 2 * (a * b) ≡ a * a + b * b
+square-parts {x = pos n} {a} {b} h = subst (λ (z : ℕ). n * n + 2 * (z * b) ≡ z * z + b * b) (h .diff) (omega arith)
+square-parts {x = negsuc n} {a} {b} h = subst (λ (z : ℕ). suc n * suc n + 2 * (a * z) ≡ a * a + z * z) (h .diff) (omega arith)
 
 ups : List ℤ → ℕ
 ups [] = 0
@@ -51,7 +51,7 @@ module _ (d : ℤ) where
   total-raised (v ∷ vs) = same (plus (plus (parted v) (parted d)) (total-raised vs)) _ _ (omega arith)
 
   one-raised : (v : ℤ) → natAbs (v +ℤ d) * natAbs (v +ℤ d) + 2 * (up v * down d + down v * up d) ≡ natAbs v * natAbs v + natAbs d * natAbs d + 2 * (up v * up d + down v * down d)
-  one-raised v = omega (arith, squared (plus (parted v) (parted d)), squared (parted v), squared (parted d))
+  one-raised v = omega (arith, square-parts (plus (parted v) (parted d)), square-parts (parted v), square-parts (parted d))
 
   squares-raised : (vs : List ℤ) → sizeSquares (raised d vs) + 2 * (ups vs * down d + downs vs * up d) ≡ sizeSquares vs + length vs * (natAbs d * natAbs d) + 2 * (ups vs * up d + downs vs * down d)
   unfolding sizeSquares ups downs
@@ -61,7 +61,7 @@ module _ (d : ℤ) where
   -- n Q′ - S′² = n Q - S², with each square moved to the other side
   spreads : (vs : List ℤ) → length vs * sizeSquares (raised d vs) + natAbs (total vs) * natAbs (total vs) ≡ length vs * sizeSquares vs + natAbs (total (raised d vs)) * natAbs (total (raised d vs))
   spreads vs =
-      balance (sizeSquares (raised d vs)) (sizeSquares vs) (natAbs d * natAbs d) (natAbs (total vs) * natAbs (total vs)) (natAbs (total (raised d vs)) * natAbs (total (raised d vs))) (length vs) (ups vs) (downs vs) (up d) (down d) (squares-raised vs) (squared (parted d)) (squared (total-parts vs)) (squared (total-raised vs))
+      balance (sizeSquares (raised d vs)) (sizeSquares vs) (natAbs d * natAbs d) (natAbs (total vs) * natAbs (total vs)) (natAbs (total (raised d vs)) * natAbs (total (raised d vs))) (length vs) (ups vs) (downs vs) (up d) (down d) (squares-raised vs) (square-parts (parted d)) (square-parts (total-parts vs)) (square-parts (total-raised vs))
     where
       balance : (q′ q e s s′ n u w g f : ℕ)
           → q′ + 2 * (u * f + w * g) ≡ q + n * e + 2 * (u * g + w * f)

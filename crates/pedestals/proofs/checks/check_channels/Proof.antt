@@ -1,5 +1,4 @@
 -- `pedestals::checks::check_channels` meets its contract: the loop has passed the channels before c. Assumes nothing.
-use mathlib.Core.Path.{refl}
 use Prim.Native.Nat.{_-_}
 use native.Mathlib.Nat.{lt-of-le-of-lt}
 use native.Mathlib.Omega.{arith}
