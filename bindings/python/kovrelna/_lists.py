@@ -15,6 +15,7 @@ import ctypes
 import importlib
 import itertools
 import operator
+import struct
 import sys
 from typing import TYPE_CHECKING, Any, Dict, FrozenSet, Iterable, List, NamedTuple, Optional
 from typing import Protocol, Sequence, SupportsIndex, Tuple, Union
@@ -61,7 +62,10 @@ class Item(NamedTuple):
 
     def fits(self, view: memoryview) -> bool:
         """Whether the elements of the buffer are such ones, in this machine's byte order."""
-        return view.itemsize == self.size and view.format.lstrip(ORDERS) in self.formats
+        if view.format.lstrip(ORDERS) not in self.formats:
+            return False
+        # Of an empty array of ctypes Python 3.8 says that its items have no bytes.
+        return (view.itemsize or struct.calcsize(view.format)) == self.size
 
 
 # The prefixes of a format that mean this machine's byte order.
