@@ -1,4 +1,4 @@
--- Laws of channels: lengths that add up, row 11, and places.
+-- Laws of channels: lengths that add up, row 11, parts and places.
 -- Assumes nothing.
 use mathlib.Core.Path.{_≡_, refl, sym, _∙_, ap}
 use mathlib.Core.List.{List, [], _∷_}
@@ -10,12 +10,12 @@ use lib.Dec.{leb, eqb}
 use lib.IntN.{ℤ}
 use borrow.Author.Tests.{eq-eqb, ne-eqb, eqb-true, eqb-false, le-leb, lt-leb, leb-true}
 use Rattle.lists.proofs.Tests.{by-test}
-use lib.ListN.{length, drop, getD, length-drop, drop-of-length-le}
+use lib.ListN.{length, take, drop, getD, length-drop, drop-of-length-le}
 use lib.Seq.{drop-cons, length-take-le}
 use Rattle.refusal.specs.declared.Refusal.the-variants.{Crate}
 use Rattle.refusal.proofs.TableLaws.{row-fine}
 use Rattle.refusal.specs.declared.Checked.the-variants.{Fine, Refused}
-use Rattle.channels.specs.Channels.{sum, placeOf, ofChannel, crateRow, Divided}
+use Rattle.channels.specs.Channels.{part, sum, placeOf, ofChannel, crateRow, Divided}
 
 -- ---- lengths: those before i take n - left
 pub record Adding (ls : List ℕ) (n left i : ℕ) : Type 0 where
@@ -88,7 +88,11 @@ module _ (ts : List ℕ) (vs : List ℤ) (ls : List ℕ) where
       let b = all-four (leb 1 (length ls)) (leb (length ls) 64) (eqb (sum ls) (length ts)) (eqb (sum ls) (length vs)) (row-fine _ Crate e) in
       record { few = leb-true (length ls) 64 (b .0); ticks = eqb-true (sum ls) (length ts) (b .1); values = eqb-true (sum ls) (length vs) (b .2) }
 
--- ---- places
+-- ---- parts and places
+
+-- n entries from `at` on, as a slice from `at` to `at + n` has them
+pub lent-part : {A : Type 0} (at n : ℕ) (l : List A) → take (at + n - at) (drop at l) ≡ part at n l
+lent-part at n l = ap (λ (k : ℕ). take k (drop at l)) {x = at + n - at} {y = n} (omega arith)
 
 -- a channel ends where the next begins
 pub place-next : (ls : List ℕ) (i : ℕ) → i < length ls → placeOf ls (suc i) ≡ placeOf ls i + getD ls i 0

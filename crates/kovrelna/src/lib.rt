@@ -2,7 +2,7 @@
 ghost use mathlib.Core.Path.{_≡_};
 ghost use Rattle.engine.specs.Report.{Surveyed};
 ghost use Rattle.kovrelna.specs.Border.{toleranceOf, heldOf, verdictOf, keptOf, gallopedOf, closestOf, writtenOf, readOf, comparedOf, HoldExport, JudgeExport, WalkExport, GallopExport, MinimumExport, LeastExport, ExpandExport, ExpandWithExport, WriteExport, ReadExport, SameExport, reportOf, ReportExport, listedOf, PedestalsExport};
-ghost use Rattle.pedestals.specs.Compare.{run};
+ghost use Rattle.pedestals.specs.Compare.{runOf};
 use sheet::Sheet;
 use sheet::Summary;
 
@@ -464,7 +464,7 @@ pub extern "C" fn kovrelna_pedestals(
     moved: &mut [u16],
     noisy: &mut [u16],
 ) -> Compared
-    ensures { λ r. ⌜ PedestalsExport (run (now (ticks1 .entry)) (now (values1 .entry)) (now (lengths1 .entry))) (run (now (ticks2 .entry)) (now (values2 .entry)) (now (lengths2 .entry))) t k (now (moved .entry)) (now (noisy .entry)) r (now (moved .exit)) (now (noisy .exit)) ⌝ }
+    ensures { λ r. ⌜ PedestalsExport (runOf (now (ticks1 .entry)) (now (values1 .entry)) (now (lengths1 .entry))) (runOf (now (ticks2 .entry)) (now (values2 .entry)) (now (lengths2 .entry))) t k (now (moved .entry)) (now (noisy .entry)) r (now (moved .exit)) (now (noisy .exit)) ⌝ }
 {
     listed_of(pedestals::compare(
         ticks1,

@@ -19,7 +19,7 @@ use Rattle.refusal.specs.declared.Checked.the-variants.{Fine as Passes, Refused
 use Rattle.refusal.specs.Table.{roomRow, _thenCheck_}
 use Rattle.refusal.proofs.TableLaws.{row-fine, then-fine}
 use Rattle.channels.specs.Channels.{sum, placeOf, crateRow}
-use Rattle.channels.proofs.ChannelLaws.{crate-divided, place-next, place-fits, channel-length}
+use Rattle.channels.proofs.ChannelLaws.{crate-divided, lent-part, place-next, place-fits, channel-length}
 use Rattle.ratio.specs.declared.Ratio.{Ratio}
 use Rattle.tolerance.specs.declared.Tolerance.{Tolerance}
 use Rattle.tolerance.specs.declared.Meaning.{Meaning}
@@ -33,8 +33,8 @@ use Rattle.pedestals.specs.declared.Cause.{Cause}
 use Rattle.pedestals.specs.declared.Cause.the-variants.{Call, Trace}
 use Rattle.pedestals.specs.declared.Check.{Check}
 use Rattle.pedestals.specs.declared.Check.the-variants.{Fine, Refused}
-use Rattle.pedestals.specs.Compare.{Run, ticksOf, valuesOf, ratioOf, called, inChannel, _then_, factorRow, runsRow, channelRow, channelRows, roomsRow, compareRows}
-use Rattle.pedestals.specs.Checking.{OwnChecked, rowAt, SecondChecked, ChannelChecked, ChannelsChecked, DividedRuns, EarlierChecked, RunsChecked, CallChecked, RestChecked, Called, Passed}
+use Rattle.pedestals.specs.Compare.{Run, ticksOf, valuesOf, heldRatio, called, inChannel, _then_, factorRow, runsRow, channelRow, channelRows, roomsRow, compareRows}
+use Rattle.pedestals.specs.Checking.{OwnChecked, partsRow, SecondChecked, ChannelChecked, ChannelsChecked, DividedRuns, EarlierChecked, RunsChecked, CallChecked, RestChecked, Called, Passed}
 
 -- a refusal is no pass
 not-failed : {A : Type 0} {x : Refusal} → Fails x ≡ Passes → A
@@ -48,7 +48,7 @@ not-refused e = absurd (let z : _≡_ {A = ℕ} 0 1 = cc in omega arith)
 -- from the call on the part that is lent
 pub own-checked : (ts : List ℕ) (vs : List ℤ) (at n : ℕ) {r : C.Checked} → at + n ≤ length ts → TraceOutcome (take (at + n - at) (drop at ts)) (take (at + n - at) (drop at vs)) r → OwnChecked ts vs at n r
 own-checked ts vs at n {r} fits h =
-    let k = subst (λ (m : ℕ). TraceOutcome (take m (drop at ts)) (take m (drop at vs)) r) {x = at + n - at} {y = n} (omega arith) h in
+    let k = rw (lent-part at n ts, lent-part at n vs) at h in
     record { is = k .is; few = λ e. subst (λ (m : ℕ). m ≤ 4096) (length-take-le n (drop at ts) (simp length-drop (omega arith))) (k .trace e .few) }
 
 module _ (c : ℕ) (us : List ℕ) (ws : List ℤ) (at n n′ : ℕ) {r : C.Checked} (h : OwnChecked us ws at n′ r) where
@@ -111,7 +111,7 @@ module _ {a b : Run} {at c : ℕ} (h : Checking a b at c) where
     next : channelRows a b c (length (a .lengths) - c) ≡ channelRow a b c then channelRows a b (suc c) (length (a .lengths) - suc c)
     next = ap (channelRows a b c) {x = length (a .lengths) - c} {y = suc (length (a .lengths) - suc c)} (omega arith)
 
-    row-is : channelRow a b c ≡ rowAt c (a .ticks) (a .values) (b .ticks) (b .values) at (getD (a .lengths) c 0) (getD (b .lengths) c 0)
+    row-is : channelRow a b c ≡ partsRow c (a .ticks) (a .values) (b .ticks) (b .values) at (getD (a .lengths) c 0) (getD (b .lengths) c 0)
     unfolding channelRow
     row-is = rw (← h .place, ← second-place)
 
@@ -206,7 +206,7 @@ hold-refused : (m : Meaning) {x : Refusal} → holdingOf m ≡ NotHeld x → tol
 hold-refused (Exact r) e = cc
 hold-refused NotAllowed e = cc
 
-hold-ratio : (m : Meaning) {x : Ratio} → holdingOf m ≡ Held x → (toleranceRow m ≡ Passes) × (x ≡ ratioOf m)
+hold-ratio : (m : Meaning) {x : Ratio} → holdingOf m ≡ Held x → (toleranceRow m ≡ Passes) × (x ≡ heldRatio m)
 hold-ratio (Exact r) e = (refl, cc)
 hold-ratio NotAllowed e = (cc, cc)
 

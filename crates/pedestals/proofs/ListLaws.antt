@@ -17,7 +17,7 @@ use Rattle.lists.proofs.Tests.{by-test}
 use Rattle.lists.specs.Overwrite.{Wrote}
 use Rattle.lists.proofs.OverwriteLaws.{overwrite-length, overwrite-snoc}
 use Rattle.channels.specs.Channels.{sum, placeOf, part, ofChannel}
-use Rattle.channels.proofs.ChannelLaws.{place-next, place-fits}
+use Rattle.channels.proofs.ChannelLaws.{lent-part, place-next, place-fits}
 use Rattle.ratio.specs.declared.Ratio.{Ratio}
 use Rattle.tolerance.specs.declared.Tolerance.{Tolerance}
 use Rattle.pedestals.specs.declared.Counts.{Counts}
@@ -25,7 +25,7 @@ use Rattle.pedestals.specs.declared.Verdict.{Verdict}
 use Rattle.pedestals.specs.Sums.{moved, noisy, Judged}
 use Rattle.pedestals.specs.Compare.{Run, valuesOf, listed, movedChannels, Listed}
 use Rattle.pedestals.specs.Checking.{Passed}
-use Rattle.pedestals.specs.Listing.{Put, PartFits, ListReady, movedIn, noisyIn, BothListed}
+use Rattle.pedestals.specs.Listing.{Put, PartFits, Listable, movedIn, noisyIn, BothListed}
 
 -- ---- a list
 
@@ -122,7 +122,7 @@ module _ (f : ℕ → Bool) where
 -- ---- a channel
 
 pub part-judged : (vs ws : List ℤ) (at n : ℕ) (r : Ratio) (k : ℕ) {v : Verdict} → Judged (take (at + n - at) (drop at vs)) (take (at + n - at) (drop at ws)) r k v → Judged (part at n vs) (part at n ws) r k v
-part-judged vs ws at n r k {v} h = subst (λ (m : ℕ). Judged (take m (drop at vs)) (take m (drop at ws)) r k v) {x = at + n - at} {y = n} (omega arith) h
+part-judged vs ws at n r k h = rw (lent-part at n vs, lent-part at n ws) at h
 
 -- ---- the lists of the channels before c
 pub record Listing (vs ws : List ℤ) (ls : List ℕ) (r : Ratio) (k : ℕ) (m s m′ s′ : List ℕ) (a b at c : ℕ) : Type 0 where
@@ -134,7 +134,7 @@ pub record Listing (vs ws : List ℤ) (ls : List ℕ) (r : Ratio) (k : ℕ) (m s
 pub listing-none : (vs ws : List ℤ) (ls : List ℕ) (r : Ratio) (k : ℕ) (m s : List ℕ) → Listing vs ws ls r k m s m s 0 0 0 0
 listing-none vs ws ls r k m s = record { upto = omega arith; place = refl; moved = record { count = refl; content = refl }; noisy = record { count = refl; content = refl } }
 
-module _ {vs ws : List ℤ} {ls : List ℕ} {r : Ratio} {k : ℕ} {m s m′ s′ : List ℕ} {a b at c : ℕ} (h : Listing vs ws ls r k m s m′ s′ a b at c) (ready : ListReady vs ws ls r k (length m) (length s)) where
+module _ {vs ws : List ℤ} {ls : List ℕ} {r : Ratio} {k : ℕ} {m s m′ s′ : List ℕ} {a b at c : ℕ} (h : Listing vs ws ls r k m s m′ s′ a b at c) (ready : Listable vs ws ls r k (length m) (length s)) where
   pub listing-lengths : (length m′ ≡ length m) × (length s′ ≡ length s)
   listing-lengths = (
     ap length (h .moved .content) ∙ overwrite-length (listed (movedIn r vs ws ls) c) m (omega (arith, listed-length (movedIn r vs ws ls) c, h .upto, ready .first-room)),
@@ -177,7 +177,7 @@ module _ {vs ws : List ℤ} {ls : List ℕ} {r : Ratio} {k : ℕ} {m s m′ s′
 -- ---- the call
 
 module _ (a b : Run) (t : Tolerance) (k : ℕ) (m s : List ℕ) {r : Ratio} (p : Passed a b t k (length m) (length s) r) where
-  pub passed-ready : ListReady (a .values) (b .values) (a .lengths) r k (length m) (length s)
+  pub passed-ready : Listable (a .values) (b .values) (a .lengths) r k (length m) (length s)
   passed-ready = record {
     channels = p .divided .first .few;
     today = p .divided .first .values;

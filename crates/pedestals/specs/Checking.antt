@@ -1,6 +1,6 @@
 -- What the checks of a comparison find, step by step, and what they show of two runs that pass.
 --   OwnChecked                       the checks 1, 2, 3 of n samples from a place on
---   secondRow, rowAt                 the rows of channel c from a place on: of run 2 and 13; of both runs and 13
+--   secondRow, partsRow              the rows of channel c from a place on: of run 2 and 13; of both runs and 13
 --   SecondChecked, ChannelChecked    what the checks of a channel find
 --   Alike, ChannelsChecked           equal lengths, each at most 4,096; what the checks of all channels find
 --   DividedRuns                      both runs are divided into as many channels
@@ -28,7 +28,7 @@ use Rattle.pedestals.specs.declared.Check.{Check}
 use Rattle.pedestals.specs.declared.Check.the-variants.{Fine, Refused}
 use Rattle.pedestals.specs.declared.Ready.{Ready}
 use Rattle.pedestals.specs.declared.Ready.the-variants.{At, Refused as Declined}
-use Rattle.pedestals.specs.Compare.{Run, ratioOf, called, inChannel, _then_, factorRow, runsRow, channelRows, roomsRow, compareRows}
+use Rattle.pedestals.specs.Compare.{Run, heldRatio, called, inChannel, _then_, factorRow, runsRow, channelRows, roomsRow, compareRows}
 
 -- ---- a channel
 
@@ -40,15 +40,15 @@ pub record OwnChecked (ts : List ℕ) (vs : List ℤ) (at n : ℕ) (r : C.Checke
 abbrev pub secondRow : ℕ → List ℕ → List ℤ → ℕ → ℕ → ℕ → Check
 secondRow c us ws at n n′ = inChannel c (ownRows (part at n′ us) (part at n′ ws)) then called (row (eqb n′ n) (Samples c))
 
-abbrev pub rowAt : ℕ → List ℕ → List ℤ → List ℕ → List ℤ → ℕ → ℕ → ℕ → Check
-rowAt c ts vs us ws at n n′ = inChannel c (ownRows (part at n ts) (part at n vs)) then secondRow c us ws at n n′
+abbrev pub partsRow : ℕ → List ℕ → List ℤ → List ℕ → List ℤ → ℕ → ℕ → ℕ → Check
+partsRow c ts vs us ws at n n′ = inChannel c (ownRows (part at n ts) (part at n vs)) then secondRow c us ws at n n′
 
 pub record SecondChecked (c : ℕ) (us : List ℕ) (ws : List ℤ) (at n n′ : ℕ) (r : Check) : Type 0 where
   pub is : r ≡ secondRow c us ws at n n′
   pub same : r ≡ Fine → n′ ≡ n
 
 pub record ChannelChecked (c : ℕ) (ts : List ℕ) (vs : List ℤ) (us : List ℕ) (ws : List ℤ) (at n n′ : ℕ) (r : Check) : Type 0 where
-  pub is : r ≡ rowAt c ts vs us ws at n n′
+  pub is : r ≡ partsRow c ts vs us ws at n n′
   pub same : r ≡ Fine → n′ ≡ n
   pub few : r ≡ Fine → n ≤ 4096
 
@@ -101,7 +101,7 @@ pub record Called (a b : Run) (k : ℕ) : Type 0 where
 
 pub record Passed (a b : Run) (t : Tolerance) (k room room′ : ℕ) (r : Ratio) : Type 0 where
   pub rows : compareRows a b t k room room′ ≡ Fine
-  pub ratio : r ≡ ratioOf (meaning t)
+  pub ratio : r ≡ heldRatio (meaning t)
   pub held : Held r
   pub factor : k ≤ 16
   pub divided : DividedRuns a b

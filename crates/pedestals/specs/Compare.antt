@@ -1,7 +1,7 @@
 -- The comparison of two pedestal runs of a crate (document 02, "Morning pedestals"): its rows, its lists and its outcome. Run 1 is today's.
---   Run, run                      a run: ticks and values end to end, and the channels' lengths
+--   Run, runOf                    a run: ticks and values end to end, and the channels' lengths
 --   ticksOf, valuesOf             a channel's ticks and values
---   ratioOf                       the ratio that an allowed tolerance is held as
+--   heldRatio                     the ratio that an allowed tolerance is held as
 --   causeNumber, causeValue       the number and the value of a refusal: of a channel's trace its own number, with the channel
 --   called, inChannel, _then_     a row as one of the call, as one of a channel's trace; the first row that applies
 --   factorRow, runsRow            rows 14 and 11
@@ -50,8 +50,8 @@ pub record Run : Type 0 where
   pub values : List ℤ
   pub lengths : List ℕ
 
-abbrev pub run : List ℕ → List ℤ → List ℕ → Run
-run ts vs ls = record { ticks = ts; values = vs; lengths = ls }
+abbrev pub runOf : List ℕ → List ℤ → List ℕ → Run
+runOf ts vs ls = record { ticks = ts; values = vs; lengths = ls }
 
 abbrev pub ticksOf : Run → ℕ → List ℕ
 ticksOf a c = ofChannel (a .lengths) c (a .ticks)
@@ -60,9 +60,9 @@ abbrev pub valuesOf : Run → ℕ → List ℤ
 valuesOf a c = ofChannel (a .lengths) c (a .values)
 
 -- 0 where the tolerance is not allowed, which no answer depends on
-abbrev pub ratioOf : Meaning → Ratio
-ratioOf (Exact r) = r
-ratioOf NotAllowed = over 0 1
+abbrev pub heldRatio : Meaning → Ratio
+heldRatio (Exact r) = r
+heldRatio NotAllowed = over 0 1
 
 -- ---- rows
 
@@ -146,7 +146,7 @@ noisyChannels k a b = listed (isNoisy k a b) (length (a .lengths))
 -- the lent lists m and s became m′ and s′
 pub record Listed (a b : Run) (t : Tolerance) (k : ℕ) (m s : List ℕ) (n : Counts) (m′ s′ : List ℕ) : Type 0 where
   pub rows : compareRows a b t k (length m) (length s) ≡ Fine
-  pub moved : Wrote (movedChannels (ratioOf (meaning t)) a b) m (n .moved) m′
+  pub moved : Wrote (movedChannels (heldRatio (meaning t)) a b) m (n .moved) m′
   pub noisy : Wrote (noisyChannels k a b) s (n .noisy) s′
 
 abbrev pub CompareOutcome : Run → Run → Tolerance → ℕ → List ℕ → List ℕ → Compared → List ℕ → List ℕ → Type 0

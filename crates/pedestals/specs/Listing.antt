@@ -1,7 +1,7 @@
 -- How the two lists are made, channel by channel, for runs of the same lengths.
 --   Put                  a channel behind the entries of a list, if it belongs there
 --   PartFits             a channel that lies in both runs, and can be compared
---   ListReady            what the checks show: runs of the same lengths, and room for each channel in both lists
+--   Listable             what the checks show: runs of the same lengths, and room for each channel in both lists
 --   movedIn, noisyIn     the two tests of a channel
 --   BothListed           both lists are made
 -- Assumes nothing.
@@ -30,7 +30,7 @@ pub record PartFits (vs ws : List ℤ) (at n : ℕ) (r : Ratio) (k : ℕ) : Type
   pub held : Held r
   pub factor : k ≤ 16
 
-pub record ListReady (vs ws : List ℤ) (ls : List ℕ) (r : Ratio) (k room room′ : ℕ) : Type 0 where
+pub record Listable (vs ws : List ℤ) (ls : List ℕ) (r : Ratio) (k room room′ : ℕ) : Type 0 where
   pub channels : length ls ≤ 64
   pub today : sum ls ≡ length vs
   pub earlier : sum ls ≡ length ws

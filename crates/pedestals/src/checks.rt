@@ -2,7 +2,7 @@
 ghost use mathlib.Core.Path.{_≡_};
 ghost use Prim.Native.Nat.{_+_, _≤_};
 ghost use lib.ListN.{length};
-ghost use Rattle.pedestals.specs.Compare.{run, roomsRow};
+ghost use Rattle.pedestals.specs.Compare.{runOf, roomsRow};
 ghost use Rattle.pedestals.specs.Checking.{OwnChecked, SecondChecked, ChannelChecked, ChannelsChecked, EarlierChecked, RunsChecked, CallChecked, RestChecked, DividedRuns, Called, Readied};
 use crate::Cause;
 use crate::Check;
@@ -68,8 +68,8 @@ fn check_channels(
     values2: &[i16],
     lengths2: &[usize],
 ) -> Check
-    requires { ⌜ DividedRuns (run (now ticks1) (now values1) (now lengths1)) (run (now ticks2) (now values2) (now lengths2)) ⌝ }
-    ensures { λ r. ⌜ ChannelsChecked (run (now (ticks1 .entry)) (now (values1 .entry)) (now (lengths1 .entry))) (run (now (ticks2 .entry)) (now (values2 .entry)) (now (lengths2 .entry))) r ⌝ }
+    requires { ⌜ DividedRuns (runOf (now ticks1) (now values1) (now lengths1)) (runOf (now ticks2) (now values2) (now lengths2)) ⌝ }
+    ensures { λ r. ⌜ ChannelsChecked (runOf (now (ticks1 .entry)) (now (values1 .entry)) (now (lengths1 .entry))) (runOf (now (ticks2 .entry)) (now (values2 .entry)) (now (lengths2 .entry))) r ⌝ }
 {
     let mut at = 0;
     let mut c = 0;
@@ -88,7 +88,7 @@ fn check_channels(
 
 // Check 11 of run 2, where run 1 has m channels.
 fn check_earlier(ticks: &[u32], values: &[i16], lengths: &[usize], m: usize) -> Checked
-    ensures { λ r. ⌜ EarlierChecked (run (now (ticks .entry)) (now (values .entry)) (now (lengths .entry))) m r ⌝ }
+    ensures { λ r. ⌜ EarlierChecked (runOf (now (ticks .entry)) (now (values .entry)) (now (lengths .entry))) m r ⌝ }
 {
     let checked = engine::checks::check_crate(ticks, values, lengths);
     match checked {
@@ -111,7 +111,7 @@ fn check_runs(
     values2: &[i16],
     lengths2: &[usize],
 ) -> Checked
-    ensures { λ r. ⌜ RunsChecked (run (now (ticks1 .entry)) (now (values1 .entry)) (now (lengths1 .entry))) (run (now (ticks2 .entry)) (now (values2 .entry)) (now (lengths2 .entry))) r ⌝ }
+    ensures { λ r. ⌜ RunsChecked (runOf (now (ticks1 .entry)) (now (values1 .entry)) (now (lengths1 .entry))) (runOf (now (ticks2 .entry)) (now (values2 .entry)) (now (lengths2 .entry))) r ⌝ }
 {
     let checked = engine::checks::check_crate(ticks1, values1, lengths1);
     match checked {
@@ -130,7 +130,7 @@ fn check_call(
     lengths2: &[usize],
     k: u64,
 ) -> Checked
-    ensures { λ r. ⌜ CallChecked (run (now (ticks1 .entry)) (now (values1 .entry)) (now (lengths1 .entry))) (run (now (ticks2 .entry)) (now (values2 .entry)) (now (lengths2 .entry))) k r ⌝ }
+    ensures { λ r. ⌜ CallChecked (runOf (now (ticks1 .entry)) (now (values1 .entry)) (now (lengths1 .entry))) (runOf (now (ticks2 .entry)) (now (values2 .entry)) (now (lengths2 .entry))) k r ⌝ }
 {
     if k < 1 {
         return Checked::Refused(Refusal::Factor);
@@ -165,8 +165,8 @@ fn check_rest(
     room1: usize,
     room2: usize,
 ) -> Check
-    requires { ⌜ DividedRuns (run (now ticks1) (now values1) (now lengths1)) (run (now ticks2) (now values2) (now lengths2)) ⌝ }
-    ensures { λ r. ⌜ RestChecked (run (now (ticks1 .entry)) (now (values1 .entry)) (now (lengths1 .entry))) (run (now (ticks2 .entry)) (now (values2 .entry)) (now (lengths2 .entry))) room1 room2 r ⌝ }
+    requires { ⌜ DividedRuns (runOf (now ticks1) (now values1) (now lengths1)) (runOf (now ticks2) (now values2) (now lengths2)) ⌝ }
+    ensures { λ r. ⌜ RestChecked (runOf (now (ticks1 .entry)) (now (values1 .entry)) (now (lengths1 .entry))) (runOf (now (ticks2 .entry)) (now (values2 .entry)) (now (lengths2 .entry))) room1 room2 r ⌝ }
 {
     let found = check_channels(ticks1, values1, lengths1, ticks2, values2, lengths2);
     match found {
@@ -194,8 +194,8 @@ fn check_held(
     room1: usize,
     room2: usize,
 ) -> Ready
-    requires { ⌜ Called (run (now ticks1) (now values1) (now lengths1)) (run (now ticks2) (now values2) (now lengths2)) k ⌝ }
-    ensures { λ r. ⌜ Readied (run (now (ticks1 .entry)) (now (values1 .entry)) (now (lengths1 .entry))) (run (now (ticks2 .entry)) (now (values2 .entry)) (now (lengths2 .entry))) t k room1 room2 r ⌝ }
+    requires { ⌜ Called (runOf (now ticks1) (now values1) (now lengths1)) (runOf (now ticks2) (now values2) (now lengths2)) k ⌝ }
+    ensures { λ r. ⌜ Readied (runOf (now (ticks1 .entry)) (now (values1 .entry)) (now (lengths1 .entry))) (runOf (now (ticks2 .entry)) (now (values2 .entry)) (now (lengths2 .entry))) t k room1 room2 r ⌝ }
 {
     let holding = engine::hold::hold(t);
     match holding {
@@ -232,7 +232,7 @@ pub fn check(
     room1: usize,
     room2: usize,
 ) -> Ready
-    ensures { λ r. ⌜ Readied (run (now (ticks1 .entry)) (now (values1 .entry)) (now (lengths1 .entry))) (run (now (ticks2 .entry)) (now (values2 .entry)) (now (lengths2 .entry))) t k room1 room2 r ⌝ }
+    ensures { λ r. ⌜ Readied (runOf (now (ticks1 .entry)) (now (values1 .entry)) (now (lengths1 .entry))) (runOf (now (ticks2 .entry)) (now (values2 .entry)) (now (lengths2 .entry))) t k room1 room2 r ⌝ }
 {
     let checked = check_call(ticks1, values1, lengths1, ticks2, values2, lengths2, k);
     match checked {

@@ -1,6 +1,6 @@
 // The comparison of two pedestal runs of a crate: a product above the engine, from its public calls alone.
 ghost use mathlib.Core.Path.{_≡_};
-ghost use Rattle.pedestals.specs.Compare.{causeNumber, causeValue, run, CompareOutcome};
+ghost use Rattle.pedestals.specs.Compare.{causeNumber, causeValue, runOf, CompareOutcome};
 use ratio::Ratio;
 use refusal::Refusal;
 use tolerance::Tolerance;
@@ -85,7 +85,7 @@ pub fn compare(
     moved: &mut [u16],
     noisy: &mut [u16],
 ) -> Compared
-    ensures { λ r. ⌜ CompareOutcome (run (now (ticks1 .entry)) (now (values1 .entry)) (now (lengths1 .entry))) (run (now (ticks2 .entry)) (now (values2 .entry)) (now (lengths2 .entry))) t k (now (moved .entry)) (now (noisy .entry)) r (now (moved .exit)) (now (noisy .exit)) ⌝ }
+    ensures { λ r. ⌜ CompareOutcome (runOf (now (ticks1 .entry)) (now (values1 .entry)) (now (lengths1 .entry))) (runOf (now (ticks2 .entry)) (now (values2 .entry)) (now (lengths2 .entry))) t k (now (moved .entry)) (now (noisy .entry)) r (now (moved .exit)) (now (noisy .exit)) ⌝ }
 {
     let ready = checks::check(
         ticks1,

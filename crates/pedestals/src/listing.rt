@@ -3,7 +3,7 @@ ghost use Prim.Native.Nat.{_≤_, _<_};
 ghost use lib.ListN.{length};
 ghost use Rattle.channels.specs.Channels.{part};
 ghost use Rattle.pedestals.specs.Sums.{Judged};
-ghost use Rattle.pedestals.specs.Listing.{Put, PartFits, ListReady, BothListed};
+ghost use Rattle.pedestals.specs.Listing.{Put, PartFits, Listable, BothListed};
 use crate::Counts;
 use crate::Verdict;
 use crate::verdicts::verdict;
@@ -40,7 +40,7 @@ pub fn list_channels(
     moved: &mut [u16],
     noisy: &mut [u16],
 ) -> Counts
-    requires { ⌜ ListReady (now today) (now earlier) (now lengths) r k (length (now moved)) (length (now noisy)) ⌝ }
+    requires { ⌜ Listable (now today) (now earlier) (now lengths) r k (length (now moved)) (length (now noisy)) ⌝ }
     ensures { λ n. ⌜ BothListed (now (today .entry)) (now (earlier .entry)) (now (lengths .entry)) r k (now (moved .entry)) (now (noisy .entry)) n (now (moved .exit)) (now (noisy .exit)) ⌝ }
 {
     let mut a = 0;

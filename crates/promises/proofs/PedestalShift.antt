@@ -11,7 +11,7 @@ use Rattle.ratio.specs.declared.Ratio.{Ratio}
 use Rattle.trace.proofs.Difference.{Diff, same, plus, less, alike}
 use Rattle.pedestals.specs.Sums.{total, spread, moved, noisy}
 use Rattle.pedestals.proofs.SumLaws.{sizeSquares, root-total, spread-natural}
-use Rattle.promises.specs.Pedestals.{raised}
+use Rattle.promises.specs.Pedestals.{addedTo}
 
 -- an integer is its upper part minus its lower part
 abbrev up : ℤ → ℕ
@@ -45,7 +45,7 @@ total-parts [] = omega arith
 total-parts (v ∷ vs) = plus (parted v) (total-parts vs)
 
 module _ (d : ℤ) where
-  total-raised : (vs : List ℤ) → Diff (total (raised d vs)) (ups vs + length vs * up d) (downs vs + length vs * down d)
+  total-raised : (vs : List ℤ) → Diff (total (addedTo d vs)) (ups vs + length vs * up d) (downs vs + length vs * down d)
   unfolding ups downs
   total-raised [] = omega arith
   total-raised (v ∷ vs) = same (plus (plus (parted v) (parted d)) (total-raised vs)) _ _ (omega arith)
@@ -53,15 +53,15 @@ module _ (d : ℤ) where
   one-raised : (v : ℤ) → natAbs (v +ℤ d) * natAbs (v +ℤ d) + 2 * (up v * down d + down v * up d) ≡ natAbs v * natAbs v + natAbs d * natAbs d + 2 * (up v * up d + down v * down d)
   one-raised v = omega (arith, square-parts (plus (parted v) (parted d)), square-parts (parted v), square-parts (parted d))
 
-  squares-raised : (vs : List ℤ) → sizeSquares (raised d vs) + 2 * (ups vs * down d + downs vs * up d) ≡ sizeSquares vs + length vs * (natAbs d * natAbs d) + 2 * (ups vs * up d + downs vs * down d)
+  squares-raised : (vs : List ℤ) → sizeSquares (addedTo d vs) + 2 * (ups vs * down d + downs vs * up d) ≡ sizeSquares vs + length vs * (natAbs d * natAbs d) + 2 * (ups vs * up d + downs vs * down d)
   unfolding sizeSquares ups downs
   squares-raised [] = omega arith
   squares-raised (v ∷ vs) = omega (arith, one-raised v, squares-raised vs)
 
   -- n Q′ - S′² = n Q - S², with each square moved to the other side
-  spreads : (vs : List ℤ) → length vs * sizeSquares (raised d vs) + natAbs (total vs) * natAbs (total vs) ≡ length vs * sizeSquares vs + natAbs (total (raised d vs)) * natAbs (total (raised d vs))
+  spreads : (vs : List ℤ) → length vs * sizeSquares (addedTo d vs) + natAbs (total vs) * natAbs (total vs) ≡ length vs * sizeSquares vs + natAbs (total (addedTo d vs)) * natAbs (total (addedTo d vs))
   spreads vs =
-      balance (sizeSquares (raised d vs)) (sizeSquares vs) (natAbs d * natAbs d) (natAbs (total vs) * natAbs (total vs)) (natAbs (total (raised d vs)) * natAbs (total (raised d vs))) (length vs) (ups vs) (downs vs) (up d) (down d) (squares-raised vs) (square-parts (parted d)) (square-parts (total-parts vs)) (square-parts (total-raised vs))
+      balance (sizeSquares (addedTo d vs)) (sizeSquares vs) (natAbs d * natAbs d) (natAbs (total vs) * natAbs (total vs)) (natAbs (total (addedTo d vs)) * natAbs (total (addedTo d vs))) (length vs) (ups vs) (downs vs) (up d) (down d) (squares-raised vs) (square-parts (parted d)) (square-parts (total-parts vs)) (square-parts (total-raised vs))
     where
       balance : (q′ q e s s′ n u w g f : ℕ)
           → q′ + 2 * (u * f + w * g) ≡ q + n * e + 2 * (u * g + w * f)
@@ -71,15 +71,15 @@ module _ (d : ℤ) where
           → n * q′ + s ≡ n * q + s′
       balance q′ q e s s′ n u w g f a b c h = omega (arith, ap (λ (z : ℕ). n * z) a, ap (λ (z : ℕ). n * n * z) b, c, h)
 
-  spread-shift : (vs : List ℤ) → spread (raised d vs) ≡ spread vs
+  spread-shift : (vs : List ℤ) → spread (addedTo d vs) ≡ spread vs
   spread-shift vs =
-      spread-natural (raised d vs) ∙ ap pos (rw (length-map vs (λ v. v +ℤ d)) (omega (arith, spreads vs, root-total vs))) ∙ sym (spread-natural vs)
+      spread-natural (addedTo d vs) ∙ ap pos (rw (length-map vs (λ v. v +ℤ d)) (omega (arith, spreads vs, root-total vs))) ∙ sym (spread-natural vs)
 
-  pub noisy-shift : (k : ℕ) (vs ws : List ℤ) → noisy k (raised d vs) (raised d ws) ≡ noisy k vs ws
+  pub noisy-shift : (k : ℕ) (vs ws : List ℤ) → noisy k (addedTo d vs) (addedTo d ws) ≡ noisy k vs ws
   unfolding noisy
   noisy-shift k vs ws = rw (spread-shift vs, spread-shift ws)
 
-  pub moved-shift : (r : Ratio) (vs ws : List ℤ) → length ws ≡ length vs → moved r (raised d vs) (raised d ws) ≡ moved r vs ws
+  pub moved-shift : (r : Ratio) (vs ws : List ℤ) → length ws ≡ length vs → moved r (addedTo d vs) (addedTo d ws) ≡ moved r vs ws
   unfolding moved
   moved-shift r vs ws e =
       let f = rw e at (total-raised ws) in

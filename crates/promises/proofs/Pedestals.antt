@@ -22,11 +22,11 @@ use Rattle.pedestals.specs.declared.Check.the-variants.{Fine}
 use Rattle.pedestals.specs.declared.Counts.{Counts}
 use Rattle.pedestals.specs.declared.Compared.{Compared}
 use Rattle.pedestals.specs.declared.Compared.the-variants.{Listed as IsListed, Refused as Declined}
-use Rattle.pedestals.specs.Compare.{Run, valuesOf, ratioOf, runsRow, channelRow, channelRows, compareRows, listed, hasMoved, isNoisy, movedChannels, noisyChannels, CompareOutcome}
+use Rattle.pedestals.specs.Compare.{Run, valuesOf, heldRatio, runsRow, channelRow, channelRows, compareRows, listed, hasMoved, isNoisy, movedChannels, noisyChannels, CompareOutcome}
 use Rattle.pedestals.proofs.SumLaws.{moved-itself, noisy-itself}
 use Rattle.pedestals.proofs.CheckLaws.{passing-factor, passing-lengths}
 use Rattle.pedestals.proofs.ListLaws.{listed-alike, listed-none, listed-only, listed-each, listed-rising}
-use Rattle.promises.specs.Pedestals.{Exactly, raised, shifted}
+use Rattle.promises.specs.Pedestals.{Exactly, addedTo, shifted}
 use Rattle.promises.proofs.PedestalShift.{moved-shift, noisy-shift}
 
 -- ---- the lists
@@ -35,8 +35,8 @@ listed-exactly : (f : ℕ → Bool) (m : ℕ) → Exactly f m (listed f m)
 listed-exactly f m = record { only = λ c. listed-only f m; each = λ c. listed-each f m; rises = listed-rising f m .rises }
 
 module _ {a b : Run} {t : Tolerance} {k : ℕ} {m s : List ℕ} {n : Counts} {m′ s′ : List ℕ} (r : CompareOutcome a b t k m s (IsListed n) m′ s′) where
-  pub moved-exactly : Exactly (hasMoved (ratioOf (meaning t)) a b) (length (a .lengths)) (take (n .moved) m′)
-  moved-exactly = rw (wrote-read (r .moved)) (listed-exactly (hasMoved (ratioOf (meaning t)) a b) (length (a .lengths)))
+  pub moved-exactly : Exactly (hasMoved (heldRatio (meaning t)) a b) (length (a .lengths)) (take (n .moved) m′)
+  moved-exactly = rw (wrote-read (r .moved)) (listed-exactly (hasMoved (heldRatio (meaning t)) a b) (length (a .lengths)))
 
   pub noisy-exactly : Exactly (isNoisy k a b) (length (a .lengths)) (take (n .noisy) s′)
   noisy-exactly = rw (wrote-read (r .noisy)) (listed-exactly (isNoisy k a b) (length (a .lengths)))
@@ -49,7 +49,7 @@ module _ {a b a′ b′ : Run} {t : Tolerance} {k : ℕ} {m s e f : List ℕ} {n
     (first : valuesOf a c ≡ valuesOf a′ d) (second : valuesOf b c ≡ valuesOf b′ d) where
   pub moved-own : List·Memᴰ c (take (n .moved) m′) ↔ List·Memᴰ d (take (n′ .moved) e′)
   moved-own =
-      let alike : hasMoved (ratioOf (meaning t)) a b c ≡ hasMoved (ratioOf (meaning t)) a′ b′ d = rw (first, second) in (
+      let alike : hasMoved (heldRatio (meaning t)) a b c ≡ hasMoved (heldRatio (meaning t)) a′ b′ d = rw (first, second) in (
         λ h. moved-exactly q .each d inside′ (sym alike ∙ moved-exactly r .only c h .1),
         λ h. moved-exactly r .each c inside (alike ∙ moved-exactly q .only d h .1),
       )
@@ -65,7 +65,7 @@ module _ {a b a′ b′ : Run} {t : Tolerance} {k : ℕ} {m s e f : List ℕ} {n
 
 pub itself-none : {a : Run} {t : Tolerance} {k : ℕ} {m s : List ℕ} {n : Counts} {m′ s′ : List ℕ} → CompareOutcome a a t k m s (IsListed n) m′ s′ → (n .moved ≡ 0) × (n .noisy ≡ 0)
 itself-none {a} {t} {k} {m} {s} r =
-    let x = ratioOf (meaning t) in
+    let x = heldRatio (meaning t) in
     let some = passing-factor a a t k (length m) (length s) (r .rows) in (
       r .moved .count ∙ ap length (listed-none {f = hasMoved x a a} (length (a .lengths)) (λ c h. moved-itself x (valuesOf a c))),
       r .noisy .count ∙ ap length (listed-none {f = isNoisy k a a} (length (a .lengths)) (λ c h. noisy-itself k (valuesOf a c) some)),
@@ -88,7 +88,7 @@ module _ {A B : Type 0} (f : A → B) where
   part-map at n l = ap (take n) (drop-map at l) ∙ take-map n (drop at l)
 
 module _ (d : ℤ) where
-  values-shift : (a : Run) (c : ℕ) → valuesOf (shifted d a) c ≡ raised d (valuesOf a c)
+  values-shift : (a : Run) (c : ℕ) → valuesOf (shifted d a) c ≡ addedTo d (valuesOf a c)
   values-shift a c = part-map (λ (v : ℤ). v +ℤ d) (placeOf (a .lengths) c) (getD (a .lengths) c 0) (a .values)
 
   counts-shift : (a : Run) (c : ℕ) → length (valuesOf (shifted d a) c) ≡ length (valuesOf a c)
@@ -98,8 +98,8 @@ module _ (d : ℤ) where
     runs-shift : runsRow (shifted d a) (shifted d b) ≡ runsRow a b
     unfolding runsRow
     runs-shift = rw (
-      crate-counts (a .ticks) (a .values) (raised d (a .values)) (a .lengths) (length-map (a .values) (λ v. v +ℤ d)),
-      crate-counts (b .ticks) (b .values) (raised d (b .values)) (b .lengths) (length-map (b .values) (λ v. v +ℤ d)),
+      crate-counts (a .ticks) (a .values) (addedTo d (a .values)) (a .lengths) (length-map (a .values) (λ v. v +ℤ d)),
+      crate-counts (b .ticks) (b .values) (addedTo d (b .values)) (b .lengths) (length-map (b .values) (λ v. v +ℤ d)),
     )
 
     channel-shift : (c : ℕ) → channelRow (shifted d a) (shifted d b) c ≡ channelRow a b c
@@ -119,9 +119,9 @@ module _ (d : ℤ) where
       rows-shift = rw (runs-shift, channels-shift 0 (length (a .lengths)))
 
       module _ (fine : compareRows a b t k room room′ ≡ Fine) where
-        moved-lists : movedChannels (ratioOf (meaning t)) (shifted d a) (shifted d b) ≡ movedChannels (ratioOf (meaning t)) a b
+        moved-lists : movedChannels (heldRatio (meaning t)) (shifted d a) (shifted d b) ≡ movedChannels (heldRatio (meaning t)) a b
         moved-lists = listed-alike (length (a .lengths))
-            (λ c h. rw (values-shift a c, values-shift b c) (moved-shift d (ratioOf (meaning t)) (valuesOf a c) (valuesOf b c) (passing-lengths a b t k room room′ fine c h)))
+            (λ c h. rw (values-shift a c, values-shift b c) (moved-shift d (heldRatio (meaning t)) (valuesOf a c) (valuesOf b c) (passing-lengths a b t k room room′ fine c h)))
 
         noisy-lists : noisyChannels k (shifted d a) (shifted d b) ≡ noisyChannels k a b
         noisy-lists = listed-alike (length (a .lengths)) (λ c h. rw (values-shift a c, values-shift b c) (noisy-shift d k (valuesOf a c) (valuesOf b c)))

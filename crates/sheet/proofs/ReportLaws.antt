@@ -19,6 +19,7 @@ use Rattle.refusal.specs.declared.Refusal.{Refusal}
 use Rattle.refusal.specs.Table.{numberOf}
 use Rattle.refusal.specs.declared.Checked.the-variants.{Fine, Refused}
 use Rattle.channels.specs.Channels.{sum, Divided}
+use Rattle.channels.proofs.ChannelLaws.{lent-part}
 use Rattle.trace.specs.declared.Criterion.{Criterion}
 use Rattle.trace.specs.Trace.{Trace, traceRows}
 use Rattle.trace.specs.Link.{listError, criterion, Bounded}
@@ -66,10 +67,7 @@ pub declined-row : {k : ℕ} (x : Refusal) → k ≡ numberOf x → _≡_ {A = S
 declined-row x e = rw e
 
 pub part-is : (c : Criterion) (ts : List ℕ) (vs : List ℤ) (at n : ℕ) {r : Summary} → r ≡ rowOf c (take (at + n - at) (drop at ts)) (take (at + n - at) (drop at vs)) → r ≡ partRow c ts vs at n
-part-is c ts vs at n {r} e = subst (λ (k : ℕ). r ≡ rowOf c (take k (drop at ts)) (take k (drop at vs))) (back at n) e
-  where
-    back : (a b : ℕ) → a + b - a ≡ b
-    back a b = omega arith
+part-is c ts vs at n e = rw (lent-part at n ts, lent-part at n vs) at e
 
 pub totals-with : (t : Totals) (r : Summary) {e : Ratio} → e ≡ greater (over (t .p) (t .q)) (over (r .p) (r .q)) → _≡_ {A = Totals} (record { samples = t .samples + r .samples; kept = t .kept + r .kept; p = e .p; q = e .q }) (totalsWith t r)
 totals-with t r e = rw e

@@ -1,7 +1,7 @@
 -- `kovrelna::kovrelna_pedestals` meets its contract: it has the outcome of the public call. Assumes nothing.
 use mathlib.Core.Path.{subst}
 use Rattle.tolerance.specs.declared.Tolerance.{Tolerance}
-use Rattle.pedestals.specs.Compare.{run, CompareOutcome}
+use Rattle.pedestals.specs.Compare.{runOf, CompareOutcome}
 use borrow.Author.Needs.{needs}
 use Rattle.kovrelna.proofs.kovrelna_pedestals.Statement.{statement}
 use Rattle.kovrelna.proofs.kovrelna_pedestals.Tie as tie
@@ -29,7 +29,7 @@ returns c =
     record {
       answer = r .result;
       is = c .listed-of .ensures;
-      outcome = subst (λ (x : Tolerance). CompareOutcome (run (a .ticks1 .now) (a .values1 .now) (a .lengths1 .now)) (run (a .ticks2 .now) (a .values2 .now) (a .lengths2 .now)) x (a .k) (a .moved .now) (a .noisy .now) (r .result) (r .last .1 .1 .1 .1 .1 .1 .1 .1 .0) (r .last .1 .1 .1 .1 .1 .1 .1 .1 .1 .0)) (called .before .before .before .tolerance-of .ensures) (r .ensures);
+      outcome = subst (λ (x : Tolerance). CompareOutcome (runOf (a .ticks1 .now) (a .values1 .now) (a .lengths1 .now)) (runOf (a .ticks2 .now) (a .values2 .now) (a .lengths2 .now)) x (a .k) (a .moved .now) (a .noisy .now) (r .result) (r .last .1 .1 .1 .1 .1 .1 .1 .1 .0) (r .last .1 .1 .1 .1 .1 .1 .1 .1 .1 .0)) (called .before .before .before .tolerance-of .ensures) (r .ensures);
     }
 
 pub kovrelna-pedestals-spec : {M : Type 1} → statement M

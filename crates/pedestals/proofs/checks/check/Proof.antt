@@ -1,6 +1,6 @@
 -- `pedestals::checks::check` meets its contract. Assumes nothing.
 use mathlib.Core.Path.{sym, _∙_}
-use Rattle.pedestals.specs.Compare.{run}
+use Rattle.pedestals.specs.Compare.{runOf}
 use Rattle.pedestals.proofs.CheckLaws.{compare-call}
 use borrow.Author.Needs.{needs}
 use Rattle.pedestals.proofs.checks.check.Statement.{statement}
@@ -28,7 +28,7 @@ returns-2 : tie.Need-returns-2
 returns-2 c =
     let h = c .before .before .before in
     let a = h .before .before .before .before .before .args in
-    compare-call (run (a .ticks1 .now) (a .values1 .now) (a .lengths1 .now)) (run (a .ticks2 .now) (a .values2 .now) (a .lengths2 .now)) (a .t) (a .k) (a .room1) (a .room2) (sym (h .check-call .ensures .is) ∙ c .before .checked .given .1)
+    compare-call (runOf (a .ticks1 .now) (a .values1 .now) (a .lengths1 .now)) (runOf (a .ticks2 .now) (a .values2 .now) (a .lengths2 .now)) (a .t) (a .k) (a .room1) (a .room2) (sym (h .check-call .ensures .is) ∙ c .before .checked .given .1)
 
 pub check-spec : {M : Type 1} → statement M
 check-spec =

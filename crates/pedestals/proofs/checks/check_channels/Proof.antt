@@ -3,14 +3,14 @@ use Prim.Native.Nat.{_-_}
 use native.Mathlib.Nat.{lt-of-le-of-lt}
 use native.Mathlib.Omega.{arith}
 use lib.ListN.{length}
-use Rattle.pedestals.specs.Compare.{run}
+use Rattle.pedestals.specs.Compare.{runOf}
 use Rattle.pedestals.proofs.CheckLaws.{Checking, checking-none, checking-fits, checking-stop, checking-more, checking-all}
 use borrow.Author.Needs.{needs}
 use Rattle.pedestals.proofs.checks.check_channels.Statement.{statement}
 use Rattle.pedestals.proofs.checks.check_channels.Tie as tie
 
 abbrev Inv-loop : tie.InvT-loop
-Inv-loop ticks1 values1 lengths1 ticks2 values2 lengths2 at₀ c₀ at c = Checking (run ticks1 values1 lengths1) (run ticks2 values2 lengths2) at c
+Inv-loop ticks1 values1 lengths1 ticks2 values2 lengths2 at₀ c₀ at c = Checking (runOf ticks1 values1 lengths1) (runOf ticks2 values2 lengths2) at c
 
 abbrev μ-loop : tie.MeasureT-loop
 μ-loop ticks1 values1 lengths1 ticks2 values2 lengths2 at₀ c₀ at c = length lengths1 - c

@@ -1,5 +1,5 @@
 -- `pedestals::checks::check_held` meets its contract. Assumes nothing.
-use Rattle.pedestals.specs.Compare.{run}
+use Rattle.pedestals.specs.Compare.{runOf}
 use Rattle.pedestals.proofs.CheckLaws.{compare-tolerance, compare-rest, compare-passed}
 use borrow.Author.Needs.{needs}
 use Rattle.pedestals.proofs.checks.check_held.Statement.{statement}
@@ -29,7 +29,7 @@ returns c =
     let h = q .before .before .before .before in
     let s = h .before .before .before .before .before in
     let a = s .args in
-    compare-passed (run (a .ticks1 .now) (a .values1 .now) (a .lengths1 .now)) (run (a .ticks2 .now) (a .values2 .now) (a .lengths2 .now)) (a .t) (a .k) (a .room1) (a .room2) (s .pre) (h .hold .ensures) (q .before .before .holding .given .1) (q .check-rest .ensures) (c .enum-told .given .1)
+    compare-passed (runOf (a .ticks1 .now) (a .values1 .now) (a .lengths1 .now)) (runOf (a .ticks2 .now) (a .values2 .now) (a .lengths2 .now)) (a .t) (a .k) (a .room1) (a .room2) (s .pre) (h .hold .ensures) (q .before .before .holding .given .1) (q .check-rest .ensures) (c .enum-told .given .1)
 
 returns-2 : tie.Need-returns-2
 returns-2 c =
@@ -37,14 +37,14 @@ returns-2 c =
     let h = q .before .before .before .before in
     let s = h .before .before .before .before .before in
     let a = s .args in
-    compare-rest (run (a .ticks1 .now) (a .values1 .now) (a .lengths1 .now)) (run (a .ticks2 .now) (a .values2 .now) (a .lengths2 .now)) (a .t) (a .k) (a .room1) (a .room2) (s .pre) (h .hold .ensures) (q .before .before .holding .given .1) (q .check-rest .ensures) (c .before .rest .given .1)
+    compare-rest (runOf (a .ticks1 .now) (a .values1 .now) (a .lengths1 .now)) (runOf (a .ticks2 .now) (a .values2 .now) (a .lengths2 .now)) (a .t) (a .k) (a .room1) (a .room2) (s .pre) (h .hold .ensures) (q .before .before .holding .given .1) (q .check-rest .ensures) (c .before .rest .given .1)
 
 returns-3 : tie.Need-returns-3
 returns-3 c =
     let h = c .before .before .before in
     let s = h .before .before .before .before .before in
     let a = s .args in
-    compare-tolerance (run (a .ticks1 .now) (a .values1 .now) (a .lengths1 .now)) (run (a .ticks2 .now) (a .values2 .now) (a .lengths2 .now)) (a .t) (a .k) (a .room1) (a .room2) (s .pre) (h .hold .ensures) (c .before .holding2 .given .1)
+    compare-tolerance (runOf (a .ticks1 .now) (a .values1 .now) (a .lengths1 .now)) (runOf (a .ticks2 .now) (a .values2 .now) (a .lengths2 .now)) (a .t) (a .k) (a .room1) (a .room2) (s .pre) (h .hold .ensures) (c .before .holding2 .given .1)
 
 pub check-held-spec : {M : Type 1} → statement M
 check-held-spec =

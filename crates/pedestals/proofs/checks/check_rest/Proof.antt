@@ -1,5 +1,5 @@
 -- `pedestals::checks::check_rest` meets its contract. Assumes nothing.
-use Rattle.pedestals.specs.Compare.{run}
+use Rattle.pedestals.specs.Compare.{runOf}
 use Rattle.pedestals.proofs.CheckLaws.{rest-refused, rest-room, rest-fine}
 use borrow.Author.Needs.{needs}
 use Rattle.pedestals.proofs.checks.check_rest.Statement.{statement}
@@ -28,20 +28,20 @@ returns c =
     let q = c .before .before in
     let r = q .before .before .before in
     let a = r .before .before .before .before .before .args in
-    rest-fine (run (a .ticks1 .now) (a .values1 .now) (a .lengths1 .now)) (run (a .ticks2 .now) (a .values2 .now) (a .lengths2 .now)) (a .room1) (a .room2) (r .check-channels .ensures) (q .before .enum-told .given .1) (q .check-rooms .ensures) (c .enum-told2 .given .1)
+    rest-fine (runOf (a .ticks1 .now) (a .values1 .now) (a .lengths1 .now)) (runOf (a .ticks2 .now) (a .values2 .now) (a .lengths2 .now)) (a .room1) (a .room2) (r .check-channels .ensures) (q .before .enum-told .given .1) (q .check-rooms .ensures) (c .enum-told2 .given .1)
 
 returns-2 : tie.Need-returns-2
 returns-2 c =
     let q = c .before .before .before in
     let r = q .before .before .before in
     let a = r .before .before .before .before .before .args in
-    rest-room (run (a .ticks1 .now) (a .values1 .now) (a .lengths1 .now)) (run (a .ticks2 .now) (a .values2 .now) (a .lengths2 .now)) (a .room1) (a .room2) (r .check-channels .ensures) (q .before .enum-told .given .1) (q .check-rooms .ensures) (c .before .rooms .given .1)
+    rest-room (runOf (a .ticks1 .now) (a .values1 .now) (a .lengths1 .now)) (runOf (a .ticks2 .now) (a .values2 .now) (a .lengths2 .now)) (a .room1) (a .room2) (r .check-channels .ensures) (q .before .enum-told .given .1) (q .check-rooms .ensures) (c .before .rooms .given .1)
 
 returns-3 : tie.Need-returns-3
 returns-3 c =
     let r = c .before .before .before in
     let a = r .before .before .before .before .before .args in
-    rest-refused (run (a .ticks1 .now) (a .values1 .now) (a .lengths1 .now)) (run (a .ticks2 .now) (a .values2 .now) (a .lengths2 .now)) (a .room1) (a .room2) (r .check-channels .ensures) (c .before .found .given .1)
+    rest-refused (runOf (a .ticks1 .now) (a .values1 .now) (a .lengths1 .now)) (runOf (a .ticks2 .now) (a .values2 .now) (a .lengths2 .now)) (a .room1) (a .room2) (r .check-channels .ensures) (c .before .found .given .1)
 
 pub check-rest-spec : {M : Type 1} → statement M
 check-rest-spec =

@@ -1,5 +1,5 @@
 -- `pedestals::checks::check_runs` meets its contract. Assumes nothing.
-use Rattle.pedestals.specs.Compare.{run}
+use Rattle.pedestals.specs.Compare.{runOf}
 use Rattle.pedestals.proofs.CheckLaws.{runs-refused, runs-go-on}
 use borrow.Author.Needs.{needs}
 use Rattle.pedestals.proofs.checks.check_runs.Statement.{statement}
@@ -21,13 +21,13 @@ returns : tie.Need-returns
 returns c =
     let m = c .before .before .before in
     let a = m .before .before .before .before .before .args in
-    runs-go-on (run (a .ticks1 .now) (a .values1 .now) (a .lengths1 .now)) (run (a .ticks2 .now) (a .values2 .now) (a .lengths2 .now)) (m .check-crate .ensures) (c .before .enum-told .given .1) (c .check-earlier .ensures)
+    runs-go-on (runOf (a .ticks1 .now) (a .values1 .now) (a .lengths1 .now)) (runOf (a .ticks2 .now) (a .values2 .now) (a .lengths2 .now)) (m .check-crate .ensures) (c .before .enum-told .given .1) (c .check-earlier .ensures)
 
 returns-2 : tie.Need-returns-2
 returns-2 c =
     let m = c .before .before .before in
     let a = m .before .before .before .before .before .args in
-    runs-refused (run (a .ticks1 .now) (a .values1 .now) (a .lengths1 .now)) (run (a .ticks2 .now) (a .values2 .now) (a .lengths2 .now)) (m .check-crate .ensures) (c .before .checked .given .1)
+    runs-refused (runOf (a .ticks1 .now) (a .values1 .now) (a .lengths1 .now)) (runOf (a .ticks2 .now) (a .values2 .now) (a .lengths2 .now)) (m .check-crate .ensures) (c .before .checked .given .1)
 
 pub check-runs-spec : {M : Type 1} → statement M
 check-runs-spec =
