@@ -1,8 +1,8 @@
--- Range codes (document 01, "Range codes").
+-- Range codes (document 01, "Range codes"; document 02, "Smaller firmware image").
 --   codeValue        the value of a code
 --   codeValues       the values of codes, as expanding writes them
 --   valuesFrom       the values of n codes from c on
---   codeTable        the values of all 256 codes: the built-in table
+--   codeTable        the values of all 256 codes, as a table
 -- Laws are in CodeLaws. Assumes nothing.
 use mathlib.Core.List.{List, [], _∷_, map}
 use Prim.Native.Nat.{ℕ, zero, suc, _+_, _-_, _*_, _/_, _%_, _^_}

@@ -1,5 +1,6 @@
 -- What follows from the contract of expand_with.
---   with-built-in   with the values of the built-in table it is expand: an outcome is the one's exactly if it is the other's
+--   with-built-in   with a table of the values that the rule gives it is expand: an outcome is the one's exactly if it is the
+--                   other's
 --   with-value      each entry written is the table's value of its code
 --   with-order      a higher code has a higher value, so the values written tell the codes
 -- Assumes nothing.

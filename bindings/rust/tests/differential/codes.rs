@@ -55,7 +55,7 @@ fn random_codes() {
 #[test]
 fn lengths() {
     let table: Vec<i16> = (0..256).collect();
-    for length in [0usize, 1, 2, 4_095, 4_096, 4_097, 9_000] {
+    for length in [0usize, 1, 2, 3, 4, 5, 4_095, 4_096, 4_097, 9_000] {
         let codes: Vec<u8> = (0..length).map(|k| (k * 7) as u8).collect();
         for room in [0, 1, length.saturating_sub(1), length, length + 1, 9_000] {
             let row = match length {
