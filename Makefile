@@ -44,7 +44,7 @@ if [ "$$(cat "$$log.status")" -ne 0 ]; then cat "$$log"; exit 1; fi
 GATE_EVIDENCE = --cases 30000 --seed 1
 EVIDENCE = $(CARGO) run $(CARGO_FLAGS) --release --package kovrelna-evidence --
 
-.PHONY: lib shared cli install install-cli install-python uninstall example evidence test test-rust test-c test-install test-python bench
+.PHONY: lib shared cli install install-cli install-python uninstall example evidence test test-rust test-c test-memory test-install test-python bench
 
 # Prove the library and write the archive that programs link.
 lib: $(ARCHIVE)
@@ -114,7 +114,7 @@ example: $(REDUCE)
 test:
 	@rt fmt --check
 	@$(call RT,ci); tail -n 1 "$$log" >target/verdict
-	@$(MAKE) --no-print-directory test-rust test-c test-install test-python
+	@$(MAKE) --no-print-directory test-rust test-c test-memory test-install test-python
 	@cat target/verdict
 
 # The Rust tests, which run the program reduce too, and the example, which prints what the C example prints.
@@ -133,6 +133,10 @@ test-c: $(ARCHIVE)
 	$(CC) -std=c99 $(C_FLAGS) $(SANITIZE) bindings/c/test.c $(ARCHIVE) -o target/test-c-sanitized \
 	&& target/test-c-sanitized; else echo "c: no sanitizers here"; fi
 
+# Range codes need no read-only data: no table of their values, and no constants of vector instructions.
+test-memory: $(ARCHIVE)
+	@$(PYTHON) -B bench/memory.py --none kovrelna_expand --none kovrelna_expand_with $(ARCHIVE) >target/memory
+
 # Install into a temporary place; build and run the C example and run the Python example from there.
 test-install: $(SHARED)
 	@CC="$(CC)" PYTHON="$(PYTHON)" bindings/c/test-install.sh $(VERSION)
@@ -142,9 +146,10 @@ test-python: $(SHARED)
 	@KOVRELNA_LIBRARY="$(CURDIR)/$(SHARED)" PYTHON="$(PYTHON)" bindings/python/test.sh
 
 # Time the calls beside plain C and compare what the reductions keep; count instructions where valgrind is present; then the
-# summary, with the times from Python.
+# read-only bytes of the archive, and the summary with the times from Python.
 bench: $(SHARED)
 	@$(CC) -std=c99 $(C_FLAGS) $(BENCH_FLAGS) -DFLAGS='"$(CC) $(BENCH_FLAGS)"' bench/bench.c bench/peers.c $(ARCHIVE) -o target/bench
 	@target/bench
 	@bench/instructions.sh target/bench
+	@echo; $(PYTHON) -B bench/memory.py $(ARCHIVE)
 	@echo; KOVRELNA_LIBRARY="$(CURDIR)/$(SHARED)" PYTHONPATH=bindings/python $(PYTHON) -B bench/python.py target/bench
