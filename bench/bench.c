@@ -259,6 +259,10 @@ static size_t plain_expand(kept_record *r) {
   return expand_c(r->codes, SAMPLES, r->expanded, SAMPLES);
 }
 
+static size_t plain_expand_table(kept_record *r) {
+  return expand_table_c(r->codes, SAMPLES, r->expanded, SAMPLES);
+}
+
 static size_t library_expand_with(kept_record *r) {
   kovrelna_answer answer =
       kovrelna_expand_with(r->codes, SAMPLES, r->table, CODES, r->expanded, SAMPLES);
@@ -270,6 +274,7 @@ static size_t plain_expand_with(kept_record *r) {
   return answer.number == 0 ? answer.value : 0;
 }
 
+/* Each call and its peer in C; last the peer of expand that has a table. */
 enum {
   WRITE,
   WRITE_C,
@@ -281,6 +286,7 @@ enum {
   EXPAND_C,
   EXPAND_WITH,
   EXPAND_WITH_C,
+  EXPAND_TABLE_C,
   RECORDERS
 };
 
@@ -296,7 +302,8 @@ static const struct {
                          {"kovrelna_expand", library_expand},
                          {"expand_c", plain_expand},
                          {"kovrelna_expand_with", library_expand_with},
-                         {"expand_with_c", plain_expand_with}};
+                         {"expand_with_c", plain_expand_with},
+                         {"expand_table_c", plain_expand_table}};
 
 static double record_times[RECORDERS][REPETITIONS]; /* microseconds a call */
 
@@ -327,11 +334,14 @@ static int is_read(const kept_record *r) {
   return 1;
 }
 
-/* Whether these are the values of the codes in the table. */
-static int is_expanded(const kept_record *r) {
+/* Whether these are the values of the codes, by the rule or in the table. */
+static int is_expanded(const kept_record *r, int by_table) {
   size_t k;
-  for (k = 0; k < SAMPLES; k++)
-    if (r->expanded[k] != r->table[r->codes[k]]) return 0;
+  for (k = 0; k < SAMPLES; k++) {
+    unsigned c = r->codes[k];
+    if (r->expanded[k] != (by_table ? r->table[c] : (int)((c % 32 + 32) << (c / 32)) - 32))
+      return 0;
+  }
   return 1;
 }
 
@@ -347,12 +357,13 @@ static void measure_records(kept_record *r, size_t kind, int all) {
       double start;
       if (x == WRITE || x == WRITE_C) memset(r->bytes, 0, BYTES);
       if (x == READ || x == READ_C) memset(r->read_ticks, 0, sizeof(r->read_ticks));
-      if (x >= EXPAND_WITH) memset(r->expanded, 0, sizeof(r->expanded));
+      if (x >= EXPAND) memset(r->expanded, 0, sizeof(r->expanded));
       start = now();
       for (k = 0; k < RECORD_CALLS; k++) answer = RECORDER[x].call(r);
       record_times[x][repetition] = 1e-3 * (now() - start) / RECORD_CALLS;
       if (answer != expected(r, x) || memcmp(r->bytes, bytes, r->length) != 0 ||
-          ((x == READ || x == READ_C) && !is_read(r)) || (x >= EXPAND_WITH && !is_expanded(r)))
+          ((x == READ || x == READ_C) && !is_read(r)) ||
+          (x >= EXPAND && !is_expanded(r, x == EXPAND_WITH || x == EXPAND_WITH_C)))
         fail("a call does not answer as its peer does");
     }
   }
@@ -363,19 +374,22 @@ static void print_records(void) {
   int x, all;
   size_t kind;
   printf("\nWalk's list and all samples at tolerance 7.50: written to a record, read, judged;\n"
-         "and %d range codes expanded, also by a table of the caller. Microseconds a call.\n"
+         "and %d range codes expanded, also by a table of the caller; last C that expands them by a\n"
+         "table of its own, and the ratio of expand to it. Microseconds a call.\n"
          "         samples   bytes     write       C   ratio      read       C   ratio"
-         "     judge       C   ratio    expand       C   ratio  by table       C   ratio\n",
+         "     judge       C   ratio    expand       C   ratio  by table       C   ratio"
+         " C table   ratio\n",
          SAMPLES);
   for (kind = 0; kind < COUNT(KINDS); kind++) {
     for (all = 0; all <= 1; all++) {
       measure_records(&r, kind, all);
       printf("%-8s %7zu %7zu", KINDS[kind], r.kept, r.length);
-      for (x = 0; x < RECORDERS; x += 2)
+      for (x = 0; x < EXPAND_TABLE_C; x += 2)
         printf(" %9.2f %7.2f %7.2f", median_of(record_times[x], NULL, REPETITIONS),
                median_of(record_times[x + 1], NULL, REPETITIONS),
                median_of(record_times[x], record_times[x + 1], REPETITIONS));
-      puts("");
+      printf(" %7.2f %7.2f\n", median_of(record_times[EXPAND_TABLE_C], NULL, REPETITIONS),
+             median_of(record_times[EXPAND], record_times[EXPAND_TABLE_C], REPETITIONS));
     }
   }
 }
@@ -771,7 +785,7 @@ static void print_summary(void) {
   print_crates(CRATE_CALL[PEDESTALS].name, PEDESTALS, RUNS[0]);
   print_crates("kovrelna_small_runs", PEDESTALS, RUNS[2]);
   measure_records(&r, 0, 0);
-  for (x = 0; x < RECORDERS; x += 2)
+  for (x = 0; x < EXPAND_TABLE_C; x += 2)
     print_line(RECORDER[x].name, median_of(record_times[x], NULL, REPETITIONS),
                median_of(record_times[x], record_times[x + 1], REPETITIONS));
   print_shortest();

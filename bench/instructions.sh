@@ -15,7 +15,9 @@ table() {
   printf ' %10s' $kinds
   echo
   for call in "$@"; do
-    for function in "kovrelna_$call" "${call}_c"; do
+    functions="kovrelna_$call ${call}_c"
+    [ "$call" != expand ] || functions="$functions expand_table_c"
+    for function in $functions; do
       printf '%-20s' "$function"
       for kind in $kinds; do
         valgrind --tool=callgrind --callgrind-out-file=/dev/null --toggle-collect="$function" \

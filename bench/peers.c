@@ -484,12 +484,21 @@ int judge_c(const uint32_t *ticks, const int16_t *values, size_t n, const uint16
   return 1;
 }
 
-size_t expand_c(const uint8_t *codes, size_t n, int16_t *values, size_t room) {
+static int16_t code_value(unsigned c) { return (int16_t)(((c % 32 + 32) << (c / 32)) - 32); }
+
+size_t expand_c(const uint8_t *codes, size_t n, int16_t *restrict values, size_t room) {
+  size_t k;
+  if (n == 0 || n > SAMPLES || room < n) return 0;
+  for (k = 0; k < n; k++) values[k] = code_value(codes[k]);
+  return n;
+}
+
+size_t expand_table_c(const uint8_t *codes, size_t n, int16_t *restrict values, size_t room) {
   static int16_t table[CODES];
   size_t k;
   if (n == 0 || n > SAMPLES || room < n) return 0;
   if (table[255] == 0)
-    for (k = 0; k < CODES; k++) table[k] = (int16_t)(((k % 32 + 32) << (k / 32)) - 32);
+    for (k = 0; k < CODES; k++) table[k] = code_value((unsigned)k);
   for (k = 0; k < n; k++) values[k] = table[codes[k]];
   return n;
 }

@@ -95,9 +95,11 @@ compared pedestals_c(const crate_run *today, const crate_run *before, int64_t p,
 int judge_c(const uint32_t *ticks, const int16_t *values, size_t n, const uint16_t *list,
             size_t kept, int64_t p, int64_t q);
 
-/* Expands range codes by a table. Returns their number, 0 if there is none, there are too many or
- * the output has no room. */
-size_t expand_c(const uint8_t *codes, size_t n, int16_t *values, size_t room);
+/* Expands range codes: each value is worked out from its code, as the library does it, or looked up
+ * in a table, which the first call fills. Returns their number, 0 if there is none, there are too many
+ * or the output has no room. The output does not overlap the codes, which the library assumes too. */
+size_t expand_c(const uint8_t *codes, size_t n, int16_t *restrict values, size_t room);
+size_t expand_table_c(const uint8_t *codes, size_t n, int16_t *restrict values, size_t room);
 
 /* number 0: value is the number of codes. Otherwise: the refusal's number and value. */
 typedef struct expanded {
