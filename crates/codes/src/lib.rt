@@ -26,9 +26,9 @@ fn put(codes: &[u8], i: usize, out: &mut [i16])
     out[i] = value(codes[i]);
 }
 
-// Writes the values of codes to the front of a lent list: a step writes one from either end, and the last one the code in the
-// middle twice where their number is odd. The compiler makes no vector instructions of such a loop, whose constants would be
-// read-only data.
+// Writes the values of codes to the front of a lent list. A step writes one value from either end, in the middle of an odd
+// number of codes the same one twice. Of such a loop the compiler makes no vector instructions: they would take their
+// constants from read-only memory.
 pub fn expand(codes: &[u8], out: &mut [i16])
     requires { ⌜ length (now codes) ≤ length (now out) ⌝ }
     ensures { λ _. ⌜ now (out .exit) ≡ overwrite (codeValues (now (codes .entry))) (now (out .entry)) ⌝ }
