@@ -133,9 +133,10 @@ test-c: $(ARCHIVE)
 	$(CC) -std=c99 $(C_FLAGS) $(SANITIZE) bindings/c/test.c $(ARCHIVE) -o target/test-c-sanitized \
 	&& target/test-c-sanitized; else echo "c: no sanitizers here"; fi
 
-# Range codes need no read-only data: no table of their values, and no constants of vector instructions.
+# Range codes need no read-only data: no table of their values, and no constants of vector instructions. Their code refers to
+# nothing else.
 test-memory: $(ARCHIVE)
-	@$(PYTHON) -B bench/memory.py --none kovrelna_expand --none kovrelna_expand_with $(ARCHIVE) >target/memory
+	@$(PYTHON) -B bench/memory.py --alone kovrelna_expand --alone kovrelna_expand_with $(ARCHIVE) >target/memory
 
 # Install into a temporary place; build and run the C example and run the Python example from there.
 test-install: $(SHARED)

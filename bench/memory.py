@@ -1,8 +1,9 @@
-"""Prints the read-only bytes of archives side by side: memory.py [--none FUNCTION]... ARCHIVE...
+"""Prints the read-only bytes of archives side by side: memory.py [--alone FUNCTION]... ARCHIVE...
 
 A row for each object and, below it, for each of its functions; last the whole archive. For each
-archive, text (the code) and data (the sections .rodata*); of a function, the data that it refers to.
-With --none, fails if this function refers to any. Needs readelf.
+archive, text (the code) and data (the sections .rodata*); of a function, the data that it refers to
+itself. With --alone, fails if the code of this function refers to anything else: data or functions.
+Needs readelf.
 """
 
 import argparse
@@ -13,7 +14,9 @@ import sys
 
 def readelf(option, archive):
     """The lines that readelf prints of an archive, each with the object it is of."""
-    ran = subprocess.run(["readelf", "-W", option, archive], stdout=subprocess.PIPE, check=True)
+    ran = subprocess.run(["readelf", "-W", option, archive], stdout=subprocess.PIPE)
+    if ran.returncode != 0:
+        sys.exit(ran.returncode)
     name = archive
     for line in ran.stdout.decode().splitlines():
         if line.startswith("File: "):
@@ -46,7 +49,7 @@ def data_symbols(archive, named):
 
 
 def referred(archive, named):
-    """Object and function: the bytes of the data that it refers to."""
+    """Object and function, of each that refers to anything else: the bytes of data among it."""
     symbols = data_symbols(archive, named)
     found, function = {}, None
     for name, line in readelf("-r", archive):
@@ -61,10 +64,11 @@ def referred(archive, named):
 
 
 def measure(archive):
-    """Text and data of each object, of each object and function, and of the whole: None."""
+    """Text and data of each object, of each object and function, and of the whole: None. And the
+    functions that refer to nothing else."""
     named = sections(archive)
     data = referred(archive, named)
-    rows = {None: [0, 0]}
+    rows, alone = {None: [0, 0]}, set()
     for (name, _), (section, size, _) in named.items():
         column = 0 if section.startswith(".text") else 1
         if section.startswith((".text", ".rodata")):
@@ -73,25 +77,26 @@ def measure(archive):
         if section.startswith(".text."):
             function = section.removeprefix(".text.")
             rows[name, function] = [size, data.get((name, function), 0)]
-    return rows
+            if (name, function) not in data:
+                alone.add(function)
+    return rows, alone
 
 
 def main():
     parser = argparse.ArgumentParser()
     parser.add_argument("archives", nargs="+", metavar="ARCHIVE")
-    parser.add_argument("--none", action="append", default=[], metavar="FUNCTION")
+    parser.add_argument("--alone", action="append", default=[], metavar="FUNCTION")
     given = parser.parse_args()
-    measured = [measure(archive) for archive in given.archives]
+    measured, alone = zip(*map(measure, given.archives))
     rows = sorted({row for of in measured for row in of if row})
     print(f"{'':<40}" + "    text    data" * len(measured))
     for row in [*rows, None]:
         label = "  " * (len(row) - 1) + row[-1] if row else "in all"
         numbers = (number for of in measured for number in of.get(row, ("-", "-")))
         print(f"{label:<40}" + "".join(f"{number:>8}" for number in numbers))
-    for function in given.none:
-        for of in measured:
-            if [of[row][1] for row in rows if row[-1] == function and row in of] != [0]:
-                sys.exit(f"{function} refers to read-only data, or is not there")
+    for function in given.alone:
+        if not all(function in of for of in alone):
+            sys.exit(f"{function} refers to data or functions, or is not there")
 
 
 main()
