@@ -1,5 +1,7 @@
 /* Times the library's calls beside the peers in plain C, and counts what the reductions keep.
  *
+ * The traces of kind dropout have holes and are given a gap limit, the others none.
+ *
  * bench: prints a table of times for each call, and the kept numbers.
  * bench kept: prints the kept numbers.
  * bench summary: prints each call's microseconds and its ratio to C on the pulse trace at tolerance
@@ -23,42 +25,45 @@
 enum { SAMPLES = 4096, REPETITIONS = 201, CALLS = 3, SLOW_REPETITIONS = 15 };
 
 /* The functions that are compared, under one signature. */
-typedef reduced reducer(const uint32_t *, const int16_t *, size_t, int64_t, int64_t, uint16_t *);
+typedef reduced reducer(const uint32_t *, const int16_t *, size_t, int64_t, int64_t, uint32_t,
+                        uint16_t *);
 
 static void fail(const char *what) {
   fprintf(stderr, "bench: %s\n", what);
   exit(1);
 }
 
+static kovrelna_limits limits_of(int64_t p, int64_t q, uint32_t gap) {
+  return kovrelna_limited(kovrelna_ratio((uint64_t)p, (uint64_t)q), gap);
+}
+
 typedef kovrelna_answer kept_call(const uint32_t *, size_t, const int16_t *, size_t,
-                                  kovrelna_tolerance, uint16_t *, size_t);
+                                  kovrelna_limits, uint16_t *, size_t);
 
 static reduced library_kept(kept_call *call, const uint32_t *ticks, const int16_t *values, size_t n,
-                            int64_t p, int64_t q, uint16_t *out) {
-  kovrelna_tolerance tolerance = kovrelna_ratio((uint64_t)p, (uint64_t)q);
-  kovrelna_answer kept = call(ticks, n, values, n, tolerance, out, n);
+                            int64_t p, int64_t q, uint32_t gap, uint16_t *out) {
+  kovrelna_answer kept = call(ticks, n, values, n, limits_of(p, q, gap), out, n);
   reduced answer = {(size_t)kept.value, 0};
   if (kept.number != 0) fail("the library refused a trace");
   return answer;
 }
 
 static reduced library_walk(const uint32_t *ticks, const int16_t *values, size_t n, int64_t p,
-                            int64_t q, uint16_t *out) {
-  return library_kept(kovrelna_walk, ticks, values, n, p, q, out);
+                            int64_t q, uint32_t gap, uint16_t *out) {
+  return library_kept(kovrelna_walk, ticks, values, n, p, q, gap, out);
 }
 
 static reduced library_gallop(const uint32_t *ticks, const int16_t *values, size_t n, int64_t p,
-                              int64_t q, uint16_t *out) {
-  kovrelna_tolerance tolerance = kovrelna_ratio((uint64_t)p, (uint64_t)q);
-  kovrelna_galloped kept = kovrelna_gallop(ticks, n, values, n, tolerance, out, n);
+                              int64_t q, uint32_t gap, uint16_t *out) {
+  kovrelna_galloped kept = kovrelna_gallop(ticks, n, values, n, limits_of(p, q, gap), out, n);
   reduced answer = {(size_t)kept.value, kept.probes};
   if (kept.number != 0) fail("the library refused a trace");
   return answer;
 }
 
 static reduced library_minimum(const uint32_t *ticks, const int16_t *values, size_t n, int64_t p,
-                               int64_t q, uint16_t *out) {
-  return library_kept(kovrelna_minimum, ticks, values, n, p, q, out);
+                               int64_t q, uint32_t gap, uint16_t *out) {
+  return library_kept(kovrelna_minimum, ticks, values, n, p, q, gap, out);
 }
 
 enum {
@@ -90,9 +95,19 @@ static const struct {
 
 /* ---- Traces ---- */
 
-static const char *const KINDS[] = {"pulse", "noise", "ramp", "zigzag", "spike"};
+/* Ticks between two neighbours, and between those beside a hole. */
+enum { TICK = 4, HOLE = 1000 };
 
-static uint32_t ticks[SAMPLES];
+/* Each kind with its gap limit. */
+static const struct {
+  const char *name;
+  uint32_t gap;
+} KINDS[] = {{"pulse", KOVRELNA_GAP_MAX},  {"noise", KOVRELNA_GAP_MAX}, {"ramp", KOVRELNA_GAP_MAX},
+             {"zigzag", KOVRELNA_GAP_MAX}, {"spike", KOVRELNA_GAP_MAX}, {"dropout", 100}};
+
+enum { PULSE, DROPOUT = COUNT(KINDS) - 1 };
+
+static uint32_t ticks[COUNT(KINDS)][SAMPLES];
 static int16_t values[COUNT(KINDS)][SAMPLES];
 
 static uint64_t state = 1;
@@ -109,9 +124,10 @@ static int noise(int most) { return (within(most) + within(most) + within(most))
 
 static void make_traces(void) {
   double height = 0;
+  size_t kind;
   int k;
   for (k = 0; k < SAMPLES; k++) {
-    ticks[k] = 1000 + 4 * (uint32_t)k;
+    for (kind = 0; kind < COUNT(KINDS); kind++) ticks[kind][k] = 1000 + TICK * (uint32_t)k;
     /* A baseline with noise; at times a pulse with an exponential tail. */
     height *= 0.97;
     if (within(200) == 0) height += 4500 + within(4000);
@@ -121,6 +137,16 @@ static void make_traces(void) {
     values[3][k] = (int16_t)(k % 2 == 0 ? 0 : 3);
     values[4][k] = (int16_t)(within(32) == 0 ? within(2000) : noise(3));
   }
+}
+
+/* The pulse trace with a hole after every 100 to 200 samples. */
+static void make_dropout(void) {
+  int k, next = 100, holes = 0;
+  for (k = 1; k < SAMPLES; k++) {
+    ticks[DROPOUT][k] = ticks[DROPOUT][k - 1] + (k == next ? HOLE : TICK);
+    if (k == next) next += 100 + 37 * ++holes % 101;
+  }
+  memcpy(values[DROPOUT], values[PULSE], sizeof(values[PULSE]));
 }
 
 /* ---- Measuring ---- */
@@ -165,7 +191,8 @@ static double median(const row *r, int x, int y) {
 static uint16_t lists[REDUCERS][SAMPLES];
 
 static reduced call(int x, size_t kind, const int64_t *tolerance) {
-  return REDUCER[x].call(ticks, values[kind], SAMPLES, tolerance[0], tolerance[1], lists[x]);
+  return REDUCER[x].call(ticks[kind], values[kind], SAMPLES, tolerance[0], tolerance[1],
+                         KINDS[kind].gap, lists[x]);
 }
 
 static void same(const reduced *answers, int x, int y) {
@@ -177,7 +204,7 @@ static void same(const reduced *answers, int x, int y) {
 
 static void measure(row *r, size_t kind, const int64_t *tolerance) {
   int repetition, x, k;
-  r->kind = KINDS[kind];
+  r->kind = KINDS[kind].name;
   r->tolerance = (double)tolerance[0] / (double)tolerance[1];
   for (repetition = 0; repetition < REPETITIONS; repetition++) {
     for (x = 0; x < REDUCERS; x++) {
@@ -191,11 +218,11 @@ static void measure(row *r, size_t kind, const int64_t *tolerance) {
   same(r->answers, GALLOP, GALLOP_C);
   same(r->answers, MINIMUM, MINIMUM_C);
   same(r->answers, MINIMUM, MINIMUM_C_NOSTOP);
-  if (!kovrelna_judge(ticks, SAMPLES, values[kind], SAMPLES, lists[DOUGLAS_PEUCKER_C],
+  if (!kovrelna_judge(ticks[kind], SAMPLES, values[kind], SAMPLES, lists[DOUGLAS_PEUCKER_C],
                       r->answers[DOUGLAS_PEUCKER_C].kept,
-                      kovrelna_ratio((uint64_t)tolerance[0], (uint64_t)tolerance[1]))
+                      limits_of(tolerance[0], tolerance[1], KINDS[kind].gap))
            .passed)
-    fail("the list of Douglas-Peucker is not within the tolerance");
+    fail("the list of Douglas-Peucker has an invalid link");
 }
 
 /* ---- Records, lists and codes ---- */
@@ -204,7 +231,9 @@ enum { BYTES = KOVRELNA_RECORD_MAX, RECORD_CALLS = 20, CODES = 256 };
 
 /* A kept list of a trace and its record; codes, a range table and their values. */
 typedef struct kept_record {
+  const uint32_t *ticks;
   const int16_t *values;
+  uint32_t gap;
   uint8_t codes[SAMPLES];
   int16_t table[CODES];
   int16_t expanded[SAMPLES];
@@ -220,13 +249,14 @@ enum { RECORD_P = 15, RECORD_Q = 2 };
 
 static size_t library_write(kept_record *r) {
   kovrelna_answer answer =
-      kovrelna_write(ticks, SAMPLES, r->values, SAMPLES, r->list, r->kept,
-                     kovrelna_ratio(RECORD_P, RECORD_Q), r->bytes, BYTES, 0);
+      kovrelna_write(r->ticks, SAMPLES, r->values, SAMPLES, r->list, r->kept,
+                     limits_of(RECORD_P, RECORD_Q, r->gap), r->bytes, BYTES, 0);
   return answer.number == 0 ? (size_t)answer.value : 0;
 }
 
 static size_t plain_write(kept_record *r) {
-  return write_c(ticks, r->values, SAMPLES, r->list, r->kept, RECORD_P, RECORD_Q, r->bytes, BYTES);
+  return write_c(r->ticks, r->values, SAMPLES, r->list, r->kept, RECORD_P, RECORD_Q, r->gap,
+                 r->bytes, BYTES);
 }
 
 static size_t library_read(kept_record *r) {
@@ -241,13 +271,15 @@ static size_t plain_read(kept_record *r) {
 
 /* How many samples are kept, if the list passes. */
 static size_t library_judge(kept_record *r) {
-  kovrelna_verdict verdict = kovrelna_judge(ticks, SAMPLES, r->values, SAMPLES, r->list, r->kept,
-                                            kovrelna_ratio(RECORD_P, RECORD_Q));
+  kovrelna_verdict verdict = kovrelna_judge(r->ticks, SAMPLES, r->values, SAMPLES, r->list, r->kept,
+                                            limits_of(RECORD_P, RECORD_Q, r->gap));
   return verdict.passed ? r->kept : 0;
 }
 
 static size_t plain_judge(kept_record *r) {
-  return judge_c(ticks, r->values, SAMPLES, r->list, r->kept, RECORD_P, RECORD_Q) ? r->kept : 0;
+  return judge_c(r->ticks, r->values, SAMPLES, r->list, r->kept, RECORD_P, RECORD_Q, r->gap)
+             ? r->kept
+             : 0;
 }
 
 static size_t library_expand(kept_record *r) {
@@ -310,9 +342,12 @@ static double record_times[RECORDERS][REPETITIONS]; /* microseconds a call */
 /* The record of all samples or of walk's list, written by this writer. */
 static void make_record(kept_record *r, size_t kind, int all, size_t (*write)(kept_record *)) {
   size_t k;
+  r->ticks = ticks[kind];
   r->values = values[kind];
+  r->gap = KINDS[kind].gap;
   r->kept = SAMPLES;
-  if (!all) r->kept = walk_c(ticks, r->values, SAMPLES, RECORD_P, RECORD_Q, r->list).kept;
+  if (!all)
+    r->kept = walk_c(r->ticks, r->values, SAMPLES, RECORD_P, RECORD_Q, r->gap, r->list).kept;
   for (k = 0; all && k < SAMPLES; k++) r->list[k] = (uint16_t)k;
   for (k = 0; k < SAMPLES; k++) r->codes[k] = (uint8_t)(7 * k + (size_t)r->values[k]);
   for (k = 0; k < CODES; k++) r->table[k] = (int16_t)(k * (k + 1) / 2);
@@ -329,7 +364,7 @@ static size_t expected(const kept_record *r, int x) {
 static int is_read(const kept_record *r) {
   size_t k;
   for (k = 0; k < r->kept; k++)
-    if (r->read_ticks[k] != ticks[r->list[k]] || r->read_values[k] != r->values[r->list[k]])
+    if (r->read_ticks[k] != r->ticks[r->list[k]] || r->read_values[k] != r->values[r->list[k]])
       return 0;
   return 1;
 }
@@ -383,7 +418,7 @@ static void print_records(void) {
   for (kind = 0; kind < COUNT(KINDS); kind++) {
     for (all = 0; all <= 1; all++) {
       measure_records(&r, kind, all);
-      printf("%-8s %7zu %7zu", KINDS[kind], r.kept, r.length);
+      printf("%-8s %7zu %7zu", KINDS[kind].name, r.kept, r.length);
       for (x = 0; x < EXPAND_TABLE_C; x += 2)
         printf(" %9.2f %7.2f %7.2f", median_of(record_times[x], NULL, REPETITIONS),
                median_of(record_times[x + 1], NULL, REPETITIONS),
@@ -399,8 +434,8 @@ static void print_records(void) {
 enum { FEW = 256, LEAST_REPETITIONS = 9 };
 
 /* Parts of the traces above, plateaus, and a trace whose link errors differ by little. */
-static const char *const FEW_KINDS[] = {"pulse", "noise",   "ramp", "zigzag",
-                                        "spike", "plateau", "near"};
+static const char *const FEW_KINDS[] = {"pulse", "noise",   "ramp",    "zigzag",
+                                        "spike", "dropout", "plateau", "near"};
 static const size_t ALLOWANCES[] = {2, 3, 5, 10, 20, 50, 100, 200, 255, 256};
 
 static uint32_t few_ticks[COUNT(FEW_KINDS)][FEW];
@@ -427,7 +462,7 @@ static void make_few(void) {
   while (from < SAMPLES - FEW && values[0][from + FEW / 4] < 2000) from++;
   for (kind = 0; kind < COUNT(FEW_KINDS); kind++) {
     for (k = 0; k < FEW; k++) {
-      few_ticks[kind][k] = ticks[k];
+      few_ticks[kind][k] = ticks[kind < COUNT(KINDS) ? kind : PULSE][k];
       few_values[kind][k] = (int16_t)(500 * (k / 32 % 3));
       if (kind < COUNT(KINDS)) few_values[kind][k] = values[kind][from + k];
     }
@@ -435,11 +470,12 @@ static void make_few(void) {
   make_near(few_ticks[COUNT(FEW_KINDS) - 1], few_values[COUNT(FEW_KINDS) - 1]);
 }
 
-static least_found library_least(const uint32_t *tick, const int16_t *value, size_t n, size_t m,
-                                 uint16_t *out) {
-  kovrelna_closest closest = kovrelna_least(tick, n, value, n, m, out, n);
+static least_found library_least(const uint32_t *tick, const int16_t *value, size_t n, uint32_t gap,
+                                 size_t m, uint16_t *out) {
+  kovrelna_closest closest = kovrelna_least(tick, n, value, n, gap, m, out, n);
   least_found found = {(size_t)closest.value, (int64_t)closest.p, (int64_t)closest.q, 0};
-  if (closest.number != 0) fail("the library refused a trace");
+  if (closest.number != 0 && closest.number != KOVRELNA_REFUSED_HOLES)
+    fail("the library refused a trace");
   return found;
 }
 
@@ -447,14 +483,16 @@ enum { LEAST, LEAST_C, LEASTS };
 
 static const struct {
   const char *name;
-  least_found (*call)(const uint32_t *, const int16_t *, size_t, size_t, uint16_t *);
+  least_found (*call)(const uint32_t *, const int16_t *, size_t, uint32_t, size_t, uint16_t *);
 } LEASTER[LEASTS] = {{"kovrelna_least", library_least}, {"least_c", least_c}};
 
 static least_found call_least(int x, size_t kind, size_t m) {
-  return LEASTER[x].call(few_ticks[kind], few_values[kind], FEW, m, lists[x]);
+  uint32_t gap = kind < COUNT(KINDS) ? KINDS[kind].gap : KOVRELNA_GAP_MAX;
+  return LEASTER[x].call(few_ticks[kind], few_values[kind], FEW, gap, m, lists[x]);
 }
 
-/* Milliseconds of each, their ratio, and the lists that the search found by minimum. */
+/* Milliseconds of each, their ratio, and the lists that the search found by minimum: none where
+ * every list that obeys the gap limit has more samples than the allowance. */
 typedef struct least_row {
   double times[LEASTS], ratio;
   unsigned runs;
@@ -497,7 +535,7 @@ static spread spread_of(double *list, size_t count) {
 
 static void print_least(void) {
   double times[LEASTS][COUNT(ALLOWANCES)], ratios[COUNT(ALLOWANCES)], runs[COUNT(ALLOWANCES)];
-  size_t kind, m;
+  size_t kind, m, count;
   int x;
   printf("\nleast, %d samples, allowances 2 to %d: median and worst of them. Milliseconds a call;\n"
          "runs: the lists that the search finds by minimum.\n"
@@ -505,15 +543,16 @@ static void print_least(void) {
          FEW, FEW);
   for (kind = 0; kind < COUNT(FEW_KINDS); kind++) {
     spread s[4];
-    for (m = 0; m < COUNT(ALLOWANCES); m++) {
+    for (m = 0, count = 0; m < COUNT(ALLOWANCES); m++) {
       least_row row = measure_least(kind, ALLOWANCES[m]);
-      for (x = 0; x < LEASTS; x++) times[x][m] = row.times[x];
-      ratios[m] = row.ratio;
-      runs[m] = row.runs;
+      if (row.runs == 0) continue;
+      for (x = 0; x < LEASTS; x++) times[x][count] = row.times[x];
+      ratios[count] = row.ratio;
+      runs[count++] = row.runs;
     }
-    for (x = 0; x < LEASTS; x++) s[x] = spread_of(times[x], COUNT(ALLOWANCES));
-    s[2] = spread_of(ratios, COUNT(ALLOWANCES));
-    s[3] = spread_of(runs, COUNT(ALLOWANCES));
+    for (x = 0; x < LEASTS; x++) s[x] = spread_of(times[x], count);
+    s[2] = spread_of(ratios, count);
+    s[3] = spread_of(runs, count);
     printf("%-8s %8.2f %7.2f %7.2f %7.2f %7.2f %7.2f %7.0f %7.0f\n", FEW_KINDS[kind],
            s[0].typical, s[0].worst, s[1].typical, s[1].worst, s[2].typical, s[2].worst,
            s[3].typical, s[3].worst);
@@ -542,15 +581,19 @@ static crate_totals totals[2];
 static uint16_t moved[2][CHANNELS], noisy[2][CHANNELS];
 static compared comparisons[2];
 
+/* The gap limit of the traces. */
+static uint32_t crate_gap;
+
 /* So many samples a channel of the trace, from another sample on in each; in the run before, their
  * values divided by 1, 2, 3 or 4. */
 static void make_crates(size_t kind, size_t samples) {
   size_t channel, k, at = 0;
+  crate_gap = KINDS[kind].gap;
   for (channel = 0; channel < CHANNELS; channel++) {
     today.lengths[channel] = before.lengths[channel] = samples;
     for (k = 0; k < samples; k++, at++) {
       int value = values[kind][(k + 61 * channel) % SAMPLES];
-      today.ticks[at] = before.ticks[at] = ticks[k];
+      today.ticks[at] = before.ticks[at] = ticks[kind][k];
       today.values[at] = (int16_t)value;
       before.values[at] = (int16_t)(value / (int)(1 + channel % 4));
     }
@@ -560,7 +603,7 @@ static void make_crates(size_t kind, size_t samples) {
 static void library_report(size_t n, const int64_t *tolerance) {
   kovrelna_totals found = kovrelna_report(
       today.ticks, n, today.values, n, today.lengths, CHANNELS,
-      kovrelna_ratio((uint64_t)tolerance[0], (uint64_t)tolerance[1]), crate_rows, CHANNELS);
+      limits_of(tolerance[0], tolerance[1], crate_gap), crate_rows, CHANNELS);
   totals[0].samples = (size_t)found.samples;
   totals[0].kept = (size_t)found.kept;
   totals[0].p = (int64_t)found.p;
@@ -569,7 +612,7 @@ static void library_report(size_t n, const int64_t *tolerance) {
 
 static void plain_report(size_t n, const int64_t *tolerance) {
   totals[1] = report_c(today.ticks, today.values, n, today.lengths, CHANNELS, tolerance[0],
-                       tolerance[1], crate_rows_c, CHANNELS);
+                       tolerance[1], crate_gap, crate_rows_c, CHANNELS);
 }
 
 static void library_pedestals(size_t n, const int64_t *tolerance) {
@@ -647,7 +690,7 @@ static crate_row measure_crates(int x, size_t kind, size_t samples, const int64_
 
 static void print_report(size_t kind, size_t samples, const int64_t *tolerance) {
   crate_row row = measure_crates(REPORT, kind, samples, tolerance);
-  printf("%-8s %7zu %9.2f %7zu %9.2f %7.2f %7.2f\n", KINDS[kind], samples,
+  printf("%-8s %7zu %9.2f %7zu %9.2f %7.2f %7.2f\n", KINDS[kind].name, samples,
          (double)tolerance[0] / (double)tolerance[1], totals[0].kept, row.times[0], row.times[1],
          row.ratio);
 }
@@ -659,7 +702,7 @@ static void print_reports(void) {
          CHANNELS, SAMPLES);
   for (kind = 0; kind < COUNT(KINDS); kind++)
     for (t = 0; t < COUNT(TOLERANCES); t++) print_report(kind, SAMPLES, TOLERANCES[t]);
-  print_report(0, SMALL, TOLERANCES[1]);
+  print_report(PULSE, SMALL, TOLERANCES[1]);
 }
 
 /* Samples a channel of the runs that are compared. */
@@ -675,8 +718,8 @@ static void print_pedestals(void) {
   for (kind = 0; kind < 2; kind++) {
     for (s = 0; s < COUNT(RUNS); s++) {
       crate_row row = measure_crates(PEDESTALS, kind, RUNS[s], TOLERANCES[1]);
-      printf("%-8s %7zu %7zu %7zu %9.2f %7.2f %7.2f\n", KINDS[kind], RUNS[s], comparisons[0].moved,
-             comparisons[0].noisy, row.times[0], row.times[1], row.ratio);
+      printf("%-8s %7zu %7zu %7zu %9.2f %7.2f %7.2f\n", KINDS[kind].name, RUNS[s],
+             comparisons[0].moved, comparisons[0].noisy, row.times[0], row.times[1], row.ratio);
     }
   }
 }
@@ -689,8 +732,10 @@ static void print_times(void) {
   printf("Traces of %d samples. Times are nanoseconds a sample, for minimum milliseconds a call:\n"
          "medians of %d repetitions in turn, for minimum %d. Ratios are of the same repetition.\n"
          "Times are of the processor, and depend on the machine.\n"
+         "dropout: the pulse trace with holes of %d ticks, under the gap limit %lu.\n"
          "C: %s (%s)\n",
-         SAMPLES, REPETITIONS, SLOW_REPETITIONS, FLAGS, __VERSION__);
+         SAMPLES, REPETITIONS, SLOW_REPETITIONS, HOLE, (unsigned long)KINDS[DROPOUT].gap, FLAGS,
+         __VERSION__);
   printf("\nwalk     tolerance    kept  kovrelna       C   ratio\n");
   for (r = rows; r < end; r++)
     printf("%-8s %9.2f %7zu %9.2f %7.2f %7.2f\n", r->kind, r->tolerance, r->answers[WALK].kept,
@@ -734,7 +779,7 @@ static void print_kept(void) {
         answers[peer] = call(peer, kind, whole);
         same(answers, x, peer);
       }
-      printf("%-8s %9.2f %7zu %7zu %8zu %16zu\n", KINDS[kind],
+      printf("%-8s %9.2f %7zu %7zu %8zu %16zu\n", KINDS[kind].name,
              (double)whole[0] / (double)whole[1], answers[WALK].kept, answers[GALLOP].kept,
              answers[MINIMUM].kept, call(MINIMUM, kind, half).kept);
     }
@@ -756,7 +801,8 @@ static void print_shortest(void) {
   for (repetition = 0; repetition < REPETITIONS; repetition++) {
     for (x = WALK; x <= WALK_C; x++) {
       double start = now();
-      for (k = 0; k < MANY; k++) REDUCER[x].call(ticks, values[0], 2, 15, 2, lists[x]);
+      for (k = 0; k < MANY; k++)
+        REDUCER[x].call(ticks[PULSE], values[PULSE], 2, 15, 2, KINDS[PULSE].gap, lists[x]);
       times[x][repetition] = 1e-3 * (now() - start) / MANY;
     }
   }
@@ -802,12 +848,13 @@ int main(int argc, char **argv) {
   size_t kind, t;
   int x;
   make_traces();
+  make_dropout();
   make_few();
   if ((argc == 4 || argc == 5) && strcmp(argv[1], "once") == 0) {
     static kept_record record;
     size_t samples = argc == 5 ? (size_t)atoi(argv[4]) : SAMPLES;
     for (kind = 0; kind < COUNT(KINDS); kind++) {
-      if (strcmp(argv[2], KINDS[kind]) != 0) continue;
+      if (strcmp(argv[2], KINDS[kind].name) != 0) continue;
       for (x = 0; x < REDUCERS; x++)
         if (strcmp(argv[3], REDUCER[x].name) == 0) call(x, kind, TOLERANCES[1]);
       for (x = 0; x < RECORDERS; x++) {
@@ -826,7 +873,7 @@ int main(int argc, char **argv) {
   }
   if (strcmp(what, "kept") == 0) return print_kept(), 0;
   if (strcmp(what, "summary") == 0) return print_summary(), 0;
-  if (strcmp(what, "trace") == 0) return print_trace(ticks, values[0], SAMPLES), 0;
+  if (strcmp(what, "trace") == 0) return print_trace(ticks[PULSE], values[PULSE], SAMPLES), 0;
   if (strcmp(what, "part") == 0) return print_trace(few_ticks[0], few_values[0], FEW), 0;
   for (kind = 0; kind < COUNT(KINDS); kind++)
     for (t = 0; t < COUNT(TOLERANCES); t++)

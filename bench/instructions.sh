@@ -5,7 +5,7 @@ if ! command -v valgrind >/dev/null; then
   echo "No instruction counts: they need valgrind."
   exit 0
 fi
-kinds="pulse noise ramp zigzag spike"
+kinds="pulse noise ramp zigzag spike dropout"
 
 # table SAMPLES CALL..: calls of so many samples in all; where `each` is set, so many a channel.
 table() {

@@ -4,6 +4,9 @@
 
 enum { SAMPLES = 4096, SPAN = 1048575, CHANNELS = 64, CODES = 256, FACTOR = 16 };
 
+/* Samples that are searched for a hole at once, by vector instructions. */
+enum { BLOCK = 64 };
+
 static int is_trace(const uint32_t *ticks, size_t n) {
   unsigned stuck = 0;
   size_t k;
@@ -11,6 +14,26 @@ static int is_trace(const uint32_t *ticks, size_t n) {
   for (k = 1; k < n; k++) stuck |= ticks[k] <= ticks[k - 1];
   return !stuck && ticks[n - 1] - ticks[0] <= SPAN;
 }
+
+/* Whether a hole follows a sample from a on and before b. */
+static int some_hole(const uint32_t *ticks, size_t a, size_t b, uint32_t gap) {
+  unsigned far = 0;
+  size_t k;
+  for (k = a; k < b; k++) far |= ticks[k + 1] - ticks[k] > gap;
+  return far != 0;
+}
+
+/* The first sample from a on and before b that a hole follows, b if there is none. */
+static size_t first_hole(const uint32_t *ticks, size_t a, size_t b, uint32_t gap) {
+  if (gap >= SPAN) return b;
+  while (a + BLOCK <= b && !some_hole(ticks, a, a + BLOCK, gap)) a += BLOCK;
+  while (a < b && ticks[a + 1] - ticks[a] <= gap) a++;
+  return a;
+}
+
+/* The sample after the last to which links from sample i obey the gap limit, where e is the first
+ * from i on that a hole follows, or the last. */
+static size_t past_links(size_t i, size_t e) { return (e == i ? i + 1 : e) + 1; }
 
 /* The slopes, as rise times q over run, of the lines from a start that pass every sample taken in
  * within p/q: from low to high. A rise is below 2^38 and a run below 2^20. */
@@ -43,23 +66,26 @@ static cone narrowed(cone c, int64_t rise, int64_t run, int64_t p, int64_t over,
 }
 
 reduced walk_c(const uint32_t *ticks, const int16_t *values, size_t n, int64_t p, int64_t q,
-               uint16_t *out) {
+               uint32_t gap, uint16_t *out) {
   reduced answer = {0, 0};
   size_t i = 0;
   if (!is_trace(ticks, n)) return answer;
   out[answer.kept++] = 0;
   while (i < n - 1) {
-    size_t k = i + 1;
-    int64_t tick = ticks[i], value = values[i];
-    cone c = around(q * (values[k] - value), ticks[k] - tick, p);
-    while (++k < n) {
-      int64_t run = ticks[k] - tick, rise = q * (values[k] - value);
-      int64_t over = above(c, rise, run), under = below(c, rise, run);
-      if ((over > 0) | (under > 0)) break;
-      c = narrowed(c, rise, run, p, over, under);
+    size_t past = past_links(i, first_hole(ticks, i, n - 1, gap));
+    while (i < past - 1) {
+      size_t k = i + 1;
+      int64_t tick = ticks[i], value = values[i];
+      cone c = around(q * (values[k] - value), ticks[k] - tick, p);
+      while (++k < past) {
+        int64_t run = ticks[k] - tick, rise = q * (values[k] - value);
+        int64_t over = above(c, rise, run), under = below(c, rise, run);
+        if ((over > 0) | (under > 0)) break;
+        c = narrowed(c, rise, run, p, over, under);
+      }
+      i = k - 1;
+      out[answer.kept++] = (uint16_t)i;
     }
-    i = k - 1;
-    out[answer.kept++] = (uint16_t)i;
   }
   return answer;
 }
@@ -86,46 +112,51 @@ static int extend(cone *c, const uint32_t *ticks, const int16_t *values, size_t 
 }
 
 reduced gallop_c(const uint32_t *ticks, const int16_t *values, size_t n, int64_t p, int64_t q,
-                 uint16_t *out) {
+                 uint32_t gap, uint16_t *out) {
   reduced answer = {0, 0};
   size_t i = 0;
   if (!is_trace(ticks, n)) return answer;
   out[answer.kept++] = 0;
   while (i < n - 1) {
-    size_t low = 1, high = 2;
-    int64_t run = ticks[i + 1] - (int64_t)ticks[i], rise = q * (values[i + 1] - values[i]);
-    cone c = around(rise, run, p);
-    for (;;) {
-      cone wider = c;
-      answer.probes++;
-      if (i + high >= n || !extend(&wider, ticks, values, i, i + low + 1, i + high, p, q)) break;
-      c = wider;
-      low = high;
-      high *= 2;
-    }
-    while (low < high - 1) {
-      size_t middle = (low + high) / 2;
-      cone wider = c;
-      answer.probes++;
-      if (i + middle < n && extend(&wider, ticks, values, i, i + low + 1, i + middle, p, q)) {
+    size_t past = past_links(i, first_hole(ticks, i, n - 1, gap));
+    while (i < past - 1) {
+      size_t low = 1, high = 2;
+      int64_t run = ticks[i + 1] - (int64_t)ticks[i], rise = q * (values[i + 1] - values[i]);
+      cone c = around(rise, run, p);
+      for (;;) {
+        cone wider = c;
+        answer.probes++;
+        if (i + high >= past || !extend(&wider, ticks, values, i, i + low + 1, i + high, p, q))
+          break;
         c = wider;
-        low = middle;
-      } else {
-        high = middle;
+        low = high;
+        high *= 2;
       }
+      while (low < high - 1) {
+        size_t middle = (low + high) / 2;
+        cone wider = c;
+        answer.probes++;
+        if (i + middle < past && extend(&wider, ticks, values, i, i + low + 1, i + middle, p, q)) {
+          c = wider;
+          low = middle;
+        } else {
+          high = middle;
+        }
+      }
+      i += low;
+      out[answer.kept++] = (uint16_t)i;
     }
-    i += low;
-    out[answer.kept++] = (uint16_t)i;
   }
   return answer;
 }
 
 static inline reduced minimum_by_table(const uint32_t *ticks, const int16_t *values, size_t n,
-                                       int64_t p, int64_t q, uint16_t *out, int stop) {
+                                       int64_t p, int64_t q, uint32_t gap, uint16_t *out,
+                                       int stop) {
   reduced answer = {0, 0};
   /* The links of the shortest list from each sample to the last, and the latest next sample. */
   uint16_t links[SAMPLES], next[SAMPLES];
-  size_t i, k;
+  size_t i, k, past = n;
   if (!is_trace(ticks, n)) return answer;
   links[n - 1] = 0;
   for (i = n - 1; i-- > 0;) {
@@ -133,7 +164,9 @@ static inline reduced minimum_by_table(const uint32_t *ticks, const int16_t *val
     cone c = around(q * (values[i + 1] - value), ticks[i + 1] - tick, p);
     size_t best = i + 1;
     unsigned fewest = links[best];
-    for (k = i + 2; k < n; k++) {
+    /* Only the link of one step crosses a hole after sample i. */
+    if (ticks[i + 1] - ticks[i] > gap) past = i + 1;
+    for (k = i + 2; k < past; k++) {
       int64_t run = ticks[k] - tick, rise = q * (values[k] - value);
       int64_t over = above(c, rise, run), under = below(c, rise, run);
       if ((over <= 0) & (under <= 0)) {
@@ -155,26 +188,22 @@ static inline reduced minimum_by_table(const uint32_t *ticks, const int16_t *val
 }
 
 reduced minimum_c(const uint32_t *ticks, const int16_t *values, size_t n, int64_t p, int64_t q,
-                  uint16_t *out) {
-  return minimum_by_table(ticks, values, n, p, q, out, 1);
+                  uint32_t gap, uint16_t *out) {
+  return minimum_by_table(ticks, values, n, p, q, gap, out, 1);
 }
 
 reduced minimum_c_nostop(const uint32_t *ticks, const int16_t *values, size_t n, int64_t p,
-                         int64_t q, uint16_t *out) {
-  return minimum_by_table(ticks, values, n, p, q, out, 0);
+                         int64_t q, uint32_t gap, uint16_t *out) {
+  return minimum_by_table(ticks, values, n, p, q, gap, out, 0);
 }
 
-reduced douglas_peucker_c(const uint32_t *ticks, const int16_t *values, size_t n, int64_t p,
-                          int64_t q, uint16_t *out) {
-  reduced answer = {0, 0};
-  unsigned char keep[SAMPLES];
+/* Marks the samples that Douglas-Peucker keeps of those after i and up to `end`. */
+static void divide(const uint32_t *ticks, const int16_t *values, size_t i, size_t end, int64_t p,
+                   int64_t q, unsigned char *keep) {
   /* The ends of the links that remain, from the last back. */
   uint16_t ends[SAMPLES];
-  size_t open = 0, i = 0, k;
-  if (!is_trace(ticks, n)) return answer;
-  memset(keep, 0, n);
-  keep[0] = 1;
-  if (n > 1) ends[open++] = (uint16_t)(n - 1);
+  size_t open = 0, k;
+  if (end > i) ends[open++] = (uint16_t)end;
   while (open > 0) {
     size_t j = ends[open - 1], farthest = i;
     int64_t run = ticks[j] - (int64_t)ticks[i], change = values[j] - values[i], greatest = 0;
@@ -193,6 +222,20 @@ reduced douglas_peucker_c(const uint32_t *ticks, const int16_t *values, size_t n
       i = j;
       open--;
     }
+  }
+}
+
+reduced douglas_peucker_c(const uint32_t *ticks, const int16_t *values, size_t n, int64_t p,
+                          int64_t q, uint32_t gap, uint16_t *out) {
+  reduced answer = {0, 0};
+  unsigned char keep[SAMPLES];
+  size_t i, end, k;
+  if (!is_trace(ticks, n)) return answer;
+  memset(keep, 0, n);
+  for (i = 0; i < n; i = end + 1) {
+    end = first_hole(ticks, i, n - 1, gap);
+    keep[i] = 1;
+    divide(ticks, values, i, end, p, q, keep);
   }
   for (k = 0; k < n; k++)
     if (keep[k]) out[answer.kept++] = (uint16_t)k;
@@ -283,11 +326,11 @@ static unsigned refused_as(const uint32_t *ticks, size_t n) {
 }
 
 static channel_row row_of(const uint32_t *ticks, const int16_t *values, size_t n, int64_t p,
-                          int64_t q) {
+                          int64_t q, uint32_t gap) {
   uint16_t list[SAMPLES];
   channel_row row = {0, 0, 0, 1, 0};
   fraction error;
-  row.kept = walk_c(ticks, values, n, p, q, list).kept;
+  row.kept = walk_c(ticks, values, n, p, q, gap, list).kept;
   if (row.kept == 0) {
     row.number = refused_as(ticks, n);
     return row;
@@ -311,14 +354,15 @@ static int is_crate(const size_t *lengths, size_t channels, size_t n) {
 }
 
 crate_totals report_c(const uint32_t *ticks, const int16_t *values, size_t n, const size_t *lengths,
-                      size_t channels, int64_t p, int64_t q, channel_row *rows, size_t room) {
+                      size_t channels, int64_t p, int64_t q, uint32_t gap, channel_row *rows,
+                      size_t room) {
   crate_totals totals = {0, 0, 0, 0};
   fraction worst = {0, 1};
   size_t k, at = 0;
   if (!is_crate(lengths, channels, n) || room < channels) return totals;
   for (k = 0; k < channels; k++) {
     fraction error;
-    rows[k] = row_of(ticks + at, values + at, lengths[k], p, q);
+    rows[k] = row_of(ticks + at, values + at, lengths[k], p, q, gap);
     at += lengths[k];
     totals.samples += rows[k].samples;
     totals.kept += rows[k].kept;
@@ -394,18 +438,21 @@ compared pedestals_c(const crate_run *today, const crate_run *before, int64_t p,
   return answer;
 }
 
-/* A trace with the allowance, the list tried last, and the number of lists tried. */
+/* A trace with the gap limit and the allowance, the list tried last, and the number of lists
+ * tried. */
 typedef struct search {
   const uint32_t *ticks;
   const int16_t *values;
-  size_t n, m;
+  size_t n;
+  uint32_t gap;
+  size_t m;
   uint16_t *out;
   unsigned runs;
 } search;
 
 /* Whether the minimum's list at x has at most m samples; x is then its error. */
 static int fits(search *s, fraction *x) {
-  size_t kept = minimum_c(s->ticks, s->values, s->n, x->p, x->q, s->out).kept;
+  size_t kept = minimum_c(s->ticks, s->values, s->n, x->p, x->q, s->gap, s->out).kept;
   s->runs++;
   if (kept > s->m) return 0;
   *x = list_error(s->ticks, s->values, s->out, kept);
@@ -430,17 +477,29 @@ static int is_narrow(fraction low, fraction high) {
   return 64 * high.p * low.q <= 64 * low.p * high.q + low.q * high.q;
 }
 
-least_found least_c(const uint32_t *ticks, const int16_t *values, size_t n, size_t m,
+/* Writes the shortest list that obeys the gap limit, and returns its kept number. */
+static size_t obeying(const uint32_t *ticks, size_t n, uint32_t gap, uint16_t *list) {
+  size_t kept = 0, i = 0;
+  list[kept++] = 0;
+  while (i < n - 1) {
+    i = past_links(i, first_hole(ticks, i, n - 1, gap)) - 1;
+    list[kept++] = (uint16_t)i;
+  }
+  return kept;
+}
+
+least_found least_c(const uint32_t *ticks, const int16_t *values, size_t n, uint32_t gap, size_t m,
                     uint16_t *out) {
-  search s = {ticks, values, n, m, out, 0};
+  search s = {ticks, values, n, gap, m, out, 0};
   fraction low = {0, 1}, high = {0, 1};
   least_found found = {0, 0, 0, 0};
+  uint16_t shortest[256];
+  size_t fewest;
   int turn;
   if (n > 256 || !is_trace(ticks, n)) return found;
-  if (!fits(&s, &high)) {
-    high = link_error(ticks, values, 0, n - 1);
-    high = lowest(high.p, high.q);
-  }
+  fewest = obeying(ticks, n, gap, shortest);
+  if (fewest > m) return found;
+  if (!fits(&s, &high)) high = list_error(ticks, values, shortest, fewest);
   for (turn = 0; turn < 44 && !is_narrow(low, high); turn++) halve(&s, &low, &high);
   while (high.p > 0) {
     fraction x, right;
@@ -449,7 +508,7 @@ least_found least_c(const uint32_t *ticks, const int16_t *values, size_t n, size
     high = x;
     halve(&s, &low, &high);
   }
-  found.kept = minimum_c(ticks, values, n, high.p, high.q, out).kept;
+  found.kept = minimum_c(ticks, values, n, high.p, high.q, gap, out).kept;
   found.p = high.p;
   found.q = high.q;
   found.runs = s.runs + 1;
@@ -464,10 +523,12 @@ static int is_list(const uint16_t *list, size_t kept, size_t n) {
   return 1;
 }
 
+/* For a link of more than one step: one of one step is always valid. */
 static int is_valid(const uint32_t *ticks, const int16_t *values, size_t i, size_t j, int64_t p,
-                    int64_t q) {
+                    int64_t q, uint32_t gap) {
   int64_t run = ticks[j] - (int64_t)ticks[i], change = values[j] - values[i];
   size_t k;
+  if (first_hole(ticks, i, j, gap) < j) return 0;
   for (k = i + 1; k < j; k++) {
     int64_t distance = (values[k] - values[i]) * run - change * (ticks[k] - (int64_t)ticks[i]);
     if (q * distance > p * run || q * distance < -p * run) return 0;
@@ -476,11 +537,13 @@ static int is_valid(const uint32_t *ticks, const int16_t *values, size_t i, size
 }
 
 int judge_c(const uint32_t *ticks, const int16_t *values, size_t n, const uint16_t *list,
-            size_t kept, int64_t p, int64_t q) {
+            size_t kept, int64_t p, int64_t q, uint32_t gap) {
   size_t k;
   if (!is_trace(ticks, n) || !is_list(list, kept, n)) return 0;
-  for (k = 1; k < kept; k++)
-    if (!is_valid(ticks, values, list[k - 1], list[k], p, q)) return 0;
+  for (k = 1; k < kept; k++) {
+    size_t i = list[k - 1], j = list[k];
+    if (j > i + 1 && !is_valid(ticks, values, i, j, p, q, gap)) return 0;
+  }
   return 1;
 }
 
@@ -550,13 +613,13 @@ static uint64_t get(const uint8_t *at, int bytes) {
 }
 
 size_t write_c(const uint32_t *ticks, const int16_t *values, size_t n, const uint16_t *list,
-               size_t kept, int64_t p, int64_t q, uint8_t *buffer, size_t size) {
+               size_t kept, int64_t p, int64_t q, uint32_t gap, uint8_t *buffer, size_t size) {
   size_t length = TOLERANCE + FIRST + END, k;
   uint8_t *at = buffer;
   if (!is_trace(ticks, n) || !is_list(list, kept, n)) return 0;
   for (k = 1; k < kept; k++) {
     size_t i = list[k - 1], j = list[k];
-    if (!is_valid(ticks, values, i, j, p, q)) return 0;
+    if (j > i + 1 && !is_valid(ticks, values, i, j, p, q, gap)) return 0;
     length += is_short(ticks[j] - (int64_t)ticks[i], values[j] - values[i]) ? SHORT : LONG;
   }
   if (size < length) return 0;

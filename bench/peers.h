@@ -1,6 +1,7 @@
 /* The library's calls in plain C, to compare with. A peer that takes a trace checks it as the
- * library does, and takes an allowed tolerance p/q in lowest terms. A reduction takes an output of
- * n entries and writes the kept list. */
+ * library does, and takes an allowed tolerance p/q in lowest terms and an allowed gap limit. A
+ * reduction takes an output of n entries and writes the kept list; it looks for the next hole once
+ * in each run of samples between holes. */
 #ifndef PEERS_H
 #define PEERS_H
 
@@ -15,28 +16,28 @@ typedef struct reduced {
 
 /* Walk, with the two edges of its cone. */
 reduced walk_c(const uint32_t *ticks, const int16_t *values, size_t n, int64_t p, int64_t q,
-               uint16_t *out);
+               uint32_t gap, uint16_t *out);
 
 /* Gallop; a probe goes on with the cone of the last valid link. */
 reduced gallop_c(const uint32_t *ticks, const int16_t *values, size_t n, int64_t p, int64_t q,
-                 uint16_t *out);
+                 uint32_t gap, uint16_t *out);
 
 /* Minimum: a table from the last sample back. From each sample one cone takes in the later ones in
- * turn and tests the link to each; it stops where no line is left. */
+ * turn and tests the link to each; it stops where no line is left, and before a hole. */
 reduced minimum_c(const uint32_t *ticks, const int16_t *values, size_t n, int64_t p, int64_t q,
-                  uint16_t *out);
+                  uint32_t gap, uint16_t *out);
 
-/* The same without the stop. */
+/* The same without the stop where no line is left. */
 reduced minimum_c_nostop(const uint32_t *ticks, const int16_t *values, size_t n, int64_t p,
-                         int64_t q, uint16_t *out);
+                         int64_t q, uint32_t gap, uint16_t *out);
 
-/* Douglas-Peucker with vertical distance: both ends, then the farthest sample of every link that is
- * not valid. */
+/* Douglas-Peucker with vertical distance: both ends of each run, then the farthest sample of every
+ * link that is not valid. */
 reduced douglas_peucker_c(const uint32_t *ticks, const int16_t *values, size_t n, int64_t p,
-                          int64_t q, uint16_t *out);
+                          int64_t q, uint32_t gap, uint16_t *out);
 
-/* The kept number, 0 if the trace is refused, the least error in lowest terms, and how many lists
- * the search for it found by minimum. */
+/* The kept number, 0 if the trace or the allowance is refused, the least error in lowest terms, and
+ * how many lists the search for it found by minimum. */
 typedef struct least_found {
   size_t kept;
   int64_t p, q;
@@ -46,7 +47,7 @@ typedef struct least_found {
 /* Least, for up to 256 samples and an allowance m of 2 or more: halves an interval of tolerances,
  * each a fraction of a denominator up to 1,048,575 and tried by its minimum's list, then goes down
  * to an error such that no list fits at the greatest such fraction below it. */
-least_found least_c(const uint32_t *ticks, const int16_t *values, size_t n, size_t m,
+least_found least_c(const uint32_t *ticks, const int16_t *values, size_t n, uint32_t gap, size_t m,
                     uint16_t *out);
 
 /* A row of a report: the samples of a channel, walk's kept number and the error p/q of its list in
@@ -67,7 +68,8 @@ typedef struct crate_totals {
 /* Reports on the channels whose traces of n samples come end to end: walk and the error of its list
  * for each. Writes a row for each into the first of so many rows. */
 crate_totals report_c(const uint32_t *ticks, const int16_t *values, size_t n, const size_t *lengths,
-                      size_t channels, int64_t p, int64_t q, channel_row *rows, size_t room);
+                      size_t channels, int64_t p, int64_t q, uint32_t gap, channel_row *rows,
+                      size_t room);
 
 /* A run of a crate: channels whose traces of n samples come end to end. */
 typedef struct crate_run {
@@ -93,7 +95,7 @@ compared pedestals_c(const crate_run *today, const crate_run *before, int64_t p,
 
 /* Whether the list is a kept list of the trace and each link is valid. */
 int judge_c(const uint32_t *ticks, const int16_t *values, size_t n, const uint16_t *list,
-            size_t kept, int64_t p, int64_t q);
+            size_t kept, int64_t p, int64_t q, uint32_t gap);
 
 /* Expands range codes: each value is worked out from its code, as the library does it, or looked up
  * in a table, which the first call fills. Returns their number, 0 if there is none, there are too many
@@ -115,7 +117,7 @@ expanded expand_with_c(const uint8_t *codes, size_t n, const int16_t *table, siz
 /* Writes the record of the kept list. Returns its length, 0 if the trace, the list or a link is
  * refused or the buffer has no room. */
 size_t write_c(const uint32_t *ticks, const int16_t *values, size_t n, const uint16_t *list,
-               size_t kept, int64_t p, int64_t q, uint8_t *buffer, size_t size);
+               size_t kept, int64_t p, int64_t q, uint32_t gap, uint8_t *buffer, size_t size);
 
 /* Checks the record, then reads its samples. Returns their number, 0 if the record is faulty or an
  * output has no room. */

@@ -14,7 +14,7 @@ static int refused(const char *call, uint32_t number, uint64_t value) {
 int main(void) {
   const uint32_t ticks[SAMPLES] = {0, 1, 2, 3, 4, 5, 6, 7, 8, 10, 12, 16, 20, 24};
   const int16_t values[SAMPLES] = {-1, 0, 1, 0, 40, 81, 119, 160, 131, 80, 50, 20, 9, 4};
-  const kovrelna_tolerance tolerance = kovrelna_counts(2.5);
+  const kovrelna_limits limits = kovrelna_limited(kovrelna_counts(2.5), KOVRELNA_GAP_MAX);
   uint16_t kept[SAMPLES];
   uint8_t record[KOVRELNA_RECORD_BYTES(SAMPLES)];
   uint32_t read_ticks[SAMPLES];
@@ -23,13 +23,13 @@ int main(void) {
   kovrelna_content content;
   uint64_t k;
 
-  walked = kovrelna_walk(ticks, SAMPLES, values, SAMPLES, tolerance, kept, SAMPLES);
+  walked = kovrelna_walk(ticks, SAMPLES, values, SAMPLES, limits, kept, SAMPLES);
   if (walked.number != 0) return refused("walk", walked.number, walked.value);
   printf("kept %llu of %d samples:", (unsigned long long)walked.value, SAMPLES);
   for (k = 0; k < walked.value; k++) printf(" %d", kept[k]);
   printf("\n");
 
-  written = kovrelna_write(ticks, SAMPLES, values, SAMPLES, kept, (size_t)walked.value, tolerance,
+  written = kovrelna_write(ticks, SAMPLES, values, SAMPLES, kept, (size_t)walked.value, limits,
                            record, sizeof(record), 0);
   if (written.number != 0) return refused("write", written.number, written.value);
   printf("record of %llu bytes:", (unsigned long long)written.value);

@@ -1,16 +1,20 @@
 /* Kovrelna: reduced traces. For C99, C++11 and later; link with libkovrelna.a or libkovrelna.so
  * (x86-64, System V ABI), as `pkg-config --cflags --libs kovrelna` says once they are installed.
  *
- * Contents, in order: version and limits; refusals; tolerances; lists; reductions; crates; range
- * codes; records.
+ * Contents, in order: version and bounds; refusals; tolerances; limits; lists; reductions; crates;
+ * range codes; records.
  *
  * A trace is two lists of equal length: ticks and values (ADC counts). It has 1 to 4,096 samples,
  * numbered from 0. Ticks rise strictly; the last minus the first is at most 1,048,575.
  *
  * A link goes from sample i to a later sample j. Its deviation at a sample k between them is the
  * vertical distance from value k to the straight line through samples i and j, an exact fraction.
- * The link's error is the greatest of these, 0 where nothing lies between. A link is valid if its
- * error is at most the tolerance; equality is valid.
+ * The link's error is the greatest of these, 0 where nothing lies between.
+ *
+ * A hole is two neighbouring samples that lie more ticks apart than the gap limit. A link obeys the
+ * gap limit if it goes one step, from sample i to i+1, or crosses no hole. It is valid if it obeys
+ * the gap limit and its error is at most the tolerance; equality is valid. So a link of one step is
+ * always valid, and a longer one never if it crosses a hole.
  *
  * A kept list begins with sample 0, rises strictly and ends with the last sample. Its links join
  * neighbouring entries and are counted from 0.
@@ -36,7 +40,7 @@
 extern "C" {
 #endif
 
-/* ---- Version and limits ---- */
+/* ---- Version and bounds ---- */
 
 #define KOVRELNA_VERSION_MAJOR 0
 #define KOVRELNA_VERSION_MINOR 1
@@ -48,6 +52,8 @@ extern "C" {
 #define KOVRELNA_LEAST_SAMPLES_MAX 256
 /* The most channels of a crate. */
 #define KOVRELNA_CHANNELS_MAX 64
+/* The largest gap limit, which is none: no two samples of a trace lie further apart. */
+#define KOVRELNA_GAP_MAX 1048575
 /* The most bytes of a record of so many samples, from 1 on, and of any record: 24,589. */
 #define KOVRELNA_RECORD_BYTES(samples) (13 + 6 * (samples))
 #define KOVRELNA_RECORD_MAX KOVRELNA_RECORD_BYTES(KOVRELNA_SAMPLES_MAX)
@@ -55,9 +61,10 @@ extern "C" {
 /* ---- Refusals ----
  *
  * Each answer has a number, 0 if the call succeeded, and a value. A call checks the rows that
- * concern it in rising number, only 14 and then 11 before all others and 12 right after 1, and
- * answers with the first that fits; in kovrelna_pedestals 1, 2, 3 and 13 come after 4, channel by
- * channel. A refused call leaves every list and buffer as it was.
+ * concern it in rising number, only 14 and then 11 before all others, 12 right after 1, 15 right
+ * after 4 (in kovrelna_least right after 3) and 16 right after 5, and answers with the first that
+ * fits; in kovrelna_pedestals 1, 2, 3 and 13 come after 4, channel by channel. A refused call leaves
+ * every list and buffer as it was.
  */
 enum kovrelna_refusal {
   /* No samples or codes, too many, or ticks and values differ in length. Value: 0; in
@@ -94,7 +101,11 @@ enum kovrelna_refusal {
   /* Two runs differ in a channel's number of samples. Value: the channel. */
   KOVRELNA_REFUSED_SAMPLES = 13,
   /* The noise factor is below 1 or above 16. Value: 0. */
-  KOVRELNA_REFUSED_FACTOR = 14
+  KOVRELNA_REFUSED_FACTOR = 14,
+  /* The gap limit is below 1 or above 1,048,575. Value: 0. */
+  KOVRELNA_REFUSED_GAP = 15,
+  /* Every kept list that obeys the gap limit has more samples than the allowance. Value: 0. */
+  KOVRELNA_REFUSED_HOLES = 16
 };
 
 /* The cause in words, for a message; "none" for a number that is no refusal's. */
@@ -129,6 +140,10 @@ static inline const char *kovrelna_cause(uint32_t number) {
     return "two runs differ in a channel's number of samples";
   case KOVRELNA_REFUSED_FACTOR:
     return "noise factor below 1 or above 16";
+  case KOVRELNA_REFUSED_GAP:
+    return "gap limit below 1 or above 1,048,575";
+  case KOVRELNA_REFUSED_HOLES:
+    return "every list that obeys the gap limit has more samples than the allowance";
   default:
     return "none";
   }
@@ -196,6 +211,21 @@ typedef struct kovrelna_held {
 /* The tolerance as the reduced ratio under which it is held. Refusal: 4. */
 kovrelna_held kovrelna_hold(kovrelna_tolerance tolerance);
 
+/* ---- Limits ---- */
+
+/* What a link is asked to meet: a tolerance, and a gap limit from 1 to 1,048,575 ticks. Exactly so
+ * many ticks apart is no hole. Other gap limits are refused as 15. */
+typedef struct kovrelna_limits {
+  kovrelna_tolerance tolerance;
+  uint32_t gap;
+} kovrelna_limits;
+
+/* A tolerance and a gap limit; KOVRELNA_GAP_MAX is none. */
+static inline kovrelna_limits kovrelna_limited(kovrelna_tolerance tolerance, uint32_t gap) {
+  kovrelna_limits limits = {tolerance, gap};
+  return limits;
+}
+
 /* ---- Lists ---- */
 
 /* number 0: passed is 1 for yes, 0 for no, and value is what the call says.
@@ -207,11 +237,11 @@ typedef struct kovrelna_verdict {
 } kovrelna_verdict;
 
 /* Whether every link of the proposed list is valid on this trace. The value with no is the position
- * of the first invalid link, with yes 0. Refusals: 1, 2, 3, 4, 6. */
+ * of the first invalid link, with yes 0. Refusals: 1, 2, 3, 4, 15, 6. */
 kovrelna_verdict kovrelna_judge(const uint32_t *ticks, size_t ticks_len,
                                 const int16_t *values, size_t values_len,
                                 const uint16_t *list, size_t list_len,
-                                kovrelna_tolerance tolerance);
+                                kovrelna_limits limits);
 
 /* ---- Reductions ----
  *
@@ -219,10 +249,11 @@ kovrelna_verdict kovrelna_judge(const uint32_t *ticks, size_t ticks_len,
  * of out are the kept list; the entries after them are as they were. The output needs as many
  * entries as the trace has samples, however many are kept; 10 returns that number.
  *
- * Walk, gallop and minimum find one with every link valid. Refusals: 1, 2, 3, 4, 10.
+ * Walk, gallop and minimum find one with every link valid. Refusals: 1, 2, 3, 4, 15, 10.
  *
  * The lists of walk and gallop have at most as many samples as any kept list whose links are all
- * valid at half the tolerance.
+ * valid at half the tolerance under the same gap limit. A list that does not obey the gap limit may
+ * have fewer.
  */
 
 /* An answer, with the probe total; probes is 0 with a refusal. */
@@ -236,7 +267,7 @@ typedef struct kovrelna_galloped {
  * first invalid one, or the last sample if none is invalid; goes on from there. */
 kovrelna_answer kovrelna_walk(const uint32_t *ticks, size_t ticks_len,
                               const int16_t *values, size_t values_len,
-                              kovrelna_tolerance tolerance,
+                              kovrelna_limits limits,
                               uint16_t *out, size_t out_len);
 
 /* From sample i, beginning with 0, probes the links to i+2, i+4, i+8, ... until one is invalid. Low
@@ -250,14 +281,14 @@ kovrelna_answer kovrelna_walk(const uint32_t *ticks, size_t ticks_len,
  * reached exactly where no stop advances by more than 2 samples. One sample takes no probe. */
 kovrelna_galloped kovrelna_gallop(const uint32_t *ticks, size_t ticks_len,
                                   const int16_t *values, size_t values_len,
-                                  kovrelna_tolerance tolerance,
+                                  kovrelna_limits limits,
                                   uint16_t *out, size_t out_len);
 
 /* The kept list of valid links with fewest samples. Of several, the one whose second sample is
  * latest, then its third, and so on. */
 kovrelna_answer kovrelna_minimum(const uint32_t *ticks, size_t ticks_len,
                                  const int16_t *values, size_t values_len,
-                                 kovrelna_tolerance tolerance,
+                                 kovrelna_limits limits,
                                  uint16_t *out, size_t out_len);
 
 /* number 0: value is the kept number and p/q is the list's error in lowest terms (zero is 0/1).
@@ -269,13 +300,17 @@ typedef struct kovrelna_closest {
   uint64_t q;
 } kovrelna_closest;
 
-/* The least error over the kept lists of at most `allowance` samples, with the list of
- * kovrelna_minimum at that error as the tolerance. No kept list of this trace of at most so many
- * samples has a lesser error. The trace has at most 256 samples. Refusals: 1 (also for more than 256
- * samples), 2, 3, 5, 10. */
+/* The least error over the kept lists of at most `allowance` samples that obey the gap limit, with
+ * the list of kovrelna_minimum at that error as the tolerance under the same gap limit. No kept list
+ * of this trace that obeys it and has at most so many samples has a lesser error. The trace has at
+ * most 256 samples.
+ *
+ * Refusals: 1 (also for more than 256 samples), 2, 3, 15, 5, 16, 10. The shortest kept list that
+ * obeys the gap limit has both ends of the trace and the two samples beside each hole; 16 is refused
+ * exactly if it has more than `allowance` samples. */
 kovrelna_closest kovrelna_least(const uint32_t *ticks, size_t ticks_len,
                                 const int16_t *values, size_t values_len,
-                                uint64_t allowance,
+                                uint32_t gap, uint64_t allowance,
                                 uint16_t *out, size_t out_len);
 
 /* ---- Crates ----
@@ -308,14 +343,14 @@ typedef struct kovrelna_totals {
 } kovrelna_totals;
 
 /* Reports on a crate: the first entries of out are the rows, one for each channel; the entries after
- * them are as they were. A row depends on its channel's trace and on the tolerance, on nothing else
- * in the crate. Refusals: 11, before all others; 4; 10 with the number of channels. A channel whose
+ * them are as they were. A row depends on its channel's trace and on the limits, on nothing else in
+ * the crate. Refusals: 11, before all others; 4; 15; 10 with the number of channels. A channel whose
  * trace is refused, such as one of no samples or of more than 4,096, has its number in its row, and
  * the call goes on. */
 kovrelna_totals kovrelna_report(const uint32_t *ticks, size_t ticks_len,
                                 const int16_t *values, size_t values_len,
                                 const size_t *lengths, size_t lengths_len,
-                                kovrelna_tolerance tolerance,
+                                kovrelna_limits limits,
                                 kovrelna_summary *out, size_t out_len);
 
 /* number 0: how many channels have moved and how many are noisy; value is 0.
@@ -395,12 +430,13 @@ kovrelna_answer kovrelna_expand_with(const uint8_t *codes, size_t codes_len,
 
 /* Writes the record of the listed samples and the tolerance into the buffer, from the byte at
  * `place` on. The value is the record's length; the bytes before and after the record are as they
- * were. Refusals: 1, 2, 3, 4, 6, 7, 10. 10 returns the record's length; from a place past the end of
- * the buffer there is no room. */
+ * were. The gap limit is asked of the links and is not part of the record. Refusals: 1, 2, 3, 4, 15,
+ * 6, 7, 10. 10 returns the record's length; from a place past the end of the buffer there is no
+ * room. */
 kovrelna_answer kovrelna_write(const uint32_t *ticks, size_t ticks_len,
                                const int16_t *values, size_t values_len,
                                const uint16_t *list, size_t list_len,
-                               kovrelna_tolerance tolerance,
+                               kovrelna_limits limits,
                                uint8_t *buffer, size_t buffer_len, size_t place);
 
 /* number 0: value is the number of samples and p/q is the record's tolerance.

@@ -203,73 +203,63 @@ static struct answer verdict(kovrelna_verdict from) {
 #define LENGTHS(k) (size_t *)(void *)lists[k].first, lists[k].len
 #define SUMMARIES(k) (kovrelna_summary *)(void *)lists[k].first, lists[k].len
 
-static struct answer call_judge(const struct list *lists, kovrelna_tolerance tolerance,
-                                size_t place) {
+static struct answer call_judge(const struct list *lists, kovrelna_limits limits, size_t place) {
   (void)place;
-  return verdict(kovrelna_judge(U32(0), I16(1), U16(2), tolerance));
+  return verdict(kovrelna_judge(U32(0), I16(1), U16(2), limits));
 }
 
-static struct answer call_walk(const struct list *lists, kovrelna_tolerance tolerance,
-                               size_t place) {
+static struct answer call_walk(const struct list *lists, kovrelna_limits limits, size_t place) {
   (void)place;
-  return plain(kovrelna_walk(U32(0), I16(1), tolerance, U16(2)));
+  return plain(kovrelna_walk(U32(0), I16(1), limits, U16(2)));
 }
 
-static struct answer call_gallop(const struct list *lists, kovrelna_tolerance tolerance,
-                                 size_t place) {
-  kovrelna_galloped from = kovrelna_gallop(U32(0), I16(1), tolerance, U16(2));
+static struct answer call_gallop(const struct list *lists, kovrelna_limits limits, size_t place) {
+  kovrelna_galloped from = kovrelna_gallop(U32(0), I16(1), limits, U16(2));
   struct answer answer = answered(from.number, from.value);
   answer.probes = from.probes;
   (void)place;
   return answer;
 }
 
-static struct answer call_minimum(const struct list *lists, kovrelna_tolerance tolerance,
-                                  size_t place) {
+static struct answer call_minimum(const struct list *lists, kovrelna_limits limits, size_t place) {
   (void)place;
-  return plain(kovrelna_minimum(U32(0), I16(1), tolerance, U16(2)));
+  return plain(kovrelna_minimum(U32(0), I16(1), limits, U16(2)));
 }
 
-static struct answer call_least(const struct list *lists, kovrelna_tolerance tolerance,
+static struct answer call_least(const struct list *lists, kovrelna_limits limits,
                                 size_t allowance) {
-  kovrelna_closest from = kovrelna_least(U32(0), I16(1), allowance, U16(2));
-  (void)tolerance;
+  kovrelna_closest from = kovrelna_least(U32(0), I16(1), limits.gap, allowance, U16(2));
   return with_ratio(from.number, from.value, from.p, from.q);
 }
 
-static struct answer call_expand(const struct list *lists, kovrelna_tolerance tolerance,
-                                 size_t place) {
-  (void)tolerance, (void)place;
+static struct answer call_expand(const struct list *lists, kovrelna_limits limits, size_t place) {
+  (void)limits, (void)place;
   return plain(kovrelna_expand(U8(0), I16(1)));
 }
 
-static struct answer call_expand_with(const struct list *lists, kovrelna_tolerance tolerance,
+static struct answer call_expand_with(const struct list *lists, kovrelna_limits limits,
                                       size_t place) {
-  (void)tolerance, (void)place;
+  (void)limits, (void)place;
   return plain(kovrelna_expand_with(U8(0), I16(1), I16(2)));
 }
 
-static struct answer call_write(const struct list *lists, kovrelna_tolerance tolerance,
-                                size_t place) {
-  return plain(kovrelna_write(U32(0), I16(1), U16(2), tolerance, U8(3), place));
+static struct answer call_write(const struct list *lists, kovrelna_limits limits, size_t place) {
+  return plain(kovrelna_write(U32(0), I16(1), U16(2), limits, U8(3), place));
 }
 
-static struct answer call_read(const struct list *lists, kovrelna_tolerance tolerance,
-                               size_t place) {
+static struct answer call_read(const struct list *lists, kovrelna_limits limits, size_t place) {
   kovrelna_content from = kovrelna_read(U8(0), U32(1), I16(2));
-  (void)tolerance, (void)place;
+  (void)limits, (void)place;
   return with_ratio(from.number, from.value, from.p, from.q);
 }
 
-static struct answer call_same(const struct list *lists, kovrelna_tolerance tolerance,
-                               size_t place) {
-  (void)tolerance, (void)place;
+static struct answer call_same(const struct list *lists, kovrelna_limits limits, size_t place) {
+  (void)limits, (void)place;
   return verdict(kovrelna_same(U8(0), U8(1)));
 }
 
-static struct answer call_report(const struct list *lists, kovrelna_tolerance tolerance,
-                                 size_t place) {
-  kovrelna_totals from = kovrelna_report(U32(0), I16(1), LENGTHS(2), tolerance, SUMMARIES(3));
+static struct answer call_report(const struct list *lists, kovrelna_limits limits, size_t place) {
+  kovrelna_totals from = kovrelna_report(U32(0), I16(1), LENGTHS(2), limits, SUMMARIES(3));
   struct answer answer = with_ratio(from.number, from.value, from.p, from.q);
   answer.samples = from.samples;
   answer.kept = from.kept;
@@ -277,10 +267,11 @@ static struct answer call_report(const struct list *lists, kovrelna_tolerance to
   return answer;
 }
 
-static struct answer call_pedestals(const struct list *lists, kovrelna_tolerance tolerance,
+static struct answer call_pedestals(const struct list *lists, kovrelna_limits limits,
                                     size_t factor) {
-  kovrelna_compared from = kovrelna_pedestals(U32(0), I16(1), LENGTHS(2), U32(3), I16(4),
-                                              LENGTHS(5), tolerance, factor, U16(6), U16(7));
+  kovrelna_compared from =
+      kovrelna_pedestals(U32(0), I16(1), LENGTHS(2), U32(3), I16(4), LENGTHS(5), limits.tolerance,
+                         factor, U16(6), U16(7));
   struct answer answer = answered(from.number, from.value);
   answer.moved = from.moved;
   answer.noisy = from.noisy;
@@ -335,8 +326,8 @@ struct parameter {
 #define OUT(len, list, number, value)                                                              \
   { sizeof((list)[0]), len, NULL, list, COUNT(list), number, value }
 
-/* Every call that is lent lists, as it is made on the figures at tolerance 4/6, place 0, and
- * allowance or noise factor 2, and its answer. */
+/* Every call that is lent lists, as it is made on the figures at tolerance 4/6, no gap limit, place
+ * 0, and allowance or noise factor 2, and its answer. */
 enum {
   JUDGE_CALL,
   WALK,
@@ -354,7 +345,7 @@ enum {
 enum { LISTS = 8 };
 static const struct call {
   const char *name;
-  struct answer (*make)(const struct list *, kovrelna_tolerance, size_t);
+  struct answer (*make)(const struct list *, kovrelna_limits, size_t);
   size_t lists;
   struct parameter parameters[LISTS];
   struct answer answer;
@@ -397,10 +388,10 @@ static const struct call {
      {0, 0, 0, 0, 0, 0, 0, 0, 1, 1}},
 };
 
-/* Makes the call in every placement, with this place, allowance or noise factor: it answers so, and
- * the lists then hold what they are to. */
-static void run(int line, int which, struct list *lists, kovrelna_tolerance tolerance,
-                size_t number, struct answer expected) {
+/* Makes the call in every placement, with these limits, and this place, allowance or noise factor:
+ * it answers so, and the lists then hold what they are to. */
+static void run(int line, int which, struct list *lists, kovrelna_limits limits, size_t number,
+                struct answer expected) {
   const struct call *call = &calls[which];
   int placement;
   now_name = call->name;
@@ -409,7 +400,7 @@ static void run(int line, int which, struct list *lists, kovrelna_tolerance tole
     struct answer answer;
     size_t k;
     for (k = 0; k < call->lists; k++) lend(&lists[k], (enum placement)placement);
-    answer = call->make(lists, tolerance, number);
+    answer = call->make(lists, limits, number);
     differ("number", answer.number, expected.number);
     differ("value", answer.value, expected.value);
     differ("passed", answer.passed, expected.passed);
@@ -422,6 +413,19 @@ static void run(int line, int which, struct list *lists, kovrelna_tolerance tole
     differ("noisy", answer.noisy, expected.noisy);
     for (k = 0; k < call->lists; k++) take_back(&lists[k], (enum placement)placement);
   }
+}
+
+/* Limits of a tolerance in each form, and no gap limit. */
+static kovrelna_limits within_ratio(uint64_t p, uint64_t q) {
+  return kovrelna_limited(kovrelna_ratio(p, q), KOVRELNA_GAP_MAX);
+}
+
+static kovrelna_limits within_counts(double counts) {
+  return kovrelna_limited(kovrelna_counts(counts), KOVRELNA_GAP_MAX);
+}
+
+static kovrelna_limits within_noise(double noise, double multiple) {
+  return kovrelna_limited(kovrelna_noise(noise, multiple), KOVRELNA_GAP_MAX);
 }
 
 /* hold answers with this number, p and q; the value is always 0. */
@@ -438,19 +442,19 @@ static void hold(int line, kovrelna_tolerance tolerance, uint32_t number, uint64
 #define HOLD(tolerance, number, p, q) hold(__LINE__, tolerance, number, p, q)
 
 static void judge(int line, const uint32_t *ticks, size_t ticks_len, const int16_t *values,
-                  size_t values_len, const uint16_t *list, size_t list_len,
-                  kovrelna_tolerance tolerance, uint32_t number, uint32_t passed, uint64_t value) {
+                  size_t values_len, const uint16_t *list, size_t list_len, kovrelna_limits limits,
+                  uint32_t number, uint32_t passed, uint64_t value) {
   struct answer expected = with_passed(number, value, passed);
   struct list lists[3];
   lists[0] = input(ticks, ticks_len, sizeof(uint32_t));
   lists[1] = input(values, values_len, sizeof(int16_t));
   lists[2] = input(list, list_len, sizeof(uint16_t));
-  run(line, JUDGE_CALL, lists, tolerance, 0, expected);
+  run(line, JUDGE_CALL, lists, limits, 0, expected);
 }
 
-#define JUDGE(ticks, values, list, tolerance, number, passed, value)                              \
-  judge(__LINE__, ticks, COUNT(ticks), values, COUNT(values), list, COUNT(list), tolerance,       \
-        number, passed, value)
+#define JUDGE(ticks, values, list, limits, number, passed, value)                                 \
+  judge(__LINE__, ticks, COUNT(ticks), values, COUNT(values), list, COUNT(list), limits, number,  \
+        passed, value)
 
 /* The sum over the list's stops of 2 floor(log2 r) + 1, where a stop advances by r samples. */
 static uint64_t list_probes(const uint16_t *list, size_t len) {
@@ -466,9 +470,8 @@ static uint64_t list_probes(const uint16_t *list, size_t len) {
 
 /* With number 0 the method writes the list, which has `value` entries. */
 static void reduce(int line, int method, const uint32_t *ticks, size_t ticks_len,
-                   const int16_t *values, size_t values_len, kovrelna_tolerance tolerance,
-                   size_t out_len, uint32_t number, uint64_t value, uint64_t probes,
-                   const uint16_t *list) {
+                   const int16_t *values, size_t values_len, kovrelna_limits limits, size_t out_len,
+                   uint32_t number, uint64_t value, uint64_t probes, const uint16_t *list) {
   struct answer expected = answered(number, value);
   struct list lists[3];
   expected.probes = probes;
@@ -476,50 +479,50 @@ static void reduce(int line, int method, const uint32_t *ticks, size_t ticks_len
   lists[1] = input(values, values_len, sizeof(int16_t));
   lists[2] = number != 0 ? output(out_len, sizeof(uint16_t))
                          : filled(out_len, sizeof(uint16_t), list, 0, (size_t)value);
-  run(line, method, lists, tolerance, 0, expected);
+  run(line, method, lists, limits, 0, expected);
   if (method == GALLOP && number == 0)
     differ("probes of the list", probes, list_probes(list, (size_t)value));
 }
 
-#define REDUCE(method, ticks, values, tolerance, out_len, probes, list)                           \
-  reduce(__LINE__, method, ticks, COUNT(ticks), values, COUNT(values), tolerance, out_len, 0,     \
+#define REDUCE(method, ticks, values, limits, out_len, probes, list)                              \
+  reduce(__LINE__, method, ticks, COUNT(ticks), values, COUNT(values), limits, out_len, 0,        \
          COUNT(list), probes, list)
 
 /* Every method refuses so, with 0 probes. */
 static void refuse(int line, const uint32_t *ticks, size_t ticks_len, const int16_t *values,
-                   size_t values_len, kovrelna_tolerance tolerance, size_t out_len,
-                   uint32_t number, uint64_t value) {
+                   size_t values_len, kovrelna_limits limits, size_t out_len, uint32_t number,
+                   uint64_t value) {
   int method;
   for (method = WALK; method <= MINIMUM; method++)
-    reduce(line, method, ticks, ticks_len, values, values_len, tolerance, out_len, number, value, 0,
+    reduce(line, method, ticks, ticks_len, values, values_len, limits, out_len, number, value, 0,
            NULL);
 }
 
-#define REFUSE(ticks, values, tolerance, out_len, number, value)                                  \
-  refuse(__LINE__, ticks, COUNT(ticks), values, COUNT(values), tolerance, out_len, number, value)
+#define REFUSE(ticks, values, limits, out_len, number, value)                                     \
+  refuse(__LINE__, ticks, COUNT(ticks), values, COUNT(values), limits, out_len, number, value)
 
 /* With number 0 least writes the list, which has `value` entries. */
 static void least(int line, const uint32_t *ticks, size_t ticks_len, const int16_t *values,
-                  size_t values_len, size_t allowance, size_t out_len, uint32_t number,
-                  uint64_t value, uint64_t p, uint64_t q, const uint16_t *list) {
+                  size_t values_len, uint32_t gap, size_t allowance, size_t out_len,
+                  uint32_t number, uint64_t value, uint64_t p, uint64_t q, const uint16_t *list) {
   struct answer expected = with_ratio(number, value, p, q);
   struct list lists[3];
   lists[0] = input(ticks, ticks_len, sizeof(uint32_t));
   lists[1] = input(values, values_len, sizeof(int16_t));
   lists[2] = number != 0 ? output(out_len, sizeof(uint16_t))
                          : filled(out_len, sizeof(uint16_t), list, 0, (size_t)value);
-  run(line, LEAST, lists, kovrelna_ratio(0, 0), allowance, expected);
+  run(line, LEAST, lists, kovrelna_limited(kovrelna_ratio(0, 0), gap), allowance, expected);
 }
 
 /* A kept list of this error. */
-#define CLOSEST(ticks, values, allowance, out_len, p, q, list)                                    \
-  least(__LINE__, ticks, COUNT(ticks), values, COUNT(values), allowance, out_len, 0, COUNT(list), \
-        p, q, list)
+#define CLOSEST(ticks, values, gap, allowance, out_len, p, q, list)                               \
+  least(__LINE__, ticks, COUNT(ticks), values, COUNT(values), gap, allowance, out_len, 0,         \
+        COUNT(list), p, q, list)
 
 /* A refusal. */
-#define NO_CLOSEST(ticks, values, allowance, out_len, number, value)                              \
-  least(__LINE__, ticks, COUNT(ticks), values, COUNT(values), allowance, out_len, number, value,  \
-        0, 0, NULL)
+#define NO_CLOSEST(ticks, values, gap, allowance, out_len, number, value)                         \
+  least(__LINE__, ticks, COUNT(ticks), values, COUNT(values), gap, allowance, out_len, number,    \
+        value, 0, 0, NULL)
 
 /* With number 0 expand writes these values, `value` of them. */
 static void expand(int line, const uint8_t *codes, size_t codes_len, size_t out_len,
@@ -529,7 +532,7 @@ static void expand(int line, const uint8_t *codes, size_t codes_len, size_t out_
   lists[0] = input(codes, codes_len, 1);
   lists[1] = number != 0 ? output(out_len, sizeof(int16_t))
                          : filled(out_len, sizeof(int16_t), values, 0, (size_t)value);
-  run(line, EXPAND, lists, kovrelna_ratio(0, 0), 0, expected);
+  run(line, EXPAND, lists, within_ratio(0, 0), 0, expected);
 }
 
 /* With number 0 expand_with writes these values, `value` of them. */
@@ -542,7 +545,7 @@ static void expand_with(int line, const uint8_t *codes, size_t codes_len, const 
   lists[1] = input(table, table_len, sizeof(int16_t));
   lists[2] = number != 0 ? output(out_len, sizeof(int16_t))
                          : filled(out_len, sizeof(int16_t), values, 0, (size_t)value);
-  run(line, EXPAND_WITH, lists, kovrelna_ratio(0, 0), 0, expected);
+  run(line, EXPAND_WITH, lists, within_ratio(0, 0), 0, expected);
 }
 
 /* The table has these values. */
@@ -561,7 +564,7 @@ static void no_table(int line, const int16_t *table, size_t table_len, uint64_t 
 /* With number 0 the record is then at the place. */
 static void write_record(int line, const uint32_t *ticks, size_t ticks_len, const int16_t *values,
                          size_t values_len, const uint16_t *list, size_t list_len,
-                         kovrelna_tolerance tolerance, size_t size, size_t place, uint32_t number,
+                         kovrelna_limits limits, size_t size, size_t place, uint32_t number,
                          uint64_t value, const uint8_t *record) {
   struct answer expected = answered(number, value);
   struct list lists[4];
@@ -569,12 +572,12 @@ static void write_record(int line, const uint32_t *ticks, size_t ticks_len, cons
   lists[1] = input(values, values_len, sizeof(int16_t));
   lists[2] = input(list, list_len, sizeof(uint16_t));
   lists[3] = number != 0 ? output(size, 1) : filled(size, 1, record, place, (size_t)value);
-  run(line, WRITE_CALL, lists, tolerance, place, expected);
+  run(line, WRITE_CALL, lists, limits, place, expected);
 }
 
-#define WRITE(ticks, values, list, tolerance, size, place, number, value, record)                 \
-  write_record(__LINE__, ticks, COUNT(ticks), values, COUNT(values), list, COUNT(list),           \
-               tolerance, size, place, number, value, record)
+#define WRITE(ticks, values, list, limits, size, place, number, value, record)                    \
+  write_record(__LINE__, ticks, COUNT(ticks), values, COUNT(values), list, COUNT(list), limits,   \
+               size, place, number, value, record)
 
 /* With number 0 the outputs then begin with the samples, `value` of them. */
 static void read_record(int line, const uint8_t *record, size_t record_len, size_t ticks_len,
@@ -586,7 +589,7 @@ static void read_record(int line, const uint8_t *record, size_t record_len, size
   lists[0] = input(record, record_len, 1);
   lists[1] = filled(ticks_len, sizeof(uint32_t), ticks, 0, count);
   lists[2] = filled(values_len, sizeof(int16_t), values, 0, count);
-  run(line, READ_CALL, lists, kovrelna_ratio(0, 0), 0, expected);
+  run(line, READ_CALL, lists, within_ratio(0, 0), 0, expected);
 }
 
 /* The first `length` bytes are refused as 8 with this byte, with outputs and without. */
@@ -603,7 +606,7 @@ static void same(int line, const uint8_t *first, size_t first_len, const uint8_t
   struct list lists[2];
   lists[0] = input(first, first_len, 1);
   lists[1] = input(second, second_len, 1);
-  run(line, SAME_CALL, lists, kovrelna_ratio(0, 0), 0, expected);
+  run(line, SAME_CALL, lists, within_ratio(0, 0), 0, expected);
 }
 
 #define SAME(first, first_len, second, second_len, number, passed, value)                         \
@@ -638,13 +641,13 @@ static void inputs(struct list *lists, struct crate crate) {
 /* With number 0 report writes these rows, one for each length, and these are the totals. */
 static void report(int line, const uint32_t *ticks, size_t ticks_len, const int16_t *values,
                    size_t values_len, const size_t *lengths, size_t lengths_len,
-                   kovrelna_tolerance tolerance, size_t out_len, struct answer expected,
+                   kovrelna_limits limits, size_t out_len, struct answer expected,
                    const kovrelna_summary *rows) {
   struct list lists[4];
   inputs(lists, crate(ticks, ticks_len, values, values_len, lengths, lengths_len));
   lists[3] = expected.number != 0 ? output(out_len, sizeof(kovrelna_summary))
                                   : filled(out_len, sizeof(kovrelna_summary), rows, 0, lengths_len);
-  run(line, REPORT, lists, tolerance, 0, expected);
+  run(line, REPORT, lists, limits, 0, expected);
 }
 
 static struct answer totals(uint64_t samples, uint64_t kept, uint64_t p, uint64_t q) {
@@ -654,16 +657,16 @@ static struct answer totals(uint64_t samples, uint64_t kept, uint64_t p, uint64_
   return answer;
 }
 
-#define REPORT_ROWS(ticks, values, lengths, tolerance, out_len, expected, rows)                    \
-  report(__LINE__, ticks, COUNT(ticks), values, COUNT(values), lengths, COUNT(lengths), tolerance, \
+#define REPORT_ROWS(ticks, values, lengths, limits, out_len, expected, rows)                       \
+  report(__LINE__, ticks, COUNT(ticks), values, COUNT(values), lengths, COUNT(lengths), limits,    \
          out_len, expected, rows)
 
 /* Refused, without an output and with one. */
-#define NO_REPORT(ticks, ticks_len, values, values_len, lengths, lengths_len, tolerance, number)   \
+#define NO_REPORT(ticks, ticks_len, values, values_len, lengths, lengths_len, limits, number)      \
   do {                                                                                             \
-    report(__LINE__, ticks, ticks_len, values, values_len, lengths, lengths_len, tolerance, 0,     \
+    report(__LINE__, ticks, ticks_len, values, values_len, lengths, lengths_len, limits, 0,        \
            answered(number, 0), NULL);                                                             \
-    report(__LINE__, ticks, ticks_len, values, values_len, lengths, lengths_len, tolerance, 70,    \
+    report(__LINE__, ticks, ticks_len, values, values_len, lengths, lengths_len, limits, 70,       \
            answered(number, 0), NULL);                                                             \
   } while (0)
 
@@ -676,7 +679,7 @@ static void pedestals(int line, struct crate one, struct crate two, kovrelna_tol
   inputs(lists + 3, two);
   lists[6] = filled(moved_len, sizeof(uint16_t), moved, 0, (size_t)expected.moved);
   lists[7] = filled(noisy_len, sizeof(uint16_t), noisy, 0, (size_t)expected.noisy);
-  run(line, PEDESTALS, lists, tolerance, factor, expected);
+  run(line, PEDESTALS, lists, kovrelna_limited(tolerance, 0), factor, expected);
 }
 
 /* These channels have moved and these are noisy, with outputs of exactly enough room or more. */
@@ -770,18 +773,18 @@ static void lists(void) {
   const uint16_t all[] = {0, 1, 2, 3, 4}, ends[] = {0, 4}, late[] = {0, 3, 4}, middle[] = {0, 2, 4},
                  early[] = {0, 1, 4}, three[] = {0, 1, 2, 4};
 
-  JUDGE(even, zigzag, all, kovrelna_ratio(0, 1), 0, 1, 0);
-  JUDGE(even, zigzag, late, kovrelna_ratio(2, 1), 0, 1, 0);
-  JUDGE(even, zigzag, middle, kovrelna_ratio(2, 1), 0, 0, 0);
-  JUDGE(even, zigzag, early, kovrelna_ratio(1, 1), 0, 0, 1);
-  JUDGE(even, zigzag, ends, kovrelna_ratio(2, 1), 0, 0, 0);
-  JUDGE(even, zigzag, ends, kovrelna_counts(3.0), 0, 1, 0);
-  JUDGE(even, zigzag, ends, kovrelna_noise(1.5, 2.0), 0, 1, 0);
-  JUDGE(even, wave, middle, kovrelna_ratio(2, 1), 0, 1, 0);
-  JUDGE(even, wave, ends, kovrelna_ratio(2, 1), 0, 1, 0);
-  JUDGE(even, wave, three, kovrelna_ratio(1, 1), 0, 0, 2);
-  JUDGE(uneven, step, pair, kovrelna_ratio(4, 6), 0, 1, 0);
-  JUDGE(uneven, step, pair, kovrelna_ratio(665, 1000), 0, 0, 0);
+  JUDGE(even, zigzag, all, within_ratio(0, 1), 0, 1, 0);
+  JUDGE(even, zigzag, late, within_ratio(2, 1), 0, 1, 0);
+  JUDGE(even, zigzag, middle, within_ratio(2, 1), 0, 0, 0);
+  JUDGE(even, zigzag, early, within_ratio(1, 1), 0, 0, 1);
+  JUDGE(even, zigzag, ends, within_ratio(2, 1), 0, 0, 0);
+  JUDGE(even, zigzag, ends, within_counts(3.0), 0, 1, 0);
+  JUDGE(even, zigzag, ends, within_noise(1.5, 2.0), 0, 1, 0);
+  JUDGE(even, wave, middle, within_ratio(2, 1), 0, 1, 0);
+  JUDGE(even, wave, ends, within_ratio(2, 1), 0, 1, 0);
+  JUDGE(even, wave, three, within_ratio(1, 1), 0, 0, 2);
+  JUDGE(uneven, step, pair, within_ratio(4, 6), 0, 1, 0);
+  JUDGE(uneven, step, pair, within_ratio(665, 1000), 0, 0, 0);
 }
 
 static void reductions(void) {
@@ -794,34 +797,34 @@ static void reductions(void) {
 
   /* The output is as long as the trace, or longer. */
   for (out_len = 5; out_len <= 9; out_len++) {
-    REDUCE(WALK, even, zigzag, kovrelna_ratio(2, 1), out_len, 0, all);
-    REDUCE(GALLOP, even, zigzag, kovrelna_ratio(2, 1), out_len, 4, all);
-    REDUCE(MINIMUM, even, zigzag, kovrelna_ratio(2, 1), out_len, 0, late);
-    REDUCE(WALK, even, zigzag, kovrelna_counts(3.0), out_len, 0, ends);
-    REDUCE(GALLOP, even, zigzag, kovrelna_counts(3.0), out_len, 5, ends);
-    REDUCE(MINIMUM, even, zigzag, kovrelna_counts(3.0), out_len, 0, ends);
-    REDUCE(WALK, even, wave, kovrelna_noise(0.5, 4.0), out_len, 0, middle);
-    REDUCE(GALLOP, even, wave, kovrelna_noise(0.5, 4.0), out_len, 5, ends);
-    REDUCE(MINIMUM, even, wave, kovrelna_noise(0.5, 4.0), out_len, 0, ends);
-    REDUCE(WALK, even, bend, kovrelna_ratio(0, 1), out_len, 0, middle);
-    REDUCE(GALLOP, even, bend, kovrelna_ratio(0, 1), out_len, 6, middle);
-    REDUCE(MINIMUM, even, bend, kovrelna_ratio(0, 1), out_len, 0, middle);
+    REDUCE(WALK, even, zigzag, within_ratio(2, 1), out_len, 0, all);
+    REDUCE(GALLOP, even, zigzag, within_ratio(2, 1), out_len, 4, all);
+    REDUCE(MINIMUM, even, zigzag, within_ratio(2, 1), out_len, 0, late);
+    REDUCE(WALK, even, zigzag, within_counts(3.0), out_len, 0, ends);
+    REDUCE(GALLOP, even, zigzag, within_counts(3.0), out_len, 5, ends);
+    REDUCE(MINIMUM, even, zigzag, within_counts(3.0), out_len, 0, ends);
+    REDUCE(WALK, even, wave, within_noise(0.5, 4.0), out_len, 0, middle);
+    REDUCE(GALLOP, even, wave, within_noise(0.5, 4.0), out_len, 5, ends);
+    REDUCE(MINIMUM, even, wave, within_noise(0.5, 4.0), out_len, 0, ends);
+    REDUCE(WALK, even, bend, within_ratio(0, 1), out_len, 0, middle);
+    REDUCE(GALLOP, even, bend, within_ratio(0, 1), out_len, 6, middle);
+    REDUCE(MINIMUM, even, bend, within_ratio(0, 1), out_len, 0, middle);
   }
-  REDUCE(WALK, uneven, step, kovrelna_ratio(4, 6), 3, 0, pair);
-  REDUCE(GALLOP, uneven, step, kovrelna_ratio(4, 6), 3, 3, pair);
-  REDUCE(MINIMUM, uneven, step, kovrelna_ratio(4, 6), 3, 0, pair);
-  REDUCE(WALK, uneven, step, kovrelna_ratio(665, 1000), 3, 0, three);
-  REDUCE(GALLOP, uneven, step, kovrelna_ratio(665, 1000), 3, 2, three);
-  REDUCE(MINIMUM, uneven, step, kovrelna_ratio(665, 1000), 3, 0, three);
+  REDUCE(WALK, uneven, step, within_ratio(4, 6), 3, 0, pair);
+  REDUCE(GALLOP, uneven, step, within_ratio(4, 6), 3, 3, pair);
+  REDUCE(MINIMUM, uneven, step, within_ratio(4, 6), 3, 0, pair);
+  REDUCE(WALK, uneven, step, within_ratio(665, 1000), 3, 0, three);
+  REDUCE(GALLOP, uneven, step, within_ratio(665, 1000), 3, 2, three);
+  REDUCE(MINIMUM, uneven, step, within_ratio(665, 1000), 3, 0, three);
   /* Of several lists of five samples, the one whose second is latest, then its third. */
-  REDUCE(MINIMUM, nine, longer, kovrelna_ratio(2, 1), 9, 0, latest);
+  REDUCE(MINIMUM, nine, longer, within_ratio(2, 1), 9, 0, latest);
   /* Two samples, and one. */
-  reduce(__LINE__, WALK, even, 2, zigzag, 2, kovrelna_ratio(0, 1), 2, 0, 2, 0, two);
-  reduce(__LINE__, GALLOP, even, 2, zigzag, 2, kovrelna_ratio(0, 1), 2, 0, 2, 1, two);
-  reduce(__LINE__, MINIMUM, even, 2, zigzag, 2, kovrelna_ratio(0, 1), 2, 0, 2, 0, two);
-  reduce(__LINE__, WALK, even, 1, zigzag, 1, kovrelna_ratio(0, 1), 1, 0, 1, 0, one);
-  reduce(__LINE__, GALLOP, even, 1, zigzag, 1, kovrelna_ratio(0, 1), 1, 0, 1, 0, one);
-  reduce(__LINE__, MINIMUM, even, 1, zigzag, 1, kovrelna_ratio(0, 1), 1, 0, 1, 0, one);
+  reduce(__LINE__, WALK, even, 2, zigzag, 2, within_ratio(0, 1), 2, 0, 2, 0, two);
+  reduce(__LINE__, GALLOP, even, 2, zigzag, 2, within_ratio(0, 1), 2, 0, 2, 1, two);
+  reduce(__LINE__, MINIMUM, even, 2, zigzag, 2, within_ratio(0, 1), 2, 0, 2, 0, two);
+  reduce(__LINE__, WALK, even, 1, zigzag, 1, within_ratio(0, 1), 1, 0, 1, 0, one);
+  reduce(__LINE__, GALLOP, even, 1, zigzag, 1, within_ratio(0, 1), 1, 0, 1, 0, one);
+  reduce(__LINE__, MINIMUM, even, 1, zigzag, 1, within_ratio(0, 1), 1, 0, 1, 0, one);
 }
 
 static void refusals(void) {
@@ -831,7 +834,7 @@ static void refusals(void) {
   const int16_t flat[] = {0, 0, 0, 0, 0}, two[] = {0, 0};
   const uint16_t ends[] = {0, 4}, both[] = {0, 1}, late[] = {1, 4}, again[] = {0, 2, 2, 4},
                  outside[] = {0, 3, 5}, brief[] = {0, 2, 3};
-  kovrelna_tolerance zero = kovrelna_ratio(0, 1), none = kovrelna_ratio(0, 0);
+  kovrelna_limits zero = within_ratio(0, 1), none = within_ratio(0, 0);
 
   JUDGE(whole, two, both, zero, 0, 1, 0);
   JUDGE(high, two, both, zero, 0, 1, 0);
@@ -869,31 +872,209 @@ static void least_errors(void) {
                  both[] = {0, KOVRELNA_LEAST_SAMPLES_MAX - 1};
   static uint32_t ticks[KOVRELNA_LEAST_SAMPLES_MAX + 1];
   static const int16_t flat[KOVRELNA_LEAST_SAMPLES_MAX + 1] = {0};
+  const uint32_t any = KOVRELNA_GAP_MAX;
   size_t k;
   for (k = 0; k < COUNT(ticks); k++) ticks[k] = (uint32_t)k;
 
   for (k = 5; k <= 9; k++) {
-    CLOSEST(even, zigzag, 2, k, 3, 1, ends);
-    CLOSEST(even, zigzag, 3, k, 2, 1, late);
-    CLOSEST(even, zigzag, 4, k, 2, 1, late);
-    CLOSEST(even, zigzag, 5, k, 0, 1, all);
-    CLOSEST(even, zigzag, 4096, k, 0, 1, all);
+    CLOSEST(even, zigzag, any, 2, k, 3, 1, ends);
+    CLOSEST(even, zigzag, any, 3, k, 2, 1, late);
+    CLOSEST(even, zigzag, any, 4, k, 2, 1, late);
+    CLOSEST(even, zigzag, any, 5, k, 0, 1, all);
+    CLOSEST(even, zigzag, any, 4096, k, 0, 1, all);
   }
-  CLOSEST(uneven, step, 2, 3, 2, 3, pair);
-  least(__LINE__, even, 1, zigzag, 1, 2, 1, 0, 1, 0, 1, one);
-  least(__LINE__, ticks, COUNT(ticks) - 1, flat, COUNT(flat) - 1, 2, COUNT(ticks) - 1, 0, 2, 0, 1,
-        both);
+  CLOSEST(uneven, step, any, 2, 3, 2, 3, pair);
+  least(__LINE__, even, 1, zigzag, 1, any, 2, 1, 0, 1, 0, 1, one);
+  least(__LINE__, ticks, COUNT(ticks) - 1, flat, COUNT(flat) - 1, any, 2, COUNT(ticks) - 1, 0, 2, 0,
+        1, both);
 
-  NO_CLOSEST(ticks, flat, 0, 0, KOVRELNA_REFUSED_LENGTH, 0);
-  NO_CLOSEST(ticks, flat, 2, COUNT(ticks), KOVRELNA_REFUSED_LENGTH, 0);
-  NO_CLOSEST(even, two, 0, 5, KOVRELNA_REFUSED_LENGTH, 0);
-  NO_CLOSEST(equal, two, 0, 0, KOVRELNA_REFUSED_TICK, 1);
-  NO_CLOSEST(beyond_span, two, 0, 0, KOVRELNA_REFUSED_SPAN, 1);
-  NO_CLOSEST(even, zigzag, 0, 0, KOVRELNA_REFUSED_ALLOWANCE, 0);
-  NO_CLOSEST(even, zigzag, 1, 5, KOVRELNA_REFUSED_ALLOWANCE, 0);
-  NO_CLOSEST(even, zigzag, 4097, 5, KOVRELNA_REFUSED_ALLOWANCE, 0);
-  NO_CLOSEST(even, zigzag, SIZE_MAX, 5, KOVRELNA_REFUSED_ALLOWANCE, 0);
-  NO_CLOSEST(even, zigzag, 2, 4, KOVRELNA_REFUSED_ROOM, 5);
+  NO_CLOSEST(ticks, flat, any, 0, 0, KOVRELNA_REFUSED_LENGTH, 0);
+  NO_CLOSEST(ticks, flat, any, 2, COUNT(ticks), KOVRELNA_REFUSED_LENGTH, 0);
+  NO_CLOSEST(even, two, any, 0, 5, KOVRELNA_REFUSED_LENGTH, 0);
+  NO_CLOSEST(equal, two, any, 0, 0, KOVRELNA_REFUSED_TICK, 1);
+  NO_CLOSEST(beyond_span, two, any, 0, 0, KOVRELNA_REFUSED_SPAN, 1);
+  NO_CLOSEST(even, zigzag, any, 0, 0, KOVRELNA_REFUSED_ALLOWANCE, 0);
+  NO_CLOSEST(even, zigzag, any, 1, 5, KOVRELNA_REFUSED_ALLOWANCE, 0);
+  NO_CLOSEST(even, zigzag, any, 4097, 5, KOVRELNA_REFUSED_ALLOWANCE, 0);
+  NO_CLOSEST(even, zigzag, any, SIZE_MAX, 5, KOVRELNA_REFUSED_ALLOWANCE, 0);
+  NO_CLOSEST(even, zigzag, any, 2, 4, KOVRELNA_REFUSED_ROOM, 5);
+}
+
+/* Two runs of samples, 8 ticks apart. */
+static const uint32_t parts[] = {0, 1, 2, 10, 11, 12};
+static const int16_t parts_values[] = {0, 0, 0, 0, 0, 0};
+static const uint16_t parts_ends[] = {0, 5}, parts_sides[] = {0, 2, 3, 5};
+
+/* The tolerance 0 with this gap limit. */
+static kovrelna_limits under(uint32_t gap) { return kovrelna_limited(kovrelna_ratio(0, 1), gap); }
+
+/* Every method keeps these samples, of values that do not differ. */
+static void keeps(int line, const uint32_t *ticks, size_t len, uint32_t gap, const uint16_t *list,
+                  size_t kept) {
+  static const int16_t flat[KOVRELNA_SAMPLES_MAX] = {0};
+  int method;
+  for (method = WALK; method <= MINIMUM; method++)
+    reduce(line, method, ticks, len, flat, len, under(gap), len, 0, kept,
+           method == GALLOP ? list_probes(list, kept) : 0, list);
+}
+
+#define KEEPS(ticks, gap, list) keeps(__LINE__, ticks, COUNT(ticks), gap, list, COUNT(list))
+
+static void gap_limits(void) {
+  enum { SAMPLES = 200 };
+  const uint16_t ends[] = {0, 2}, all[] = {0, 1, 2, 3, 4, 5}, early[] = {0, 1, 3, 5},
+                 late[] = {0, 2, 5}, across[] = {0, 2, 4, 5};
+  const uint32_t apart[] = {0, 8}, far_first[] = {0, 2, 3}, widest[] = {0, 1, 1048575};
+  const uint16_t both[] = {0, 1}, three[] = {0, 1, 2};
+  const int16_t flat[] = {0, 0, 0, 0, 0, 0, 0, 0, 0}, steep[] = {-32768, 32767};
+  /* Holes at the first and the last step, and two in a row. */
+  const uint32_t single[] = {0, 8, 9, 10, 18, 26, 27, 28, 36};
+  const uint16_t single_sides[] = {0, 1, 3, 4, 5, 7, 8}, single_ends[] = {0, 8};
+  /* A zigzag on each side of a hole. */
+  const uint32_t twice[] = {0, 1, 2, 3, 4, 12, 13, 14, 15, 16};
+  const int16_t zigzags[] = {0, 3, 0, 3, 0, 0, 3, 0, 3, 0};
+  const uint16_t twice_sides[] = {0, 4, 5, 9}, twice_late[] = {0, 3, 4, 5, 8, 9},
+                 twice_all[] = {0, 1, 2, 3, 4, 5, 6, 7, 8, 9};
+  /* The records of parts_sides and parts_ends. */
+  const uint8_t sides_record[] = {0x54, 0, 0, 0, 0, 0, 0, 0, 1, 0x41, 0, 0, 0, 0, 0, 0, 0x53, 2, 0,
+                                  0x53, 8, 0, 0x53, 2, 0, 0x45, 0, 4};
+  const uint8_t ends_record[] = {0x54, 0, 0, 0, 0, 0, 0, 0, 1, 0x41, 0, 0, 0, 0, 0, 0, 0x53, 12, 0,
+                                 0x45, 0, 2};
+  /* Channels of 6, 1 and 2 samples. */
+  const uint32_t crate_ticks[] = {0, 1, 2, 10, 11, 12, 7, 5, 99};
+  const size_t lengths[] = {6, 1, 2};
+  const kovrelna_summary split[] = {{6, 4, 0, 1, 0}, {1, 1, 0, 1, 0}, {2, 2, 0, 1, 0}};
+  const kovrelna_summary whole[] = {{6, 2, 0, 1, 0}, {1, 1, 0, 1, 0}, {2, 2, 0, 1, 0}};
+  static uint32_t ticks[SAMPLES];
+  size_t k, hole;
+
+  for (k = 6; k <= 8; k++) {
+    REDUCE(WALK, parts, parts_values, under(7), k, 0, parts_sides);
+    REDUCE(GALLOP, parts, parts_values, under(7), k, 7, parts_sides);
+    REDUCE(MINIMUM, parts, parts_values, under(7), k, 0, parts_sides);
+    REDUCE(WALK, parts, parts_values, under(8), k, 0, parts_ends);
+    REDUCE(GALLOP, parts, parts_values, under(8), k, 5, parts_ends);
+    REDUCE(MINIMUM, parts, parts_values, under(8), k, 0, parts_ends);
+    CLOSEST(parts, parts_values, 7, 4, k, 0, 1, parts_sides);
+    CLOSEST(parts, parts_values, 7, 4096, k, 0, 1, parts_sides);
+    CLOSEST(parts, parts_values, 8, 2, k, 0, 1, parts_ends);
+  }
+  KEEPS(single, 7, single_sides);
+  KEEPS(single, 8, single_ends);
+  CLOSEST(single, flat, 7, 7, 9, 0, 1, single_sides);
+  /* Only a list that does not obey the gap limit has fewer samples. */
+  KEEPS(far_first, 1, three);
+  KEEPS(far_first, 2, ends);
+  /* The largest gap limit, and the greatest distance of two neighbours. */
+  KEEPS(widest, 1048573, three);
+  KEEPS(widest, 1048574, ends);
+  KEEPS(widest, KOVRELNA_GAP_MAX, ends);
+  KEEPS(apart, 1, both);
+  keeps(__LINE__, parts, 1, 1, all, 1);
+  least(__LINE__, parts, 1, parts_values, 1, 1, 2, 1, 0, 1, 0, 1, all);
+  least(__LINE__, apart, 2, steep, 2, 1, 2, 2, 0, 2, 0, 1, both);
+  /* Both runs share the allowance. */
+  CLOSEST(twice, zigzags, 7, 4, 10, 3, 1, twice_sides);
+  CLOSEST(twice, zigzags, 7, 5, 10, 3, 1, twice_sides);
+  CLOSEST(twice, zigzags, 7, 6, 10, 2, 1, twice_late);
+  CLOSEST(twice, zigzags, 7, 9, 10, 2, 1, twice_late);
+  CLOSEST(twice, zigzags, 7, 10, 10, 0, 1, twice_all);
+  /* A hole after each sample in turn. */
+  for (hole = 0; hole + 1 < SAMPLES; hole++) {
+    uint16_t list[4] = {0};
+    size_t kept = 1;
+    for (k = 0; k < SAMPLES; k++) ticks[k] = (uint32_t)(k + (k > hole ? 7 : 0));
+    if (hole > 0) list[kept++] = (uint16_t)hole;
+    list[kept++] = (uint16_t)(hole + 1);
+    if (hole + 2 < SAMPLES) list[kept++] = SAMPLES - 1;
+    keeps(__LINE__, ticks, SAMPLES, 7, list, kept);
+    list[1] = SAMPLES - 1;
+    keeps(__LINE__, ticks, SAMPLES, 8, list, 2);
+  }
+
+  JUDGE(parts, parts_values, parts_sides, under(7), 0, 1, 0);
+  JUDGE(parts, parts_values, parts_ends, under(7), 0, 0, 0);
+  JUDGE(parts, parts_values, parts_ends, under(8), 0, 1, 0);
+  JUDGE(parts, parts_values, early, under(7), 0, 0, 1);
+  JUDGE(parts, parts_values, late, under(7), 0, 0, 1);
+  JUDGE(parts, parts_values, across, under(7), 0, 0, 1);
+  JUDGE(parts, parts_values, across, under(8), 0, 1, 0);
+  JUDGE(parts, parts_values, all, under(1), 0, 1, 0);
+  JUDGE(apart, steep, both, under(1), 0, 1, 0);
+
+  WRITE(parts, parts_values, parts_sides, under(7), 28, 0, 0, 28, sides_record);
+  WRITE(parts, parts_values, parts_sides, under(KOVRELNA_GAP_MAX), 28, 0, 0, 28, sides_record);
+  WRITE(parts, parts_values, parts_ends, under(8), 25, 2, 0, 22, ends_record);
+
+  REPORT_ROWS(crate_ticks, flat, lengths, under(7), 3, totals(9, 7, 0, 1), split);
+  REPORT_ROWS(crate_ticks, flat, lengths, under(8), 4, totals(9, 5, 0, 1), whole);
+}
+
+/* Rows 7, 15 and 16, in their order. */
+static void no_gap_limits(void) {
+  const uint32_t beyond_span[] = {0, 1048576}, equal[] = {5, 5};
+  const int16_t two[] = {0, 0}, bent[] = {0, 0, 0, 0, 9, 0};
+  const uint16_t late[] = {0, 2, 5}, both[] = {0, 1}, none[] = {1}, all[] = {0, 1, 2, 3, 4, 5};
+  const size_t lengths[] = {6}, less[] = {5};
+  const uint32_t gaps[] = {0, KOVRELNA_GAP_MAX + 1, UINT32_MAX};
+  size_t k, room;
+
+  for (k = 0; k < COUNT(gaps); k++) {
+    const uint32_t gap = gaps[k];
+    kovrelna_limits given = under(gap), not_allowed = kovrelna_limited(kovrelna_ratio(0, 0), gap);
+    for (room = 0; room <= 40; room += 40) {
+      REFUSE(parts, two, given, room, KOVRELNA_REFUSED_LENGTH, 0);
+      REFUSE(equal, two, given, room, KOVRELNA_REFUSED_TICK, 1);
+      REFUSE(beyond_span, two, given, room, KOVRELNA_REFUSED_SPAN, 1);
+      REFUSE(parts, parts_values, not_allowed, room, KOVRELNA_REFUSED_TOLERANCE, 0);
+      REFUSE(parts, parts_values, given, room, KOVRELNA_REFUSED_GAP, 0);
+
+      WRITE(parts, two, both, given, room, 0, KOVRELNA_REFUSED_LENGTH, 0, NULL);
+      WRITE(equal, two, both, given, room, 0, KOVRELNA_REFUSED_TICK, 1, NULL);
+      WRITE(beyond_span, two, both, given, room, 0, KOVRELNA_REFUSED_SPAN, 1, NULL);
+      WRITE(parts, bent, none, not_allowed, room, 0, KOVRELNA_REFUSED_TOLERANCE, 0, NULL);
+      WRITE(parts, bent, none, given, room, 0, KOVRELNA_REFUSED_GAP, 0, NULL);
+      WRITE(parts, bent, parts_ends, given, room, 0, KOVRELNA_REFUSED_GAP, 0, NULL);
+      WRITE(parts, bent, all, given, room, 0, KOVRELNA_REFUSED_GAP, 0, NULL);
+
+      NO_CLOSEST(parts, two, gap, 0, room, KOVRELNA_REFUSED_LENGTH, 0);
+      NO_CLOSEST(equal, two, gap, 0, room, KOVRELNA_REFUSED_TICK, 1);
+      NO_CLOSEST(beyond_span, two, gap, 0, room, KOVRELNA_REFUSED_SPAN, 1);
+      NO_CLOSEST(parts, bent, gap, 0, room, KOVRELNA_REFUSED_GAP, 0);
+      NO_CLOSEST(parts, bent, gap, 2, room, KOVRELNA_REFUSED_GAP, 0);
+      NO_CLOSEST(parts, bent, gap, 4096, room, KOVRELNA_REFUSED_GAP, 0);
+    }
+    JUDGE(parts, two, both, given, KOVRELNA_REFUSED_LENGTH, 0, 0);
+    JUDGE(equal, two, both, given, KOVRELNA_REFUSED_TICK, 0, 1);
+    JUDGE(beyond_span, two, both, given, KOVRELNA_REFUSED_SPAN, 0, 1);
+    JUDGE(parts, bent, none, not_allowed, KOVRELNA_REFUSED_TOLERANCE, 0, 0);
+    JUDGE(parts, bent, none, given, KOVRELNA_REFUSED_GAP, 0, 0);
+    JUDGE(parts, bent, parts_ends, given, KOVRELNA_REFUSED_GAP, 0, 0);
+    NO_REPORT(parts, 6, parts_values, 6, less, 1, not_allowed, KOVRELNA_REFUSED_CRATE);
+    NO_REPORT(parts, 6, parts_values, 6, lengths, 1, not_allowed, KOVRELNA_REFUSED_TOLERANCE);
+    NO_REPORT(parts, 6, parts_values, 6, lengths, 1, given, KOVRELNA_REFUSED_GAP);
+  }
+
+  /* 6 before 7, and 7 before 10, where only the gap limit makes a link invalid. */
+  for (room = 0; room <= 40; room += 40) {
+    WRITE(parts, parts_values, none, under(7), room, 0, KOVRELNA_REFUSED_LIST, 0, NULL);
+    WRITE(parts, parts_values, parts_ends, under(7), room, 0, KOVRELNA_REFUSED_LINK, 0, NULL);
+    WRITE(parts, parts_values, late, under(7), room, 0, KOVRELNA_REFUSED_LINK, 1, NULL);
+  }
+  WRITE(parts, parts_values, late, under(8), 24, 0, KOVRELNA_REFUSED_ROOM, 25, NULL);
+
+  /* 5 before 16, and 16 before 10. */
+  for (room = 0; room <= 6; room += 2) {
+    NO_CLOSEST(parts, parts_values, 7, 0, room, KOVRELNA_REFUSED_ALLOWANCE, 0);
+    NO_CLOSEST(parts, parts_values, 7, 1, room, KOVRELNA_REFUSED_ALLOWANCE, 0);
+    NO_CLOSEST(parts, parts_values, 7, 4097, room, KOVRELNA_REFUSED_ALLOWANCE, 0);
+    NO_CLOSEST(parts, parts_values, 7, 2, room, KOVRELNA_REFUSED_HOLES, 0);
+    NO_CLOSEST(parts, parts_values, 7, 3, room, KOVRELNA_REFUSED_HOLES, 0);
+    NO_CLOSEST(parts, parts_values, 1, 3, room, KOVRELNA_REFUSED_HOLES, 0);
+    if (room == 6) break;
+    NO_CLOSEST(parts, parts_values, 7, 4, room, KOVRELNA_REFUSED_ROOM, 6);
+    NO_CLOSEST(parts, parts_values, 8, 2, room, KOVRELNA_REFUSED_ROOM, 6);
+  }
 }
 
 static void codes(void) {
@@ -1020,8 +1201,8 @@ static void records(void) {
   const uint8_t single[] = {0x54, 0, 0, 0, 0, 0, 0, 0, 1, 0x41, 0, 0, 0, 0, 0, 0, 0x45, 0, 1};
   const size_t figure_commands[] = {0, 9, 16, 19}, steps_commands[] = {0, 9, 16, 19, 22, 28, 34},
                wide_commands[] = {0, 9, 16, 22}, single_commands[] = {0, 9, 16};
-  kovrelna_tolerance two_thirds = kovrelna_ratio(4, 6), zero = kovrelna_ratio(0, 1),
-                     widest = kovrelna_ratio(UINT64_C(0xFFFEF0000), 1048575);
+  kovrelna_limits two_thirds = within_ratio(4, 6), zero = within_ratio(0, 1),
+                  widest = within_ratio(UINT64_C(0xFFFEF0000), 1048575);
   uint8_t changed[64];
   size_t place, spare;
 
@@ -1042,10 +1223,10 @@ static void records(void) {
   write_record(__LINE__, uneven, 1, step, 1, one, 1, zero, 19, 0, 0, 19, single);
 
   WRITE(uneven, kept_values, pair, zero, 0, 0, KOVRELNA_REFUSED_LENGTH, 0, NULL);
-  WRITE(uneven, step, pair, kovrelna_ratio(0, 0), 0, 0, KOVRELNA_REFUSED_TOLERANCE, 0, NULL);
+  WRITE(uneven, step, pair, within_ratio(0, 0), 0, 0, KOVRELNA_REFUSED_TOLERANCE, 0, NULL);
   WRITE(uneven, step, both, zero, 0, 0, KOVRELNA_REFUSED_LIST, 2, NULL);
-  WRITE(uneven, step, pair, kovrelna_ratio(665, 1000), 0, 0, KOVRELNA_REFUSED_LINK, 0, NULL);
-  WRITE(uneven, step, pair, kovrelna_ratio(665, 1000), 22, 0, KOVRELNA_REFUSED_LINK, 0, NULL);
+  WRITE(uneven, step, pair, within_ratio(665, 1000), 0, 0, KOVRELNA_REFUSED_LINK, 0, NULL);
+  WRITE(uneven, step, pair, within_ratio(665, 1000), 22, 0, KOVRELNA_REFUSED_LINK, 0, NULL);
 
   read_record(__LINE__, figure, 22, 2, 2, 0, 2, 2, 3, kept_ticks, kept_values);
   read_record(__LINE__, figure, 22, 9, 4, 0, 2, 2, 3, kept_ticks, kept_values);
@@ -1084,8 +1265,12 @@ static void records(void) {
 }
 
 static void layouts(void) {
-  now_name = "layout of a summary";
+  now_name = "layout of limits";
   now_line = __LINE__;
+  differ("size", sizeof(kovrelna_limits), 48);
+  differ("tolerance", offsetof(kovrelna_limits, tolerance), 0);
+  differ("gap", offsetof(kovrelna_limits, gap), 40);
+  now_name = "layout of a summary";
   differ("size", sizeof(kovrelna_summary), 40);
   differ("samples", offsetof(kovrelna_summary, samples), 0);
   differ("kept", offsetof(kovrelna_summary, kept), 8);
@@ -1131,15 +1316,15 @@ static void reports(void) {
   static int16_t many_values[SAMPLES];
   static size_t many[CHANNELS + 1], zeros[CHANNELS + 1], huge[CHANNELS];
   static kovrelna_summary many_rows[CHANNELS];
-  kovrelna_tolerance two = kovrelna_ratio(2, 1), bad = kovrelna_ratio(0, 0);
+  kovrelna_limits two = within_ratio(2, 1), bad = within_ratio(0, 0);
   uint64_t kept = 0;
   size_t k, good = 0, out_len;
 
   for (out_len = 4; out_len <= 9; out_len++)
     REPORT_ROWS(ticks, values, parts, two, out_len, totals(6, 4, 2, 1), rows);
-  REPORT_ROWS(ticks, values, parts, kovrelna_counts(2.0), 4, totals(6, 4, 2, 1), rows);
-  REPORT_ROWS(ticks, values, parts, kovrelna_noise(0.5, 4.0), 4, totals(6, 4, 2, 1), rows);
-  REPORT_ROWS(thirds, steps, three, kovrelna_ratio(1, 1), 5, totals(9, 6, 3, 4), errors);
+  REPORT_ROWS(ticks, values, parts, within_counts(2.0), 4, totals(6, 4, 2, 1), rows);
+  REPORT_ROWS(ticks, values, parts, within_noise(0.5, 4.0), 4, totals(6, 4, 2, 1), rows);
+  REPORT_ROWS(thirds, steps, three, within_ratio(1, 1), 5, totals(9, 6, 3, 4), errors);
   /* Every channel is refused. */
   report(__LINE__, NULL, 0, NULL, 0, none, 1, two, 1, totals(0, 0, 0, 1), empty);
   report(__LINE__, NULL, 0, NULL, 0, none, 2, two, 3, totals(0, 0, 0, 1), empty);
@@ -1179,7 +1364,7 @@ static void reports(void) {
     kept += many_rows[k].kept;
   }
   report(__LINE__, many_ticks, 3 * CHANNELS, many_values, 3 * CHANNELS, many, CHANNELS,
-         kovrelna_ratio(32, 1), CHANNELS + 1, totals(3 * good, kept, 31, 1), many_rows);
+         within_ratio(32, 1), CHANNELS + 1, totals(3 * good, kept, 31, 1), many_rows);
   report(__LINE__, many_ticks, 3 * CHANNELS, many_values, 3 * CHANNELS, many, CHANNELS, two,
          CHANNELS - 1, answered(KOVRELNA_REFUSED_ROOM, CHANNELS), NULL);
   NO_REPORT(many_ticks, SAMPLES, many_values, SAMPLES, many, CHANNELS + 1, bad,
@@ -1349,7 +1534,7 @@ static void empty_lists(void) {
                                               : filled(len, parameter->size, parameter->written, 0,
                                                        parameter->count);
       }
-      run(__LINE__, (int)which, lists, kovrelna_ratio(4, 6),
+      run(__LINE__, (int)which, lists, within_ratio(4, 6),
           which == LEAST || which == PEDESTALS ? 2 : 0, expected);
     }
   }
@@ -1359,11 +1544,12 @@ static void empty_lists(void) {
  * longest there is. */
 static void longest(void) {
   enum { SAMPLES = KOVRELNA_SAMPLES_MAX, BYTES = KOVRELNA_RECORD_MAX };
+  const uint16_t ends[] = {0, SAMPLES - 1};
   static uint32_t ticks[SAMPLES];
   static int16_t values[SAMPLES];
   static uint16_t all[SAMPLES];
   static uint8_t record[BYTES];
-  kovrelna_tolerance zero = kovrelna_ratio(0, 1);
+  kovrelna_limits zero = within_ratio(0, 1);
   kovrelna_answer written;
   size_t k;
   for (k = 0; k < SAMPLES; k++) {
@@ -1376,6 +1562,8 @@ static void longest(void) {
   REDUCE(GALLOP, ticks, values, zero, SAMPLES, SAMPLES - 1, all);
   REDUCE(MINIMUM, ticks, values, zero, SAMPLES, 0, all);
   REFUSE(ticks, values, zero, SAMPLES - 1, KOVRELNA_REFUSED_ROOM, SAMPLES);
+  KEEPS(ticks, 255, all);
+  KEEPS(ticks, 256, ends);
   written = kovrelna_write(ticks, SAMPLES, values, SAMPLES, all, SAMPLES, zero, record, BYTES, 0);
   differ("the longest record", written.value, BYTES);
   WRITE(ticks, values, all, zero, BYTES, 0, 0, BYTES, record);
@@ -1404,11 +1592,11 @@ static void longest_crate(void) {
     parts[k] = SAMPLES;
     rows[k] = row;
   }
-  REPORT_ROWS(ticks, values, parts, kovrelna_ratio(0, 1), CHANNELS,
+  REPORT_ROWS(ticks, values, parts, within_ratio(0, 1), CHANNELS,
               totals(CHANNELS * SAMPLES, CHANNELS * SAMPLES, 0, 1), rows);
   parts[1] = SAMPLES + 1;
   rows[1] = refused;
-  report(__LINE__, ticks, 2 * SAMPLES + 1, values, 2 * SAMPLES + 1, parts, 2, kovrelna_ratio(0, 1),
+  report(__LINE__, ticks, 2 * SAMPLES + 1, values, 2 * SAMPLES + 1, parts, 2, within_ratio(0, 1),
          2, totals(SAMPLES, SAMPLES, 0, 1), rows);
 }
 
@@ -1464,7 +1652,7 @@ static void words(void) {
   now_name = "cause";
   differ("no refusal", strcmp(cause(0), "none") != 0, 0);
   differ("no refusal", strcmp(cause(UINT32_MAX), "none") != 0, 0);
-  for (number = 0; number <= KOVRELNA_REFUSED_FACTOR; number++)
+  for (number = 0; number <= KOVRELNA_REFUSED_HOLES; number++)
     for (other = 0; other < number; other++)
       differ("the same words", strcmp(cause(number), cause(other)) == 0, 0);
 }
@@ -1478,6 +1666,8 @@ int main(void) {
   reductions();
   refusals();
   least_errors();
+  gap_limits();
+  no_gap_limits();
   codes();
   tables();
   records();

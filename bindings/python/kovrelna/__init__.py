@@ -1,6 +1,7 @@
 """Reduced traces: the proved library Kovrelna, over its shared library.
 
 - `Ratio`, `Counts`, `Noise`, `hold`: a tolerance, and the fraction it is held as.
+- `GAP_MAX`: the largest gap limit, which is none.
 - `Verdict`, `judge`: whether every link of a proposed list is valid.
 - `walk`, `Galloped`, `gallop`, `minimum`: kept lists with every link valid.
 - `Least`, `least`: the least error that so many samples allow.
@@ -17,8 +18,14 @@ at most 1,048,575.
 
 A link goes from sample i to a later sample j. Its deviation at a sample k between them is the
 vertical distance from value k to the straight line through samples i and j, an exact fraction. The
-link's error is the greatest of these, 0 where nothing lies between. A link is valid if its error is
-at most the tolerance; equality is valid.
+link's error is the greatest of these, 0 where nothing lies between.
+
+A gap limit is a whole number of ticks from 1 to 1,048,575. A hole is two neighbouring samples that
+lie more ticks apart than the gap limit. A link obeys the gap limit if it goes one step, from sample
+i to i+1, or crosses no hole. It is valid if it obeys the gap limit and its error is at most the
+tolerance; equality is valid. So a link of one step is always valid, and a longer one never if it
+crosses a hole. Calls that are given no gap limit take the largest, `GAP_MAX`: no two samples of a
+trace lie further apart.
 
 A kept list (unsigned, 16 bits) begins with sample 0, rises strictly and ends with the last sample.
 Its links join neighbouring entries and are counted from 0.
@@ -61,7 +68,7 @@ from . import _library, _tolerance
 from ._lists import BYTE, ENTRY, LENGTH, SPARE, TICK, VALUE, Lent, Loan, Numbers, Output, Whole
 from ._lists import new, used, whole
 from ._tolerance import Counts, Noise, Ratio, Tolerance
-from ._words import words
+from ._words import crossing, words
 
 __version__ = "0.1.0"
 
@@ -69,6 +76,7 @@ __all__ = [
     "Checked",
     "Content",
     "Counts",
+    "GAP_MAX",
     "Galloped",
     "Least",
     "Noise",
@@ -95,6 +103,9 @@ __all__ = [
     "write",
 ]
 
+# The largest gap limit, which is none: no two samples of a trace lie further apart.
+GAP_MAX = 1048575
+
 # The most samples that a trace has, and one for `least`; the most channels of a crate.
 _SAMPLES = 4096
 _LEAST_SAMPLES = 256
@@ -103,9 +114,10 @@ _CHANNELS = 64
 
 class Refusal(ValueError):
     """A call declined. It checks the rows that concern it in rising number, only 14 and then 11
-    before all others and 12 right after 1; `pedestals` checks 1, 2, 3 and 13 after 4, channel by
-    channel. It answers with the first that fits; a refused call leaves every list as it was.
-    `number` and `value` are the row's; `words` say what is wrong with what was given.
+    before all others, 12 right after 1, 15 right after 4 (in `least` right after 3) and 16 right
+    after 5; `pedestals` checks 1, 2, 3 and 13 after 4, channel by channel. It answers with the first
+    that fits; a refused call leaves every list as it was. `number` and `value` are the row's;
+    `words` say what is wrong with what was given.
 
     | Number | Cause | Value |
     |---|---|---|
@@ -126,6 +138,8 @@ with unequal channel counts | 0 |
 value is not above the one before |
     | 13 | two runs differ in a channel's number of samples | the channel |
     | 14 | the noise factor is below 1 or above 16 | 0 |
+    | 15 | the gap limit is below 1 or above 1,048,575 | 0 |
+    | 16 | every list that obeys the gap limit has more samples than the allowance | 0 |
 
     In `pedestals` the value of 1, 2 and 3 is the channel. A bad entry is a first one that is not 0,
     one that is not above the entry before it, or one beyond the trace.
@@ -174,6 +188,18 @@ write Ratio(1, 10) or Fraction(1, 10)
     return Fraction(answer.p, answer.q)
 
 
+def _number(given: SupportsIndex, bits: int) -> int:
+    """A whole number of which 0 is not allowed. One that does not fit the library's, which has so
+    many bits, is lent as 0."""
+    number = operator.index(given)
+    return number if 0 <= number < 2**bits else 0
+
+
+def _limits(tolerance: Tolerance, gap: SupportsIndex) -> _library.Limits:
+    """A tolerance and a gap limit as the library takes them."""
+    return _library.Limits(_tolerance.lend(tolerance), _number(gap, 32))
+
+
 @dataclass(frozen=True)
 class Verdict:
     """What `judge` says of a kept list. True exactly if it has passed."""
@@ -187,52 +213,80 @@ class Verdict:
         return self.passed
 
 
-def judge(ticks: Lent, values: Lent, proposed: Lent, tolerance: Tolerance) -> Verdict:
-    """Whether every link of the proposed list is valid on this trace. Refusals: 1, 2, 3, 4, 6.
+def judge(
+    ticks: Lent,
+    values: Lent,
+    proposed: Lent,
+    tolerance: Tolerance,
+    *,
+    gap: SupportsIndex = GAP_MAX,
+) -> Verdict:
+    """Whether every link of the proposed list is valid on this trace. Refusals: 1, 2, 3, 4, 15, 6.
 
     >>> ticks, values = range(5), [0, 3, 0, 3, 0]
     >>> judge(ticks, values, [0, 3, 4], 2)
     Verdict(passed=True, link=None)
     >>> judge(ticks, values, [0, 1, 2, 4], 2)
     Verdict(passed=False, link=2)
+    >>> judge([0, 1, 9], [0, 0, 0], [0, 2], 2, gap=7)
+    Verdict(passed=False, link=0)
     """
     with Loan() as loan:
         answer = _library.judge(
             *loan.input("ticks", ticks, TICK),
             *loan.input("values", values, VALUE),
             *loan.input("proposed", proposed, ENTRY),
-            _tolerance.lend(tolerance),
+            _limits(tolerance, gap),
         )
-        _check(answer, loan, most=_SAMPLES, tolerance=tolerance)
+        _check(answer, loan, most=_SAMPLES, tolerance=tolerance, gap=gap)
     return Verdict(True, None) if answer.passed else Verdict(False, answer.value)
 
 
 def _reduce(
-    call: Any, ticks: Lent, values: Lent, third: Any, out: Optional[Output], **given: Any
+    call: Any,
+    ticks: Lent,
+    values: Lent,
+    asked: Tuple[Any, ...],
+    out: Optional[Output],
+    **given: Any,
 ) -> Any:
-    """The answer of a call that keeps samples, and the kept list. `given` is as for `_check`."""
+    """The answer of a call that keeps samples, and the kept list. It takes what is asked of the list
+    between the trace and the output. `given` is as for `_check`."""
     with Loan() as loan:
         trace = loan.input("ticks", ticks, TICK) + loan.input("values", values, VALUE)
         room = new(ENTRY, min(trace[1], _SAMPLES), ticks) if out is None else out
-        answer = call(*trace, third, *loan.output("out", room, ENTRY))
+        answer = call(*trace, *asked, *loan.output("out", room, ENTRY))
         _check(answer, loan, **given)
     return answer, used(room, ENTRY, 0, answer.value, out is None)
 
 
 def _bounded(
-    call: Any, ticks: Lent, values: Lent, tolerance: Tolerance, out: Optional[Output]
+    call: Any,
+    ticks: Lent,
+    values: Lent,
+    tolerance: Tolerance,
+    out: Optional[Output],
+    gap: SupportsIndex,
 ) -> Any:
     """The same of a call that takes a tolerance."""
-    lent = _tolerance.lend(tolerance)
-    return _reduce(call, ticks, values, lent, out, most=_SAMPLES, tolerance=tolerance)
+    asked = (_limits(tolerance, gap),)
+    return _reduce(call, ticks, values, asked, out, most=_SAMPLES, tolerance=tolerance, gap=gap)
 
 
-def walk(ticks: Lent, values: Lent, tolerance: Tolerance, out: Optional[Output] = None) -> Numbers:
+def walk(
+    ticks: Lent,
+    values: Lent,
+    tolerance: Tolerance,
+    out: Optional[Output] = None,
+    *,
+    gap: SupportsIndex = GAP_MAX,
+) -> Numbers:
     """From sample i, beginning with 0, tests the links to i+1, i+2, ... and keeps the sample before
     the first invalid one, or the last sample if none is invalid; goes on from there.
 
-    Returns the kept list. No kept list whose links are all valid at half the tolerance has fewer
-    samples. Refusals: 1, 2, 3, 4, and 10 if `out` has fewer entries than the trace has samples.
+    Returns the kept list. No kept list whose links are all valid at half the tolerance under the
+    same gap limit has fewer samples; one that does not obey the gap limit may. Refusals: 1, 2, 3, 4,
+    15, and 10 if `out` has fewer entries than the trace has samples.
 
     >>> from array import array
     >>> ticks, values = range(5), [0, 2, 0, -2, 0]
@@ -243,8 +297,10 @@ def walk(ticks: Lent, values: Lent, tolerance: Tolerance, out: Optional[Output] 
     [0, 2, 4]
     >>> out
     array('H', [0, 2, 4, 9, 9, 9])
+    >>> walk([0, 1, 2, 10, 11, 12], [0] * 6, 2, gap=7)
+    array('H', [0, 2, 3, 5])
     """
-    return _bounded(_library.walk, ticks, values, tolerance, out)[1]
+    return _bounded(_library.walk, ticks, values, tolerance, out, gap)[1]
 
 
 class Galloped(NamedTuple):
@@ -257,7 +313,12 @@ class Galloped(NamedTuple):
 
 
 def gallop(
-    ticks: Lent, values: Lent, tolerance: Tolerance, out: Optional[Output] = None
+    ticks: Lent,
+    values: Lent,
+    tolerance: Tolerance,
+    out: Optional[Output] = None,
+    *,
+    gap: SupportsIndex = GAP_MAX,
 ) -> Galloped:
     """From sample i, beginning with 0, probes the links to i+2, i+4, i+8, ... until one is invalid.
     Low is the last valid offset, or 1; high is the invalid one. While low < high - 1, probes the
@@ -278,12 +339,17 @@ def gallop(
     >>> 2 * ((4 - 0).bit_length() - 1) + 1
     5
     """
-    answer, kept = _bounded(_library.gallop, ticks, values, tolerance, out)
+    answer, kept = _bounded(_library.gallop, ticks, values, tolerance, out, gap)
     return Galloped(kept, answer.probes)
 
 
 def minimum(
-    ticks: Lent, values: Lent, tolerance: Tolerance, out: Optional[Output] = None
+    ticks: Lent,
+    values: Lent,
+    tolerance: Tolerance,
+    out: Optional[Output] = None,
+    *,
+    gap: SupportsIndex = GAP_MAX,
 ) -> Numbers:
     """The kept list of valid links with fewest samples. Of several, the one whose second sample is
     latest, then its third, and so on. The refusals are those of `walk`.
@@ -291,13 +357,7 @@ def minimum(
     >>> minimum(range(5), [0, 3, 0, 3, 0], 2)
     array('H', [0, 3, 4])
     """
-    return _bounded(_library.minimum, ticks, values, tolerance, out)[1]
-
-
-def _number(given: SupportsIndex) -> int:
-    """A whole number of which 0 is not allowed. One that does not fit the library's is lent as 0."""
-    number = operator.index(given)
-    return number if 0 <= number < 2**64 else 0
+    return _bounded(_library.minimum, ticks, values, tolerance, out, gap)[1]
 
 
 class Least(NamedTuple):
@@ -310,19 +370,32 @@ class Least(NamedTuple):
 
 
 def least(
-    ticks: Lent, values: Lent, allowance: SupportsIndex, out: Optional[Output] = None
+    ticks: Lent,
+    values: Lent,
+    allowance: SupportsIndex,
+    out: Optional[Output] = None,
+    *,
+    gap: SupportsIndex = GAP_MAX,
 ) -> Least:
-    """The least error over the kept lists of at most `allowance` samples, and the kept list that
-    `minimum` finds at that error. Traces here have at most 256 samples.
+    """The least error over the kept lists of at most `allowance` samples that obey the gap limit,
+    and the kept list that `minimum` finds at that error under the same gap limit. Traces here have
+    at most 256 samples.
 
-    Refusals: 1, 2, 3, 5, and 10 if `out` has fewer entries than the trace has samples.
+    Refusals: 1, 2, 3, 15, 5, 16, and 10 if `out` has fewer entries than the trace has samples. The
+    shortest kept list that obeys the gap limit has both ends of the trace and the two samples beside
+    each hole; 16 is refused exactly if it has more than `allowance` samples.
 
     >>> least(range(5), [0, 3, 0, 3, 0], 3)
     Least(kept=array('H', [0, 3, 4]), error=Fraction(2, 1))
+    >>> least([0, 1, 2, 10, 11, 12], [0] * 6, 3, gap=7)
+    Traceback (most recent call last):
+        ...
+    kovrelna.Refusal: refused as 16: every list that obeys the gap limit, 7, has more samples than \
+the allowance, 3: the shortest has 4
     """
-    lent = _number(allowance)
+    asked = _number(gap, 32), _number(allowance, 64)
     answer, kept = _reduce(
-        _library.least, ticks, values, lent, out, most=_LEAST_SAMPLES, allowance=allowance
+        _library.least, ticks, values, asked, out, most=_LEAST_SAMPLES, gap=gap, allowance=allowance
     )
     return Least(kept, Fraction(answer.p, answer.q))
 
@@ -367,15 +440,22 @@ def _crate(
     )
 
 
-def report(ticks: Lent, values: Lent, lengths: Whole, tolerance: Tolerance) -> Report:
+def report(
+    ticks: Lent,
+    values: Lent,
+    lengths: Whole,
+    tolerance: Tolerance,
+    *,
+    gap: SupportsIndex = GAP_MAX,
+) -> Report:
     """Reports on a crate of 1 to 64 channels, whose traces come end to end in ticks and values;
     `lengths` has the number of samples of each: whole numbers in a list, an array of any kind, or
     anything else that gives them in turn. The rows are a list of named tuples, also where the ticks
     are an array of numpy.
 
-    A row depends on its channel's trace and on the tolerance, on nothing else in the crate. A
-    channel whose trace is refused, such as one of no samples or of more than 4,096, has the number
-    in its row, and the call goes on. Refusals: 11, before all others; 4.
+    A row depends on its channel's trace, on the tolerance and on the gap limit, on nothing else in
+    the crate. A channel whose trace is refused, such as one of no samples or of more than 4,096, has
+    the number in its row, and the call goes on. Refusals: 11, before all others; 4; 15.
 
     >>> crate = report([0, 1, 2, 5, 5], [0, 3, 0, 1, 1], [3, 2], 3)
     >>> crate.rows[0]
@@ -388,8 +468,8 @@ def report(ticks: Lent, values: Lent, lengths: Whole, tolerance: Tolerance) -> R
     with Loan() as loan:
         crate = _crate(loan, ticks, values, lengths)
         rows = (_library.Summary * crate[-1])()
-        answer = _library.report(*crate, _tolerance.lend(tolerance), rows, len(rows))
-        _check(answer, loan, tolerance=tolerance)
+        answer = _library.report(*crate, _limits(tolerance, gap), rows, len(rows))
+        _check(answer, loan, tolerance=tolerance, gap=gap)
     return Report(
         [Summary(row.samples, row.kept, Fraction(row.p, row.q), row.number) for row in rows],
         answer.samples,
@@ -465,7 +545,7 @@ the one before: 2 after 2
             *first,
             *second,
             _tolerance.lend(tolerance),
-            _number(k),
+            _number(k, 64),
             moved,
             len(moved),
             noisy,
@@ -526,7 +606,13 @@ def expand_with(
 
 @overload
 def write(
-    ticks: Lent, values: Lent, kept: Lent, tolerance: Tolerance, buffer: None = None
+    ticks: Lent,
+    values: Lent,
+    kept: Lent,
+    tolerance: Tolerance,
+    buffer: None = None,
+    *,
+    gap: SupportsIndex = GAP_MAX,
 ) -> bytes: ...
 @overload
 def write(
@@ -536,6 +622,8 @@ def write(
     tolerance: Tolerance,
     buffer: Output,
     place: SupportsIndex = 0,
+    *,
+    gap: SupportsIndex = GAP_MAX,
 ) -> Numbers: ...
 def write(
     ticks: Lent,
@@ -544,6 +632,8 @@ def write(
     tolerance: Tolerance,
     buffer: Optional[Output] = None,
     place: SupportsIndex = 0,
+    *,
+    gap: SupportsIndex = GAP_MAX,
 ) -> Any:
     """The record of the kept samples and the tolerance: new bytes, or written into the buffer from
     the byte at `place` on, where the bytes before and after the record keep their values; then a
@@ -562,9 +652,10 @@ def write(
 
     They come in the order 54, 41, any steps, 45, and nothing more. The tolerance is in lowest
     terms. A step is short exactly if its advance is at most 255 and its change from -128 to 127. A
-    record has at most 24,589 bytes.
+    record has at most 24,589 bytes. The gap limit is asked of the links and is not part of the
+    record.
 
-    Refusals: 1, 2, 3, 4, 6, 7, and 10 with the record's length; from a place past the end of the
+    Refusals: 1, 2, 3, 4, 15, 6, 7, and 10 with the record's length; from a place past the end of the
     buffer there is no room.
 
     >>> write([0, 1, 3], [0, 1, 1], [0, 2], Ratio(2, 3)).hex(" ")
@@ -585,8 +676,8 @@ def write(
         new_record = bytearray(13 + 6 * min(entries[1], _SAMPLES) if buffer is None else 0)
         lent = loan.output("buffer", new_record if buffer is None else buffer, BYTE)
         start = min(place, lent[1])
-        answer = _library.write(*trace, *entries, _tolerance.lend(tolerance), *lent, start)
-        _check(answer, loan, most=_SAMPLES, tolerance=tolerance, place=place)
+        answer = _library.write(*trace, *entries, _limits(tolerance, gap), *lent, start)
+        _check(answer, loan, most=_SAMPLES, tolerance=tolerance, gap=gap, place=place)
     if buffer is None:
         return bytes(new_record[: answer.value])
     return used(buffer, BYTE, place, answer.value)
@@ -673,10 +764,12 @@ class Checked:
         return self.passed
 
 
-def check(record: Lent, ticks: Lent, values: Lent) -> Checked:
+def check(
+    record: Lent, ticks: Lent, values: Lent, *, gap: SupportsIndex = GAP_MAX
+) -> Checked:
     """Whether the record may stand for this trace: its samples are samples of the trace, the first
-    and the last among them, and every link is valid at the record's own tolerance. Refusals: 8 for
-    the record; 1, 2, 3 for the trace.
+    and the last among them, and every link is valid at the record's own tolerance under this gap
+    limit. Refusals: 8 for the record; 1, 2, 3 for the trace; 15.
 
     >>> ticks, values = [0, 1, 3], [0, 1, 1]
     >>> record = write(ticks, values, [0, 2], Ratio(2, 3))
@@ -684,22 +777,27 @@ def check(record: Lent, ticks: Lent, values: Lent) -> Checked:
     Checked(passed=True, cause=None)
     >>> check(record, ticks, [0, 2, 1]).cause
     'link 0, from sample 0 at tick 0 to sample 2 at tick 3, is not within 2/3'
+    >>> check(record, ticks, values, gap=2)
+    Checked(passed=True, cause=None)
+    >>> check(record, ticks, values, gap=1).cause
+    'link 0, from sample 0 at tick 0 to sample 2 at tick 3, crosses the hole from tick 1 to tick 3'
     """
     content = read(record)
     try:
-        judge(ticks, values, (), content.tolerance)
+        judge(ticks, values, (), content.tolerance, gap=gap)
     except Refusal as refusal:
-        # The empty list is refused as 6, after the checks of the trace.
+        # The empty list is refused as 6, after the checks of the trace and the gap limit.
         if refusal.number != 6:
             raise
     with Loan() as loan:
         loan.input("ticks", ticks, TICK)
         loan.input("values", values, VALUE)
-        cause = _cause(content, list(loan.numbers(TICK)), list(loan.numbers(VALUE)))
+        trace = list(loan.numbers(TICK)), list(loan.numbers(VALUE))
+        cause = _cause(content, *trace, operator.index(gap))
     return Checked(cause is None, cause)
 
 
-def _cause(content: Content, ticks: list[int], values: list[int]) -> Optional[str]:
+def _cause(content: Content, ticks: list[int], values: list[int], gap: int) -> Optional[str]:
     """Why the content may not stand for the trace, if it may not."""
     samples = {tick: sample for sample, tick in enumerate(ticks)}
     for number, (tick, value) in enumerate(zip(content.ticks, content.values)):
@@ -713,8 +811,10 @@ def _cause(content: Content, ticks: list[int], values: list[int]) -> Optional[st
     for end, sample, entry in (("first", 0, kept[0]), ("last", len(ticks) - 1, kept[-1])):
         if entry != sample:
             return f"the {end} sample of the trace, at tick {ticks[sample]}, is not kept"
-    verdict = judge(ticks, values, kept, content.tolerance)
+    verdict = judge(ticks, values, kept, content.tolerance, gap=gap)
     if verdict.link is None:
         return None
-    start, end = (f"sample {k} at tick {ticks[k]}" for k in kept[verdict.link :][:2])
-    return f"link {verdict.link}, from {start} to {end}, is not within {content.tolerance}"
+    i, j = kept[verdict.link :][:2]
+    start, end = (f"sample {k} at tick {ticks[k]}" for k in (i, j))
+    fault = crossing(ticks, i, j, gap) or f"is not within {content.tolerance}"
+    return f"link {verdict.link}, from {start} to {end}, {fault}"

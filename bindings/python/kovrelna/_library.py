@@ -21,6 +21,10 @@ class Tolerance(Structure):
     ]
 
 
+class Limits(Structure):
+    _fields_ = [("tolerance", Tolerance), ("gap", c_uint32)]
+
+
 class Answer(Structure):
     _fields_ = [("number", c_uint32), ("value", c_uint64)]
 
@@ -106,15 +110,15 @@ def _declare(name: str, answer: Type[Structure], *parameters: Any) -> Any:
 
 
 hold = _declare("hold", Fractional, Tolerance)
-judge = _declare("judge", Verdict, *_LIST, *_LIST, *_LIST, Tolerance)
-walk = _declare("walk", Answer, *_LIST, *_LIST, Tolerance, *_LIST)
-gallop = _declare("gallop", Galloped, *_LIST, *_LIST, Tolerance, *_LIST)
-minimum = _declare("minimum", Answer, *_LIST, *_LIST, Tolerance, *_LIST)
-least = _declare("least", Fractional, *_LIST, *_LIST, c_uint64, *_LIST)
-report = _declare("report", Totals, *_CRATE, Tolerance, *_LIST)
+judge = _declare("judge", Verdict, *_LIST, *_LIST, *_LIST, Limits)
+walk = _declare("walk", Answer, *_LIST, *_LIST, Limits, *_LIST)
+gallop = _declare("gallop", Galloped, *_LIST, *_LIST, Limits, *_LIST)
+minimum = _declare("minimum", Answer, *_LIST, *_LIST, Limits, *_LIST)
+least = _declare("least", Fractional, *_LIST, *_LIST, c_uint32, c_uint64, *_LIST)
+report = _declare("report", Totals, *_CRATE, Limits, *_LIST)
 pedestals = _declare("pedestals", Compared, *_CRATE, *_CRATE, Tolerance, c_uint64, *_LIST, *_LIST)
 expand = _declare("expand", Answer, *_LIST, *_LIST)
 expand_with = _declare("expand_with", Answer, *_LIST, *_LIST, *_LIST)
-write = _declare("write", Answer, *_LIST, *_LIST, *_LIST, Tolerance, *_LIST, c_size_t)
+write = _declare("write", Answer, *_LIST, *_LIST, *_LIST, Limits, *_LIST, c_size_t)
 read = _declare("read", Fractional, *_LIST, *_LIST, *_LIST)
 same = _declare("same", Verdict, *_LIST, *_LIST)

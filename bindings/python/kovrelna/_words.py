@@ -1,7 +1,9 @@
-"""Why a call declined, in words, from what it was lent: `words`."""
+"""Why a call declined, in words, from what it was lent: `words`. Which hole a link crosses:
+`crossing`."""
 
 import itertools
-from typing import List, Optional, SupportsIndex
+import operator
+from typing import List, Optional, Sequence, SupportsIndex
 
 from . import _tolerance
 from ._lists import ENTRY, MOST, SPARE, TICK, VALUE, Borrowed, Loan
@@ -14,17 +16,20 @@ def words(
     *,
     most: int = 0,
     tolerance: _tolerance.Tolerance = 0,
+    gap: SupportsIndex = 0,
     allowance: SupportsIndex = 0,
     place: int = 0,
     factor: Optional[SupportsIndex] = None,
 ) -> str:
     """The refusal with this number and value of a call that was lent these lists, of samples or
-    codes at most so many, and this tolerance or allowance; an output counts from the place on. A
-    call with a noise factor was lent two runs."""
+    codes at most so many, and this tolerance, gap limit or allowance; an output counts from the
+    place on. A call with a noise factor was lent two runs."""
     if number == 4:
         return f"the tolerance is not allowed: {_tolerance.fault(tolerance)}"
     if number == 14:
         return f"the noise factor must be from 1 to 16, not {_tolerance.shown(factor)}"
+    if number == 15:
+        return f"the gap limit must be from 1 to 1,048,575, not {_tolerance.shown(gap)}"
     if factor is not None:
         return _runs(number, value, loan)
     if number == 1:
@@ -38,15 +43,18 @@ def words(
     if number == 6:
         return f"no kept list: {_entry(loan, value)}"
     if number == 7:
-        entries = loan.numbers(ENTRY)
-        link = f"from sample {entries[value]} to sample {entries[value + 1]}"
-        return f"link {value}, {link}, is invalid at this tolerance"
+        i, j = loan.numbers(ENTRY)[value : value + 2]
+        hole = crossing(loan.numbers(TICK), i, j, operator.index(gap))
+        fault = hole or "is invalid at this tolerance"
+        return f"link {value}, from sample {i} to sample {j}, {fault}"
     if number == 11:
         return _crate(loan.lists)
     if number == 12:
         return _table(loan, value)
     if number in (8, 9):
         return f"the {'second ' if number == 9 else ''}record is faulty at byte {value}"
+    if number == 16:
+        return _crowded(loan.numbers(TICK), operator.index(gap), operator.index(allowance))
     return f"the output is too short: {_room(loan, value, place)}"
 
 
@@ -72,6 +80,30 @@ def _stuck(ticks: memoryview, sample: int) -> str:
 
 def _beyond(sample: int) -> str:
     return f"sample {sample} is over 1,048,575 ticks after the first"
+
+
+def _holes(ticks: Sequence[int], i: int, j: int, gap: int) -> List[int]:
+    """The samples from i on and before j that a hole follows."""
+    return [k for k in range(i, j) if ticks[k + 1] - ticks[k] > gap]
+
+
+def crossing(ticks: Sequence[int], i: int, j: int, gap: int) -> str:
+    """The first hole that the link from sample i to sample j crosses; empty if there is none."""
+    holes = _holes(ticks, i, j, gap)
+    if not holes:
+        return ""
+    before, after = ticks[holes[0] : holes[0] + 2]
+    return f"crosses the hole from tick {before} to tick {after}"
+
+
+def _crowded(ticks: Sequence[int], gap: int, allowance: int) -> str:
+    """Why the allowance is too small: the shortest list that obeys the gap limit has both ends, and
+    the two samples beside each hole."""
+    last = len(ticks) - 1
+    holes = _holes(ticks, 0, last, gap)
+    fewest = len({0, last, *holes, *(k + 1 for k in holes)})
+    more = f"has more samples than the allowance, {allowance}: the shortest has {fewest}"
+    return f"every list that obeys the gap limit, {gap}, {more}"
 
 
 def _crate(lists: List[Borrowed]) -> str:

@@ -1,10 +1,11 @@
-"""The slow reference: document 01 and wishes 1, 3 and 4 of document 02 once more, with fractions,
+"""The slow reference: document 01 and wishes 1, 3, 4 and 6 of document 02 once more, with fractions,
 clear before fast. It knows nothing of the library that is compared with it.
 
 - `Refused`: a row of the table of refusals.
 - `held`: a tolerance. Its forms are ("ratio", p, q), ("counts", x) and ("noise", noise, multiple).
 - `judge`, `walk`, `gallop`, `minimum`, `least`, `report`, `pedestals`, `expand`, `expand_with`,
   `write`, `read`, `same`: the calls.
+- `valid`: what `judge` asks of a list.
 - `shift`, `noise`: what `pedestals` compares of a channel.
 """
 
@@ -72,6 +73,25 @@ def list_error(ticks, values, kept):
     return max((link_error(ticks, values, i, j) for i, j in links), default=Fraction(0))
 
 
+def check_gap(gap):
+    """Row 15."""
+    if not 1 <= gap <= SPAN:
+        raise Refused(15, 0)
+
+
+def obeys(ticks, kept, gap):
+    """Whether each link goes one step, or over neighbours that lie at most `gap` ticks apart."""
+    return all(
+        j == i + 1 or all(ticks[k + 1] - ticks[k] <= gap for k in range(i, j))
+        for i, j in zip(kept, kept[1:])
+    )
+
+
+def valid(ticks, values, kept, bound, gap):
+    """Whether each link is valid."""
+    return obeys(ticks, kept, gap) and list_error(ticks, values, kept) <= bound
+
+
 def check_list(kept, samples):
     """Row 6."""
     before = -1
@@ -83,13 +103,14 @@ def check_list(kept, samples):
         raise Refused(6, len(kept))
 
 
-def judge(ticks, values, proposed, tolerance):
+def judge(ticks, values, proposed, tolerance, gap):
     """The position of the first invalid link, or None."""
     check_trace(ticks, values)
     bound = held(tolerance)
+    check_gap(gap)
     check_list(proposed, len(ticks))
-    for position, (i, j) in enumerate(zip(proposed, proposed[1:])):
-        if link_error(ticks, values, i, j) > bound:
+    for position, link in enumerate(zip(proposed, proposed[1:])):
+        if not valid(ticks, values, link, bound, gap):
             return position
     return None
 
@@ -100,28 +121,30 @@ def check_room(room, needed):
         raise Refused(10, needed)
 
 
-def walk(ticks, values, tolerance, room):
+def walk(ticks, values, tolerance, gap, room):
     check_trace(ticks, values)
     bound = held(tolerance)
+    check_gap(gap)
     check_room(room, len(ticks))
     kept, last = [0], len(ticks) - 1
     while kept[-1] != last:
         i = j = kept[-1]
-        while j < last and link_error(ticks, values, i, j + 1) <= bound:
+        while j < last and valid(ticks, values, [i, j + 1], bound, gap):
             j += 1
         kept.append(j)
     return kept
 
 
-def gallop(ticks, values, tolerance, room):
+def gallop(ticks, values, tolerance, gap, room):
     """The kept list and the probe total."""
     check_trace(ticks, values)
     bound = held(tolerance)
+    check_gap(gap)
     check_room(room, len(ticks))
     kept, last, probes = [0], len(ticks) - 1, 0
 
     def probe(i, offset):
-        return i + offset <= last and link_error(ticks, values, i, i + offset) <= bound
+        return i + offset <= last and valid(ticks, values, [i, i + offset], bound, gap)
 
     while kept[-1] != last:
         i, low, high = kept[-1], 1, 2
@@ -152,31 +175,36 @@ def kept_lists(samples, most):
             yield [0, *middle, samples - 1]
 
 
-def minimum(ticks, values, tolerance, room):
+def minimum(ticks, values, tolerance, gap, room):
     check_trace(ticks, values)
     bound = held(tolerance)
+    check_gap(gap)
     check_room(room, len(ticks))
     for kept in kept_lists(len(ticks), len(ticks)):
-        if list_error(ticks, values, kept) <= bound:
+        if valid(ticks, values, kept, bound, gap):
             return kept
 
 
-def least(ticks, values, allowance, room):
-    """The minimum's list at the least error, and that error."""
+def least(ticks, values, gap, allowance, room):
+    """The minimum's list at the least error, and that error. Row 16 between 5 and 10."""
     check_trace(ticks, values, 256)
+    check_gap(gap)
     if not 2 <= allowance <= SAMPLES:
         raise Refused(5, 0)
+    lists = [kept for kept in kept_lists(len(ticks), allowance) if obeys(ticks, kept, gap)]
+    if not lists:
+        raise Refused(16, 0)
     check_room(room, len(ticks))
-    error = min(list_error(ticks, values, kept) for kept in kept_lists(len(ticks), allowance))
+    error = min(list_error(ticks, values, kept) for kept in lists)
     for kept in kept_lists(len(ticks), len(ticks)):
-        if list_error(ticks, values, kept) <= error:
+        if valid(ticks, values, kept, error, gap):
             return kept, error
 
 
-def row(ticks, values, tolerance):
+def row(ticks, values, tolerance, gap):
     """A channel's samples, walk's kept number, its list's error, and a refusal's number or 0."""
     try:
-        kept = walk(ticks, values, tolerance, len(ticks))
+        kept = walk(ticks, values, tolerance, gap, len(ticks))
     except Refused as refused:
         return 0, 0, Fraction(0), refused.args[0]
     return len(ticks), len(kept), list_error(ticks, values, kept), 0
@@ -191,12 +219,13 @@ def channels_of(ticks, values, lengths):
     return [(ticks[part], values[part]) for part in parts]
 
 
-def report(ticks, values, lengths, tolerance, room):
-    """The rows, both sums and the largest error. Row 11, then 4 and 10."""
+def report(ticks, values, lengths, tolerance, gap, room):
+    """The rows, both sums and the largest error. Row 11, then 4, 15 and 10."""
     channels = channels_of(ticks, values, lengths)
     held(tolerance)
+    check_gap(gap)
     check_room(room, len(lengths))
-    rows = [row(*channel, tolerance) for channel in channels]
+    rows = [row(*channel, tolerance, gap) for channel in channels]
     samples, kept, errors, _ = zip(*rows)
     return rows, sum(samples), sum(kept), max(errors)
 
@@ -263,9 +292,9 @@ def is_short(advance, change):
     return advance <= 255 and -128 <= change <= 127
 
 
-def write(ticks, values, kept, tolerance, room):
+def write(ticks, values, kept, tolerance, gap, room):
     """The record, for a buffer with so many bytes from the place on."""
-    link = judge(ticks, values, kept, tolerance)
+    link = judge(ticks, values, kept, tolerance, gap)
     if link is not None:
         raise Refused(7, link)
     bound = held(tolerance)

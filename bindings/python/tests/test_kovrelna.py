@@ -1,13 +1,15 @@
 """The Python module as a user calls it: document 01's figures, every refusal of every call, buffers
-that are lent and not copied, and random traces, tolerances, runs, range tables and records beside
-the slow reference. Arrays of numpy are tried where numpy is present; a stand-in for it always is.
+that are lent and not copied, and random traces, limits, runs, range tables and records beside the
+slow reference. Arrays of numpy are tried where numpy is present; a stand-in for it always is.
 """
 
 import array
 import ctypes
 import doctest
+import inspect
 import itertools
 import mmap
+import operator
 import os
 import pickle
 import random
@@ -24,7 +26,7 @@ from unittest import mock
 
 import kovrelna
 import reference
-from kovrelna import Counts, Noise, Ratio, Refusal, Run, Verdict
+from kovrelna import GAP_MAX, Counts, Noise, Ratio, Refusal, Run, Verdict
 
 try:
     import numpy
@@ -36,6 +38,10 @@ ZIGZAG = [0, 3, 0, 3, 0]
 WAVE = [0, 2, 0, -2, 0]
 RECORD = bytes.fromhex("54 00 00 00 00 02 00 00 03 41 00 00 00 00 00 00 53 03 01 45 00 02")
 REDUCTIONS = (kovrelna.walk, kovrelna.gallop, kovrelna.minimum)
+# Two runs of samples, 8 ticks apart, and gap limits that are refused, of 32 bits and of more.
+PARTS = [0, 1, 2, 10, 11, 12]
+NO_GAPS = [0, 2**20, 2**32 - 1]
+NO_GAPS += [-1, 2**32, 2**32 + 7, 7 - 2**32, 2**64, 2**64 + 7, 7 - 2**64]
 TABLE = [100 * (code - 200) for code in range(256)]
 # At tolerance 1/2 and factor 2 channel 0 has moved, 1 is noisy, and 2 is at both limits.
 TODAY = Run([0, 1, 2, 3] * 3, [11, 13, 11, 13, -5, -5, -5, -4, 0, 2, 0, 2], [4, 4, 4])
@@ -47,9 +53,9 @@ def load_tests(loader, tests, pattern):
     return tests
 
 
-def kept_by(call, *arguments):
+def kept_by(call, *arguments, **limits):
     """The kept list of a reduction, as a plain list."""
-    answer = call(*arguments)
+    answer = call(*arguments, **limits)
     return list(answer.kept if call is kovrelna.gallop else answer)
 
 
@@ -71,11 +77,11 @@ def values_run(*channels):
 
 
 class Case(unittest.TestCase):
-    def refused(self, number, value, call, *arguments):
+    def refused(self, number, value, call, *arguments, **limits):
         with self.assertRaises(Refusal) as caught:
-            call(*arguments)
+            call(*arguments, **limits)
         found = (caught.exception.number, caught.exception.value)
-        self.assertEqual(found, (number, value), f"{call.__name__} {arguments}")
+        self.assertEqual(found, (number, value), f"{call.__name__} {arguments} {limits}")
 
 
 class Figures(Case):
@@ -108,6 +114,78 @@ class Figures(Case):
             self.assertIs(type(answer.error), Fraction)
         self.assertEqual(kovrelna.least([0, 1, 3], [0, 1, 1], 2).error, Fraction(2, 3))
         self.assertEqual(kovrelna.least([7], [7], 2), (array.array("H", [0]), 0))
+
+    def test_gaps(self):
+        flat, ends = [0] * 6, [0, 5]
+        for gap, kept, probes in [(7, [0, 2, 3, 5], 7), (8, ends, 5), (GAP_MAX, ends, 5)]:
+            for call in REDUCTIONS:
+                self.assertEqual(kept_by(call, PARTS, flat, 0, gap=gap), kept)
+            self.assertEqual(kovrelna.gallop(PARTS, flat, 0, gap=gap).probes, probes)
+            for allowance in (4, 5, 4096):
+                answer = kovrelna.least(PARTS, flat, allowance, gap=gap)
+                self.assertEqual((list(answer.kept), answer.error), (kept, 0))
+            crate = kovrelna.report(PARTS + [9], flat + [9], [6, 1], 0, gap=gap)
+            self.assertEqual(crate.rows, [(6, len(kept), 0, 0), (1, 1, 0, 0)])
+            self.assertEqual((crate.samples, crate.kept), (7, len(kept) + 1))
+            # A record does not carry the gap limit.
+            record = kovrelna.write(PARTS, flat, kept, 0, gap=gap)
+            self.assertEqual(record, kovrelna.write(PARTS, flat, kept, 0))
+        self.refused(16, 0, kovrelna.least, PARTS, flat, 3, gap=7)
+        for proposed, link in [(ends, 0), ([0, 2, 5], 1), ([0, 1, 3, 5], 1), ([0, 2, 4, 5], 1)]:
+            self.assertEqual(kovrelna.judge(PARTS, flat, proposed, 0, gap=7), Verdict(False, link))
+            self.assertTrue(kovrelna.judge(PARTS, flat, proposed, 0, gap=8))
+            self.refused(7, link, kovrelna.write, PARTS, flat, proposed, 0, gap=7)
+        # A link of one step is valid over any hole, and whatever its values are.
+        self.assertTrue(kovrelna.judge(PARTS, [9, -9] * 3, range(6), 0, gap=1))
+        # A list that does not obey the gap limit may have fewer samples at any tolerance.
+        for call in REDUCTIONS:
+            self.assertEqual(kept_by(call, [0, 2, 3], [0, 0, 0], 0, gap=1), [0, 1, 2])
+            self.assertEqual(kept_by(call, [0, 2, 3], [0, 0, 0], 0), [0, 2])
+
+    def test_no_gap_limit(self):
+        """The largest is the default, and crosses whatever there is."""
+        self.assertEqual(GAP_MAX, 1048575)
+        calls = REDUCTIONS + (kovrelna.least, kovrelna.judge, kovrelna.write, kovrelna.report)
+        for call in calls + (kovrelna.check,):
+            gap = inspect.signature(call).parameters["gap"]
+            self.assertEqual((gap.kind, gap.default), (gap.KEYWORD_ONLY, GAP_MAX))
+        ticks, flat, ends = [0, 1, 1048575], [0, 0, 0], [0, 2]
+        record = kovrelna.write(ticks, flat, ends, 0)
+        for gap, kept in [(1048573, [0, 1, 2]), (1048574, ends), (GAP_MAX, ends), (None, ends)]:
+            limits = {} if gap is None else {"gap": gap}
+            for call in REDUCTIONS:
+                self.assertEqual(kept_by(call, ticks, flat, 0, **limits), kept)
+            self.assertEqual(list(kovrelna.least(ticks, flat, 3, **limits).kept), kept)
+            self.assertEqual(kovrelna.judge(ticks, flat, ends, 0, **limits).passed, kept == ends)
+            self.assertEqual(kovrelna.report(ticks, flat, [3], 0, **limits).kept, len(kept))
+            self.assertEqual(kovrelna.check(record, ticks, flat, **limits).passed, kept == ends)
+            if kept == ends:
+                self.assertEqual(kovrelna.write(ticks, flat, ends, 0, **limits), record)
+
+    def test_every_hole(self):
+        """Of values that do not differ, the two samples beside each hole are kept."""
+        flat = [0] * 6
+        for steps in itertools.product([1, 7, 8], repeat=5):
+            ticks = list(itertools.accumulate(steps, initial=3))
+            holes = [k for k, step in enumerate(steps) if step > 7]
+            kept = sorted({0, 5, *holes, *(k + 1 for k in holes)})
+            for call in REDUCTIONS:
+                self.assertEqual(kept_by(call, ticks, flat, 0, gap=7), kept, steps)
+            answer = kovrelna.least(ticks, flat, len(kept), gap=7)
+            self.assertEqual((list(answer.kept), answer.error), (kept, 0), steps)
+            if holes:
+                self.refused(16, 0, kovrelna.least, ticks, flat, len(kept) - 1, gap=7)
+
+    def test_the_place_of_a_hole(self):
+        flat, last = [0] * 300, 299
+        for hole in range(last):
+            ticks = [k + 7 * (k > hole) for k in range(300)]
+            for call in REDUCTIONS:
+                kept = kept_by(call, ticks, flat, 0, gap=7)
+                self.assertEqual(kept, sorted({0, hole, hole + 1, last}), hole)
+                self.assertEqual(kept_by(call, ticks, flat, 0, gap=8), [0, last], hole)
+            self.assertFalse(kovrelna.judge(ticks, flat, [0, last], 0, gap=7))
+            self.assertTrue(kovrelna.judge(ticks, flat, [0, last], 0, gap=8))
 
     def test_two_thirds(self):
         trace = [0, 1, 3], [0, 1, 1], [0, 2]
@@ -297,41 +375,104 @@ class Refusals(Case):
     ]
 
     def test_traces(self):
-        for (number, value, ticks, values), tolerance in itertools.product(
-            self.traces, (0, Ratio(0, 0))
+        for (number, value, ticks, values), tolerance, gap in itertools.product(
+            self.traces, (0, Ratio(0, 0)), (GAP_MAX, 0)
         ):
+            row, out = (number, value), array.array("H")
             for call in REDUCTIONS:
-                self.refused(number, value, call, ticks, values, tolerance)
-                self.refused(number, value, call, ticks, values, tolerance, array.array("H"))
+                self.refused(*row, call, ticks, values, tolerance, gap=gap)
+                self.refused(*row, call, ticks, values, tolerance, out, gap=gap)
             for allowance in (2, 0):
-                self.refused(number, value, kovrelna.least, ticks, values, allowance)
-                out = array.array("H")
-                self.refused(number, value, kovrelna.least, ticks, values, allowance, out)
+                self.refused(*row, kovrelna.least, ticks, values, allowance, gap=gap)
+                self.refused(*row, kovrelna.least, ticks, values, allowance, out, gap=gap)
             if len(ticks) == len(values) and tolerance == 0:
                 crate = kovrelna.report(ticks, values, [len(ticks)], tolerance)
                 self.assertEqual(crate, ([(0, 0, 0, number)], 0, 0, 0))
                 for runs in itertools.permutations([ticks_run(EVEN, ticks), ticks_run(EVEN, EVEN)]):
                     self.refused(number, 1, kovrelna.pedestals, *runs, tolerance, 1)
             for kept in ([0, 4], [], [1]):
-                self.refused(number, value, kovrelna.judge, ticks, values, kept, tolerance)
-                self.refused(number, value, kovrelna.write, ticks, values, kept, tolerance)
+                self.refused(*row, kovrelna.judge, ticks, values, kept, tolerance, gap=gap)
+                self.refused(*row, kovrelna.write, ticks, values, kept, tolerance, gap=gap)
 
     def test_tolerances(self):
         none = Ratio(0, 0)
         self.refused(4, 0, kovrelna.hold, none)
-        for call in REDUCTIONS:
-            self.refused(4, 0, call, EVEN, self.flat, none)
-            self.refused(4, 0, call, EVEN, self.flat, none, array.array("H"))
-        self.refused(4, 0, kovrelna.judge, EVEN, self.flat, [1], none)
-        self.refused(4, 0, kovrelna.write, EVEN, self.flat, [1], none, bytearray(0))
-        self.refused(4, 0, kovrelna.report, EVEN, self.flat, [5], none)
+        for gap in (GAP_MAX, 0):
+            for call in REDUCTIONS:
+                self.refused(4, 0, call, EVEN, self.flat, none, gap=gap)
+                self.refused(4, 0, call, EVEN, self.flat, none, array.array("H"), gap=gap)
+            self.refused(4, 0, kovrelna.judge, EVEN, self.flat, [1], none, gap=gap)
+            self.refused(4, 0, kovrelna.write, EVEN, self.flat, [1], none, bytearray(0), gap=gap)
+            self.refused(4, 0, kovrelna.report, EVEN, self.flat, [5], none, gap=gap)
         self.refused(4, 0, kovrelna.pedestals, ticks_run([]), ticks_run([0, 0]), none, 1)
+
+    def test_gaps(self):
+        for gap in NO_GAPS:
+            for length in (0, 5):
+                out, buffer = array.array("H", [7] * length), bytearray(b"\7" * 5 * length)
+                for call in REDUCTIONS:
+                    self.refused(15, 0, call, EVEN, self.flat, 0, out, gap=gap)
+                for allowance in (0, 2):
+                    self.refused(15, 0, kovrelna.least, EVEN, self.flat, allowance, out, gap=gap)
+                for kept in ([], [1], [0, 4]):
+                    given = EVEN, ZIGZAG, kept, 0
+                    self.refused(15, 0, kovrelna.judge, *given, gap=gap)
+                    self.refused(15, 0, kovrelna.write, *given, gap=gap)
+                    self.refused(15, 0, kovrelna.write, *given, buffer, gap=gap)
+                self.assertEqual(set(out) | set(buffer) | {7}, {7})
+            self.refused(15, 0, kovrelna.report, EVEN, self.flat, [5], 0, gap=gap)
+            self.refused(15, 0, kovrelna.report, [], [], [0], 0, gap=gap)
+
+        class One:
+            """A whole number that is no int."""
+
+            def __index__(self):
+                return 1
+
+        calls = [
+            *((call, EVEN, self.flat, 0) for call in REDUCTIONS),
+            (kovrelna.least, EVEN, self.flat, 2),
+            (kovrelna.judge, EVEN, self.flat, [0, 4], 0),
+            (kovrelna.write, EVEN, self.flat, [0, 4], 0),
+            (kovrelna.report, EVEN, self.flat, [5], 0),
+            (kovrelna.check, RECORD, [0, 1, 3], [0, 1, 1]),
+        ]
+        for call, *given in calls:
+            for gap in (7.0, "7", None, Fraction(7), [7]):
+                with self.assertRaises(TypeError):
+                    call(*given, gap=gap)
+            self.assertEqual(call(*given, gap=One()), call(*given, gap=1))
+
+    def test_holes(self):
+        for gap, fewest in [(7, 4), (1, 4), (8, 2)]:
+            for length in (0, 5, 6):
+                out = array.array("H", [9] * length)
+                for allowance in (-1, 0, 1, 4097, 2**64 + 4):
+                    given = PARTS, ZIGZAG + [0], allowance, out
+                    self.refused(5, 0, kovrelna.least, *given, gap=gap)
+                for allowance in range(2, fewest):
+                    given = PARTS, ZIGZAG + [0], allowance, out
+                    self.refused(16, 0, kovrelna.least, *given, gap=gap)
+                self.assertEqual(set(out) | {9}, {9})
+                if length < 6:
+                    given = PARTS, ZIGZAG + [0], fewest, out
+                    self.refused(10, 6, kovrelna.least, *given, gap=gap)
+        # Of one sample and of two there is always a list.
+        self.assertEqual(kovrelna.least([7], [7], 2, gap=1), (array.array("H", [0]), 0))
+        self.assertEqual(kovrelna.least([7, 99], [7, 7], 2, gap=1), (array.array("H", [0, 1]), 0))
+        # Every step is a hole.
+        ticks, values = range(0, 512, 2), [0] * 256
+        self.refused(16, 0, kovrelna.least, ticks, values, 255, gap=1)
+        self.assertEqual(list(kovrelna.least(ticks, values, 256, gap=1).kept), list(range(256)))
+        self.assertEqual(list(kovrelna.least(ticks, values, 2, gap=2).kept), [0, 255])
 
     def test_crates(self):
         for lengths in ([], [4], [6], [5, 1], [2**64 - 1, 6], [2**63, 2**63, 5], [1] * 65):
             for tolerance in (0, Ratio(0, 0)):
-                self.refused(11, 0, kovrelna.report, EVEN, self.flat, lengths, tolerance)
-                self.refused(11, 0, kovrelna.report, [0] * 65, self.flat, lengths, tolerance)
+                for gap in (GAP_MAX, 0):
+                    given = self.flat, lengths, tolerance
+                    self.refused(11, 0, kovrelna.report, EVEN, *given, gap=gap)
+                    self.refused(11, 0, kovrelna.report, [0] * 65, *given, gap=gap)
                 for ticks in (EVEN, [0] * 65):
                     runs = (ticks, self.flat, lengths), (EVEN, self.flat, [5])
                     self.refused(11, 0, kovrelna.pedestals, *runs, tolerance, 1)
@@ -494,9 +635,9 @@ class Words(Case):
 
     flat = [0] * 5
 
-    def says(self, number, words, call, *arguments):
+    def says(self, number, words, call, *arguments, **limits):
         with self.assertRaises(Refusal) as caught:
-            call(*arguments)
+            call(*arguments, **limits)
         refusal = caught.exception
         self.assertIsInstance(refusal, ValueError)
         for copy in (refusal, pickle.loads(pickle.dumps(refusal))):
@@ -613,6 +754,37 @@ class Words(Case):
         words = "the allowance must be from 2 to 4,096, not 1"
         self.says(5, words, kovrelna.least, EVEN, self.flat, 1)
 
+    def test_gaps(self):
+        for gap in NO_GAPS:
+            words = f"the gap limit must be from 1 to 1,048,575, not {gap}"
+            for call in REDUCTIONS + (kovrelna.least,):
+                self.says(15, words, call, EVEN, self.flat, 2, gap=gap)
+            for call in (kovrelna.judge, kovrelna.write):
+                self.says(15, words, call, EVEN, self.flat, [0, 4], 1, gap=gap)
+            self.says(15, words, kovrelna.report, EVEN, self.flat, [5], 1, gap=gap)
+            self.says(15, words, kovrelna.check, RECORD, [0, 1, 3], [0, 1, 1], gap=gap)
+
+    def test_holes(self):
+        parts = [0, 9, 18, 19, 20, 30, 31]
+        for ticks, allowance, gap, fewest in [
+            (PARTS, 3, 7, 4),
+            (memoryview(array.array("I", parts)), 2, 8, 6),
+            (parts, 5, 8, 6),
+            (parts, 2, 9, 4),
+        ]:
+            more = f"has more samples than the allowance, {allowance}: the shortest has {fewest}"
+            words = f"every list that obeys the gap limit, {gap}, {more}"
+            self.says(16, words, kovrelna.least, ticks, [0] * len(ticks), allowance, gap=gap)
+        for kept, link, hole in [
+            ([0, 6], "link 0, from sample 0 to sample 6", "from tick 0 to tick 9"),
+            ([0, 1, 3, 6], "link 1, from sample 1 to sample 3", "from tick 9 to tick 18"),
+            ([0, 1, 2, 6], "link 2, from sample 2 to sample 6", "from tick 20 to tick 30"),
+        ]:
+            words = f"{link}, crosses the hole {hole}"
+            self.says(7, words, kovrelna.write, parts, [0] * 7, kept, 0, gap=8)
+        words = "link 0, from sample 0 to sample 2, is invalid at this tolerance"
+        self.says(7, words, kovrelna.write, parts, [0, 9, 0, 0, 0, 0, 0], [0, 2, 6], 0, gap=9)
+
     def test_long_numbers(self):
         for words, call, arguments in [
             ("the tolerance is not allowed", kovrelna.hold, (10**5000,)),
@@ -622,6 +794,8 @@ class Words(Case):
         ]:
             with self.assertRaisesRegex(Refusal, words):
                 call(*arguments)
+        with self.assertRaisesRegex(Refusal, "the gap limit must be from 1"):
+            kovrelna.walk(EVEN, self.flat, 1, gap=10**5000)
 
     def test_lists(self):
         for kept, words in [
@@ -681,6 +855,9 @@ class Longest(Case):
         runs = [(64 * ticks, 64 * part, [4096] * 64) for part in (values, flat)]
         self.assertEqual(kovrelna.pedestals(*runs, 4999, 16), (every, every))
         self.assertEqual(kovrelna.pedestals(*runs, 5000, 16), ([], every))
+        for call in REDUCTIONS:
+            self.assertEqual(kept_by(call, ticks, flat, 0, gap=255), list(range(4096)))
+            self.assertEqual(kept_by(call, ticks, flat, 0, gap=256), [0, 4095])
         # Plain lists: a channel may be longer than a trace.
         crate = kovrelna.report(range(10**5), [0] * 10**5, [10**5 - 4096, 4096], 0)
         self.assertEqual(crate, ([(0, 0, 0, 1), (4096, 2, 0, 0)], 4096, 2, 0))
@@ -1185,18 +1362,21 @@ class Numpy(NumpyArrays, Case):
         self.assertEqual(kovrelna.hold(numpy.float32(0.75)), Fraction(3, 4))
         self.assertEqual(kovrelna.hold(numpy.int64(3)), 3)
         self.assertEqual(list(kovrelna.walk(list(numpy.arange(5)), WAVE, 2)), [0, 2, 4])
+        for gap, kept in [(numpy.int32(7), [0, 2, 3, 5]), (numpy.uint64(8), [0, 5])]:
+            self.assertEqual(list(kovrelna.walk(PARTS, [0] * 6, 0, gap=gap)), kept)
+        self.refused(15, 0, kovrelna.walk, PARTS, [0] * 6, 0, gap=numpy.int64(-1))
 
 
-def answer(call, *arguments):
+def answer(call, *arguments, **limits):
     """What the call returns, or its refusal as a number and a value."""
     try:
-        return call(*arguments)
+        return call(*arguments, **limits)
     except (Refusal, reference.Refused) as refused:
         return "refused", refused.args[:2]
 
 
 class Reference(Case):
-    """Random traces, tolerances, runs, range tables and records beside the slow reference."""
+    """Random traces, limits, runs, range tables and records beside the slow reference."""
 
     def setUp(self):
         self.random = random.Random(1)
@@ -1230,6 +1410,13 @@ class Reference(Case):
             (("noise", x, y), Noise(x, y)),
         ][form]
 
+    def gap(self, ticks):
+        """A gap limit: at the distance of two neighbours, or one below or above it; none; sometimes
+        one that is refused."""
+        steps = [after - before for before, after in zip(ticks, ticks[1:])] or [1]
+        near = self.random.choice(steps) + self.random.choice([-1, -1, 0, 0, 1])
+        return self.random.choice([near] * 6 + [GAP_MAX, self.random.choice(NO_GAPS)])
+
     def kept(self, samples):
         """A kept list, sometimes one with a fault."""
         between = [k for k in range(1, samples - 1) if self.random.randrange(2)]
@@ -1239,39 +1426,85 @@ class Reference(Case):
         return kept
 
     def test_traces(self):
-        seen = set()
-        for _ in range(600):
+        seen, holes = set(), set()
+        for _ in range(900):
             (ticks, values), (form, tolerance) = self.trace(), self.tolerance()
+            gap = self.gap(ticks)
+            given = ticks, values, form, gap
             room = self.random.choice([8, 8, len(ticks), len(ticks) - 1])
             out = array.array("H", [999] * max(room, 0))
             for call in (kovrelna.walk, kovrelna.minimum, kovrelna.gallop):
-                expected = answer(getattr(reference, call.__name__), ticks, values, form, len(out))
-                found = answer(call, ticks, values, tolerance, out)
+                expected = answer(getattr(reference, call.__name__), *given, len(out))
+                found = answer(call, ticks, values, tolerance, out, gap=gap)
                 seen.add(expected[1][0] if expected[0] == "refused" else 0)
                 if expected[0] != "refused":
+                    holes.update(self.holes(ticks, gap))
                     if call is kovrelna.gallop:
                         found = list(found.kept), found.probes
                         stops = zip(found[0], found[0][1:])
                         total = sum(2 * (j - i).bit_length() - 1 for i, j in stops)
-                        self.assertEqual(found[1], total, (ticks, values, form))
+                        self.assertEqual(found[1], total, given)
                     else:
                         found = list(found)
-                self.assertEqual(found, expected, (call.__name__, ticks, values, form))
+                self.assertEqual(found, expected, (call.__name__, *given))
             allowance = self.random.choice([1, 2, 2, 3, 4, 5, 4096, 4097])
-            expected = answer(reference.least, ticks, values, allowance, len(out))
-            found = answer(kovrelna.least, ticks, values, allowance, out)
+            expected = answer(reference.least, ticks, values, gap, allowance, len(out))
+            found = answer(kovrelna.least, ticks, values, allowance, out, gap=gap)
             seen.add(expected[1][0] if expected[0] == "refused" else 0)
             if expected[0] != "refused":
                 found = list(found.kept), found.error
-            self.assertEqual(found, expected, ("least", ticks, values, allowance))
+            self.assertEqual(found, expected, ("least", ticks, values, gap, allowance))
             kept = self.kept(max(len(ticks), 1))
-            expected = answer(reference.judge, ticks, values, kept, form)
-            found = answer(kovrelna.judge, ticks, values, kept, tolerance)
+            expected = answer(reference.judge, ticks, values, kept, form, gap)
+            found = answer(kovrelna.judge, ticks, values, kept, tolerance, gap=gap)
             if isinstance(found, Verdict):
                 self.assertEqual(found.passed, found.link is None)
                 found = found.link
-            self.assertEqual(found, expected, (ticks, values, kept, form))
-        self.assertEqual(seen, {0, 1, 2, 3, 4, 5, 10})
+            self.assertEqual(found, expected, (kept, *given))
+        self.assertEqual(seen, {0, 1, 2, 3, 4, 5, 10, 15, 16})
+        self.assertEqual(holes, {"at", "above", "first", "last", "in a row"})
+
+    def holes(self, ticks, gap):
+        """What the trace has: neighbours that lie exactly the gap limit apart, or one tick more; a
+        hole at the first step, at the last one, or two in a row."""
+        steps = [after - before for before, after in zip(ticks, ticks[1:])]
+        far = [step > gap for step in steps]
+        found = {
+            "at": gap in steps,
+            "above": gap + 1 in steps,
+            "first": far[:1] == [True],
+            "last": far[-1:] == [True],
+            "in a row": any(map(operator.and_, far, far[1:])),
+        }
+        return {name for name in found if found[name]}
+
+    def test_long_traces(self):
+        """Holes after every second sample, or after some or none of up to 200."""
+        counts = set()
+        for _ in range(24):
+            samples, gap = self.random.randint(60, 200), self.random.choice([3, 50])
+            often = self.random.choice([0.5, 0.1, 0.02, 0.01])
+            ticks = [self.random.choice([0, 2**32 - 50000])]
+            for _ in range(samples - 1):
+                far = gap + 1 if self.random.random() < often else self.random.randint(1, gap)
+                ticks.append(ticks[-1] + far)
+            values = [self.random.randint(-2, 2) for _ in ticks]
+            form, tolerance = self.random.choice([(("counts", x), x) for x in (0.0, 1.0, 2.5)])
+            given = ticks, values, form, gap
+            walked = kept_by(kovrelna.walk, ticks, values, tolerance, gap=gap)
+            self.assertEqual(walked, reference.walk(*given, samples), given)
+            galloped = kovrelna.gallop(ticks, values, tolerance, gap=gap)
+            expected = reference.gallop(*given, samples)
+            self.assertEqual((list(galloped.kept), galloped.probes), expected, given)
+            shortest = kept_by(kovrelna.minimum, ticks, values, tolerance, gap=gap)
+            bound = reference.held(form)
+            self.assertTrue(reference.valid(ticks, values, shortest, bound, gap), given)
+            self.assertLessEqual(len(shortest), min(len(walked), len(galloped.kept)))
+            for kept in (walked, shortest, [0, samples - 1]):
+                link = reference.judge(ticks, values, kept, form, gap)
+                self.assertEqual(kovrelna.judge(ticks, values, kept, tolerance, gap=gap).link, link)
+            counts.add(sum(b - a > gap for a, b in zip(ticks, ticks[1:])))
+        self.assertTrue({0, 1, 2} & counts and max(counts) > 50, counts)
 
     def crate(self):
         """A crate, sometimes one with channels or lengths that are at fault."""
@@ -1293,13 +1526,14 @@ class Reference(Case):
         seen, rows = set(), set()
         for _ in range(600):
             (ticks, values, lengths), (form, tolerance) = self.crate(), self.tolerance()
-            expected = answer(reference.report, ticks, values, lengths, form, len(lengths))
-            found = answer(kovrelna.report, ticks, values, lengths, tolerance)
-            self.assertEqual(found, expected, (ticks, values, lengths, form))
+            gap = self.gap(ticks[:8])
+            expected = answer(reference.report, ticks, values, lengths, form, gap, len(lengths))
+            found = answer(kovrelna.report, ticks, values, lengths, tolerance, gap=gap)
+            self.assertEqual(found, expected, (ticks, values, lengths, form, gap))
             refused = expected[0] == "refused"
             seen.add(expected[1][0] if refused else 0)
             rows.update([] if refused else [row[3] for row in expected[0]])
-        self.assertEqual((seen, rows), ({0, 4, 11}, {0, 1, 2, 3}))
+        self.assertEqual((seen, rows), ({0, 4, 11, 15}, {0, 1, 2, 3}))
 
     def run_of(self, lengths):
         """A run of channels with so many samples, sometimes one with faults."""
@@ -1401,19 +1635,19 @@ class Reference(Case):
         seen = set()
         for _ in range(600):
             (ticks, values), (form, tolerance) = self.trace(), self.tolerance()
-            kept = self.kept(max(len(ticks), 1))
+            kept, gap = self.kept(max(len(ticks), 1)), self.gap(ticks)
             size, place = self.random.randrange(70), self.random.choice([0, 3, 80])
-            expected = answer(reference.write, ticks, values, kept, form, max(size - place, 0))
+            expected = answer(reference.write, ticks, values, kept, form, gap, max(size - place, 0))
             event = bytearray(b"\xa5" * size)
-            found = answer(kovrelna.write, ticks, values, kept, tolerance, event, place)
+            found = answer(kovrelna.write, ticks, values, kept, tolerance, event, place, gap=gap)
             seen.add(expected[1][0] if expected[0] == "refused" else 0)
             after = b"\xa5" * size
             if expected[0] != "refused":
                 found = bytes(found)
                 after = after[:place] + expected + after[place + len(expected) :]
-            self.assertEqual(found, expected, (ticks, values, kept, form))
+            self.assertEqual(found, expected, (ticks, values, kept, form, gap))
             self.assertEqual(event, after)
-        self.assertEqual(seen, {0, 1, 2, 3, 4, 6, 7, 10})
+        self.assertEqual(seen, {0, 1, 2, 3, 4, 6, 7, 10, 15})
 
     def damaged(self, record):
         """The record with one change, which may leave it whole."""
@@ -1433,7 +1667,7 @@ class Reference(Case):
         records, seen = [RECORD], set()
         while len(records) < 300:
             (ticks, values), (form, _) = self.trace(), self.tolerance()
-            record = answer(reference.write, ticks, values, range(len(ticks)), form, 99)
+            record = answer(reference.write, ticks, values, range(len(ticks)), form, GAP_MAX, 99)
             if isinstance(record, bytes):
                 records.append(record)
         for record in records:
@@ -1464,6 +1698,13 @@ class Checks(Case):
             checked = kovrelna.check(record, ticks, values)
             self.assertFalse(checked)
             self.assertIn(cause, checked.cause)
+        parts = kovrelna.write(PARTS, [0] * 6, [0, 2, 5], 0)
+        link = "link 1, from sample 2 at tick 2 to sample 5 at tick 12"
+        checked = kovrelna.check(parts, PARTS, [0] * 6, gap=7)
+        self.assertEqual(checked.cause, f"{link}, crosses the hole from tick 2 to tick 10")
+        self.assertTrue(kovrelna.check(parts, PARTS, [0] * 6, gap=8))
+        checked = kovrelna.check(parts, PARTS, [0, 0, 0, 0, 1, 0], gap=8)
+        self.assertEqual(checked.cause, f"{link}, is not within 0")
         later = kovrelna.write([1, 2], [3, 0], [0, 1], 2)
         cause = "the first sample of the trace, at tick 0, is not kept"
         self.assertEqual(kovrelna.check(later, [0, 1, 2], [0, 3, 0]).cause, cause)
@@ -1475,18 +1716,27 @@ class Checks(Case):
         self.refused(1, 0, kovrelna.check, RECORD, [0, 1, 3], [0, 1])
         self.refused(2, 1, kovrelna.check, RECORD, [0, 0, 3], [0, 1, 1])
         self.refused(3, 2, kovrelna.check, RECORD, [0, 1, 1_048_576], [0, 1, 1])
+        for gap in NO_GAPS:
+            self.refused(8, 0, kovrelna.check, b"", [], [], gap=gap)
+            self.refused(1, 0, kovrelna.check, RECORD, [0, 1, 3], [0, 1], gap=gap)
+            self.refused(2, 1, kovrelna.check, RECORD, [0, 0, 3], [0, 1, 1], gap=gap)
+            self.refused(3, 2, kovrelna.check, RECORD, [0, 1, 1_048_576], [0, 1, 1], gap=gap)
+            self.refused(15, 0, kovrelna.check, RECORD, [0, 1, 3], [0, 1, 1], gap=gap)
+            self.refused(15, 0, kovrelna.check, RECORD, [7], [7], gap=gap)
 
     def test_every_list(self):
         """Of every list of every kept sample, passed exactly if judge passes it."""
-        for size in range(1, 6):
-            ticks, values = EVEN[:size], ZIGZAG[:size]
+        uneven = [0, 1, 3, 4, 6]
+        for size, gap in itertools.product(range(1, 6), (1, 2, GAP_MAX)):
+            ticks, values = uneven[:size], ZIGZAG[:size]
             for between in itertools.product([False, True], repeat=max(size - 2, 0)):
                 kept = [0] + [k + 1 for k, keep in enumerate(between) if keep]
                 kept += [size - 1] * (size > 1)
                 samples = [ticks[k] for k in kept], [values[k] for k in kept]
                 record = kovrelna.write(*samples, range(len(kept)), 2)
-                passed = kovrelna.judge(ticks, values, kept, 2).passed
-                self.assertEqual(kovrelna.check(record, ticks, values).passed, passed, kept)
+                passed = kovrelna.judge(ticks, values, kept, 2, gap=gap).passed
+                checked = kovrelna.check(record, ticks, values, gap=gap)
+                self.assertEqual(checked.passed, passed, (kept, gap))
 
 
 class Loading(unittest.TestCase):

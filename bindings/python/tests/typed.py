@@ -22,11 +22,14 @@ kovrelna.walk(ticks, values, 1)
 kovrelna.walk(array.array("I", ticks), memoryview(b""), Fraction(1, 10), array.array("H"))
 kovrelna.gallop(Array(), Array(), Counts(2.5), Array()).kept.tolist()
 kovrelna.minimum(range(3), b"", Noise(1.5, 2.125))
+kovrelna.minimum(ticks, values, 1, array.array("H"), gap=kovrelna.GAP_MAX).tolist()
 kovrelna.judge(ticks, values, kept, Ratio(1, 10)).link
+kovrelna.judge(ticks, values, kept, 1, gap=7).link
 kovrelna.least(ticks, values, 2).error.denominator
+kovrelna.least(ticks, values, 2, gap=True).kept.tolist()
 kovrelna.report(ticks, values, kept, 1).rows[0].error.denominator
 kovrelna.report(Array(), Array(), Array(), 1).kept.bit_length()
-kovrelna.report(ticks, values, (n for n in ticks), 1).error.denominator
+kovrelna.report(ticks, values, (n for n in ticks), 1, gap=7).error.denominator
 run = kovrelna.Run(ticks, values, kept)
 kovrelna.pedestals(run, (Array(), Array(), Array()), 0.5, 2).moved[0].bit_length()
 kovrelna.pedestals((array.array("I"), b"", (n for n in ticks)), run, 1, True).noisy.index(1)
@@ -34,12 +37,16 @@ kovrelna.expand(b"", numpy=True)
 kovrelna.expand_with(b"", values, array.array("h"))
 kovrelna.expand_with(Array(), Array(), numpy=True)
 kovrelna.write(ticks, values, kept, 0.5).hex()
+kovrelna.write(ticks, values, kept, 0.5, gap=7).hex()
 kovrelna.write(ticks, values, kept, 0.5, bytearray(40), 8)
+kovrelna.write(ticks, values, kept, 0.5, bytearray(40), gap=7)
 kovrelna.read(b"", numpy=True).tolerance.denominator
 kovrelna.same(b"", bytearray()) is True
 kovrelna.check(b"", Array(), values).cause
+kovrelna.check(b"", ticks, values, gap=7).cause
 kovrelna.hold(1).numerator
 kovrelna.__version__.split(".")
+kovrelna.GAP_MAX.bit_length()
 
 kovrelna.walk("junk", values, 1)  # type: ignore[arg-type]
 kovrelna.walk(ticks, {}, 1)  # type: ignore[arg-type]
@@ -48,9 +55,12 @@ kovrelna.walk(ticks, values)  # type: ignore[call-arg]
 kovrelna.walk(ticks, values, "1/10")  # type: ignore[arg-type]
 kovrelna.walk(ticks, values, (1, 10))  # type: ignore[arg-type]
 kovrelna.walk(ticks, values, 1, [0, 0, 0])  # type: ignore[arg-type]
+kovrelna.walk(ticks, values, 1, gap=7.0)  # type: ignore[arg-type]
+kovrelna.gallop(ticks, values, 1, gap="7")  # type: ignore[arg-type]
 kovrelna.gallop(ticks, values, 1).samples  # type: ignore[attr-defined]
 kovrelna.judge(ticks, values, None, 1)  # type: ignore[arg-type]
 kovrelna.least(ticks, values, 2.0)  # type: ignore[arg-type]
+kovrelna.least(ticks, values, 2, gap=None)  # type: ignore[arg-type]
 kovrelna.report(ticks, values, "31", 1)  # type: ignore[arg-type]
 kovrelna.report(ticks, values, 3, 1)  # type: ignore[arg-type]
 kovrelna.report(ticks, values, [3], 1).rows.samples  # type: ignore[attr-defined]
@@ -69,3 +79,4 @@ kovrelna.read(7)  # type: ignore[arg-type]
 kovrelna.same(b"", None)  # type: ignore[arg-type]
 kovrelna.check(b"", ticks)  # type: ignore[call-arg]
 kovrelna.hold(None)  # type: ignore[arg-type]
+kovrelna.hold(1, gap=7)  # type: ignore[call-arg]

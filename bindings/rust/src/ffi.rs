@@ -18,6 +18,12 @@ pub struct Tolerance {
 }
 
 #[repr(C)]
+pub struct Limits {
+    pub tolerance: Tolerance,
+    pub gap: u32,
+}
+
+#[repr(C)]
 pub struct Held {
     pub number: u32,
     pub value: u64,
@@ -82,14 +88,14 @@ extern "C" {
         values_len: usize,
         list: *const u16,
         list_len: usize,
-        tolerance: Tolerance,
+        limits: Limits,
     ) -> Verdict;
     fn kovrelna_walk(
         ticks: *const u32,
         ticks_len: usize,
         values: *const i16,
         values_len: usize,
-        tolerance: Tolerance,
+        limits: Limits,
         out: *mut u16,
         out_len: usize,
     ) -> Answer;
@@ -98,7 +104,7 @@ extern "C" {
         ticks_len: usize,
         values: *const i16,
         values_len: usize,
-        tolerance: Tolerance,
+        limits: Limits,
         out: *mut u16,
         out_len: usize,
     ) -> Galloped;
@@ -107,7 +113,7 @@ extern "C" {
         ticks_len: usize,
         values: *const i16,
         values_len: usize,
-        tolerance: Tolerance,
+        limits: Limits,
         out: *mut u16,
         out_len: usize,
     ) -> Answer;
@@ -116,6 +122,7 @@ extern "C" {
         ticks_len: usize,
         values: *const i16,
         values_len: usize,
+        gap: u32,
         allowance: u64,
         out: *mut u16,
         out_len: usize,
@@ -137,7 +144,7 @@ extern "C" {
         values_len: usize,
         list: *const u16,
         list_len: usize,
-        tolerance: Tolerance,
+        limits: Limits,
         buffer: *mut u8,
         buffer_len: usize,
         place: usize,
@@ -163,7 +170,7 @@ extern "C" {
         values_len: usize,
         lengths: *const usize,
         lengths_len: usize,
-        tolerance: Tolerance,
+        limits: Limits,
         out: *mut Summary,
         out_len: usize,
     ) -> Report;
@@ -198,7 +205,7 @@ pub fn hold(tolerance: Tolerance) -> Held {
     unsafe { kovrelna_hold(tolerance) }
 }
 
-pub fn judge(ticks: &[u32], values: &[i16], list: &[u16], tolerance: Tolerance) -> Verdict {
+pub fn judge(ticks: &[u32], values: &[i16], list: &[u16], limits: Limits) -> Verdict {
     // SAFETY: as above; there is no output.
     unsafe {
         kovrelna_judge(
@@ -208,21 +215,21 @@ pub fn judge(ticks: &[u32], values: &[i16], list: &[u16], tolerance: Tolerance) 
             values.len(),
             list.as_ptr(),
             list.len(),
-            tolerance,
+            limits,
         )
     }
 }
 
 /// A reduction as it is declared above, with its answer.
 type Reduction<A> =
-    unsafe extern "C" fn(*const u32, usize, *const i16, usize, Tolerance, *mut u16, usize) -> A;
+    unsafe extern "C" fn(*const u32, usize, *const i16, usize, Limits, *mut u16, usize) -> A;
 
 /// Lends the slices to a reduction. `reduction` is one of those declared above.
 fn reduce<A>(
     reduction: Reduction<A>,
     ticks: &[u32],
     values: &[i16],
-    tolerance: Tolerance,
+    limits: Limits,
     out: &mut [u16],
 ) -> A {
     // SAFETY: as above; the output is `out`.
@@ -232,26 +239,26 @@ fn reduce<A>(
             ticks.len(),
             values.as_ptr(),
             values.len(),
-            tolerance,
+            limits,
             out.as_mut_ptr(),
             out.len(),
         )
     }
 }
 
-pub fn walk(ticks: &[u32], values: &[i16], tolerance: Tolerance, out: &mut [u16]) -> Answer {
-    reduce(kovrelna_walk, ticks, values, tolerance, out)
+pub fn walk(ticks: &[u32], values: &[i16], limits: Limits, out: &mut [u16]) -> Answer {
+    reduce(kovrelna_walk, ticks, values, limits, out)
 }
 
-pub fn gallop(ticks: &[u32], values: &[i16], tolerance: Tolerance, out: &mut [u16]) -> Galloped {
-    reduce(kovrelna_gallop, ticks, values, tolerance, out)
+pub fn gallop(ticks: &[u32], values: &[i16], limits: Limits, out: &mut [u16]) -> Galloped {
+    reduce(kovrelna_gallop, ticks, values, limits, out)
 }
 
-pub fn minimum(ticks: &[u32], values: &[i16], tolerance: Tolerance, out: &mut [u16]) -> Answer {
-    reduce(kovrelna_minimum, ticks, values, tolerance, out)
+pub fn minimum(ticks: &[u32], values: &[i16], limits: Limits, out: &mut [u16]) -> Answer {
+    reduce(kovrelna_minimum, ticks, values, limits, out)
 }
 
-pub fn least(ticks: &[u32], values: &[i16], allowance: u64, out: &mut [u16]) -> Least {
+pub fn least(ticks: &[u32], values: &[i16], gap: u32, allowance: u64, out: &mut [u16]) -> Least {
     // SAFETY: as above; the output is `out`.
     unsafe {
         kovrelna_least(
@@ -259,6 +266,7 @@ pub fn least(ticks: &[u32], values: &[i16], allowance: u64, out: &mut [u16]) -> 
             ticks.len(),
             values.as_ptr(),
             values.len(),
+            gap,
             allowance,
             out.as_mut_ptr(),
             out.len(),
@@ -289,7 +297,7 @@ pub fn write(
     ticks: &[u32],
     values: &[i16],
     list: &[u16],
-    tolerance: Tolerance,
+    limits: Limits,
     buffer: &mut [u8],
     place: usize,
 ) -> Answer {
@@ -302,7 +310,7 @@ pub fn write(
             values.len(),
             list.as_ptr(),
             list.len(),
-            tolerance,
+            limits,
             buffer.as_mut_ptr(),
             buffer.len(),
             place,
@@ -333,7 +341,7 @@ pub fn report(
     ticks: &[u32],
     values: &[i16],
     lengths: &[usize],
-    tolerance: Tolerance,
+    limits: Limits,
     out: &mut [Summary],
 ) -> Report {
     // SAFETY: as above; the output is `out`, whose entries are laid out as C's.
@@ -345,7 +353,7 @@ pub fn report(
             values.len(),
             lengths.as_ptr(),
             lengths.len(),
-            tolerance,
+            limits,
             out.as_mut_ptr(),
             out.len(),
         )

@@ -1,6 +1,7 @@
 //! Reduced traces: a safe interface to the proved library Kovrelna.
 //!
 //! - [`Tolerance`], [`Ratio`], [`hold`]: a tolerance, and the reduced ratio it is held as.
+//! - [`Limits`], [`GAP_MAX`]: a tolerance with a gap limit, which is what a link is asked to meet.
 //! - [`Verdict`], [`judge`]: whether every link of a proposed list is valid.
 //! - [`walk`], [`Galloped`], [`gallop`], [`minimum`]: kept lists with every link valid.
 //! - [`Least`], [`least`]: the least error that a list of so many samples can have.
@@ -15,8 +16,12 @@
 //!
 //! A link goes from sample i to a later sample j. Its deviation at a sample k between them is the
 //! vertical distance from value k to the straight line through samples i and j, an exact fraction.
-//! The link's error is the greatest of these, 0 where nothing lies between. A link is valid if its
-//! error is at most the tolerance; equality is valid.
+//! The link's error is the greatest of these, 0 where nothing lies between.
+//!
+//! A hole is two neighbouring samples that lie more ticks apart than the gap limit. A link obeys the
+//! gap limit if it goes one step, from sample i to i+1, or crosses no hole. It is valid if it obeys the
+//! gap limit and its error is at most the tolerance; equality is valid. So a link of one step is always
+//! valid, and a longer one never if it crosses a hole.
 //!
 //! A kept list begins with sample 0, rises strictly and ends with the last sample. Its links join
 //! neighbouring entries and are counted from 0.
@@ -58,8 +63,12 @@ pub enum Refusal {
     Span(usize),
     /// 4: the tolerance is not allowed.
     Tolerance,
+    /// 15: the gap limit is below 1 or above 1,048,575.
+    Gap,
     /// 5: the allowance is below 2 or above 4,096.
     Allowance,
+    /// 16: every kept list that obeys the gap limit has more samples than the allowance.
+    Holes,
     /// 6: the proposed list is no kept list. The position of the first bad entry (a first one that
     /// is not 0, one that is not above the entry before it, one beyond the trace); the list's length
     /// if it only stops short; 0 if it is empty.
@@ -93,14 +102,16 @@ pub enum Refusal {
 }
 
 impl Refusal {
-    /// The refusal's number, 1 to 14.
+    /// The refusal's number, 1 to 16.
     pub fn number(self) -> u32 {
         match self {
             Refusal::Length => 1,
             Refusal::Tick(_) => 2,
             Refusal::Span(_) => 3,
             Refusal::Tolerance => 4,
+            Refusal::Gap => 15,
             Refusal::Allowance => 5,
+            Refusal::Holes => 16,
             Refusal::List(_) => 6,
             Refusal::Link(_) => 7,
             Refusal::Record(_) => 8,
@@ -119,7 +130,9 @@ impl Refusal {
         match self {
             Refusal::Length
             | Refusal::Tolerance
+            | Refusal::Gap
             | Refusal::Allowance
+            | Refusal::Holes
             | Refusal::Crate
             | Refusal::Factor => 0,
             Refusal::Tick(value)
@@ -154,6 +167,8 @@ impl Refusal {
             12 => Refusal::Table(value),
             13 => Refusal::Samples(value),
             14 => Refusal::Factor,
+            15 => Refusal::Gap,
+            16 => Refusal::Holes,
             _ => unreachable!("there is no refusal {number}"),
         })
     }
@@ -183,7 +198,14 @@ impl fmt::Display for Refusal {
                 write!(f, "sample {sample} is over 1,048,575 ticks after the first")
             }
             Refusal::Tolerance => write!(f, "the tolerance is not allowed"),
+            Refusal::Gap => write!(f, "the gap limit is below 1 or above 1,048,575"),
             Refusal::Allowance => write!(f, "the allowance is below 2 or above 4,096"),
+            Refusal::Holes => {
+                write!(
+                    f,
+                    "every list that obeys the gap limit has more samples than the allowance"
+                )
+            }
             Refusal::List(position) => {
                 write!(
                     f,
@@ -251,6 +273,16 @@ pub enum Tolerance {
     },
 }
 
+impl Tolerance {
+    /// This tolerance with a gap limit.
+    pub fn with_gap(self, gap: u32) -> Limits {
+        Limits {
+            tolerance: self,
+            gap,
+        }
+    }
+}
+
 impl From<Tolerance> for ffi::Tolerance {
     fn from(tolerance: Tolerance) -> Self {
         let (form, p, q, x, y) = match tolerance {
@@ -297,6 +329,45 @@ pub fn hold(tolerance: Tolerance) -> Result<Ratio, Refusal> {
     })
 }
 
+/// The largest gap limit, which is none: no two samples of a trace lie further apart.
+pub const GAP_MAX: u32 = 1_048_575;
+
+/// What a link is asked to meet: a tolerance, and a gap limit from 1 to [`GAP_MAX`] ticks. Exactly so
+/// many ticks apart is no hole. Other gap limits are refused as [`Refusal::Gap`]. A tolerance alone is
+/// one without a gap limit; [`Tolerance::with_gap`] gives it one.
+///
+/// ```
+/// use kovrelna::{Limits, Tolerance, GAP_MAX};
+///
+/// let two = Tolerance::Counts(2.0);
+/// assert_eq!(two.with_gap(7), Limits { tolerance: two, gap: 7 });
+/// assert_eq!(Limits::from(two), two.with_gap(GAP_MAX));
+/// ```
+#[derive(Clone, Copy, Debug, PartialEq)]
+pub struct Limits {
+    /// The tolerance.
+    pub tolerance: Tolerance,
+    /// The gap limit.
+    pub gap: u32,
+}
+
+impl From<Tolerance> for Limits {
+    fn from(tolerance: Tolerance) -> Self {
+        tolerance.with_gap(GAP_MAX)
+    }
+}
+
+impl ffi::Limits {
+    /// The limits as C takes them.
+    fn of(limits: impl Into<Limits>) -> Self {
+        let Limits { tolerance, gap } = limits.into();
+        ffi::Limits {
+            tolerance: tolerance.into(),
+            gap,
+        }
+    }
+}
+
 /// What [`judge`] says of a kept list.
 #[derive(Clone, Copy, Debug, PartialEq, Eq, Hash)]
 pub enum Verdict {
@@ -310,7 +381,7 @@ pub enum Verdict {
 }
 
 /// Whether every link of the proposed list is valid on this trace. Refusals: [`Refusal::Length`],
-/// [`Refusal::Tick`], [`Refusal::Span`], [`Refusal::Tolerance`], [`Refusal::List`].
+/// [`Refusal::Tick`], [`Refusal::Span`], [`Refusal::Tolerance`], [`Refusal::Gap`], [`Refusal::List`].
 ///
 /// ```
 /// use kovrelna::{judge, Tolerance, Verdict};
@@ -319,14 +390,20 @@ pub enum Verdict {
 /// let two = Tolerance::Counts(2.0);
 /// assert_eq!(judge(&ticks, &values, &[0, 3, 4], two), Ok(Verdict::Within));
 /// assert_eq!(judge(&ticks, &values, &[0, 1, 2, 4], two), Ok(Verdict::Outside { link: 2 }));
+///
+/// // Samples 2 and 3 lie 8 ticks apart.
+/// let (ticks, values) = ([0, 1, 2, 10, 11, 12], [0; 6]);
+/// let list = [0, 2, 5];
+/// assert_eq!(judge(&ticks, &values, &list, two.with_gap(8)), Ok(Verdict::Within));
+/// assert_eq!(judge(&ticks, &values, &list, two.with_gap(7)), Ok(Verdict::Outside { link: 1 }));
 /// ```
 pub fn judge(
     ticks: &[u32],
     values: &[i16],
     list: &[u16],
-    tolerance: Tolerance,
+    limits: impl Into<Limits>,
 ) -> Result<Verdict, Refusal> {
-    let verdict = ffi::judge(ticks, values, list, tolerance.into());
+    let verdict = ffi::judge(ticks, values, list, ffi::Limits::of(limits));
     Refusal::check(verdict.number, verdict.value)?;
     Ok(match verdict.passed {
         0 => Verdict::Outside {
@@ -340,11 +417,11 @@ pub fn judge(
 /// first invalid one, or the last sample if none is invalid; goes on from there.
 ///
 /// Returns the kept number: the first that many entries of `out` are the kept list, and those after
-/// them are as they were. No kept list whose links are all valid at half the tolerance has fewer
-/// samples.
+/// them are as they were. No kept list whose links are all valid at half the tolerance under the same
+/// gap limit has fewer samples; one that does not obey the gap limit may have fewer.
 ///
-/// Refusals: [`Refusal::Length`], [`Refusal::Tick`], [`Refusal::Span`], [`Refusal::Tolerance`], and
-/// [`Refusal::Room`] if `out` has fewer entries than the trace has samples.
+/// Refusals: [`Refusal::Length`], [`Refusal::Tick`], [`Refusal::Span`], [`Refusal::Tolerance`],
+/// [`Refusal::Gap`], and [`Refusal::Room`] if `out` has fewer entries than the trace has samples.
 ///
 /// ```
 /// use kovrelna::{walk, Refusal, Tolerance};
@@ -355,14 +432,23 @@ pub fn judge(
 /// assert_eq!(walk(&ticks, &values, two, &mut out), Ok(3));
 /// assert_eq!(out, [0, 2, 4, 9, 9, 9]);
 /// assert_eq!(walk(&ticks, &values, two, &mut out[..4]), Err(Refusal::Room(5)));
+///
+/// // Samples 2 and 3 lie 8 ticks apart.
+/// let (ticks, values) = ([0, 1, 2, 10, 11, 12], [0; 6]);
+/// let mut out = [9; 6];
+/// assert_eq!(walk(&ticks, &values, two.with_gap(7), &mut out), Ok(4));
+/// assert_eq!(out, [0, 2, 3, 5, 9, 9]);
+/// assert_eq!(walk(&ticks, &values, two.with_gap(8), &mut out), Ok(2));
+/// assert_eq!(out[..2], [0, 5]);
+/// assert_eq!(walk(&ticks, &values, two.with_gap(0), &mut out), Err(Refusal::Gap));
 /// ```
 pub fn walk(
     ticks: &[u32],
     values: &[i16],
-    tolerance: Tolerance,
+    limits: impl Into<Limits>,
     out: &mut [u16],
 ) -> Result<usize, Refusal> {
-    ffi::walk(ticks, values, tolerance.into(), out).value()
+    ffi::walk(ticks, values, ffi::Limits::of(limits), out).value()
 }
 
 /// What [`gallop`] returns.
@@ -403,10 +489,10 @@ pub struct Galloped {
 pub fn gallop(
     ticks: &[u32],
     values: &[i16],
-    tolerance: Tolerance,
+    limits: impl Into<Limits>,
     out: &mut [u16],
 ) -> Result<Galloped, Refusal> {
-    let answer = ffi::gallop(ticks, values, tolerance.into(), out);
+    let answer = ffi::gallop(ticks, values, ffi::Limits::of(limits), out);
     Refusal::check(answer.number, answer.value)?;
     Ok(Galloped {
         kept: answer.value as usize,
@@ -433,10 +519,10 @@ pub fn gallop(
 pub fn minimum(
     ticks: &[u32],
     values: &[i16],
-    tolerance: Tolerance,
+    limits: impl Into<Limits>,
     out: &mut [u16],
 ) -> Result<usize, Refusal> {
-    ffi::minimum(ticks, values, tolerance.into(), out).value()
+    ffi::minimum(ticks, values, ffi::Limits::of(limits), out).value()
 }
 
 /// What [`least`] returns.
@@ -448,33 +534,46 @@ pub struct Least {
     pub error: Ratio,
 }
 
-/// The least error that a kept list of at most `allowance` samples has, where a list's error is that of
-/// its worst link; and the list that [`minimum`] keeps with that error as the tolerance.
+/// The least error over the kept lists of at most `allowance` samples that obey the gap limit, where a
+/// list's error is that of its worst link; and the list that [`minimum`] keeps with that error as the
+/// tolerance under the same gap limit. [`GAP_MAX`] is no gap limit.
 ///
-/// The first entries of `out` are the kept list, and those after them are as they were. No kept list of
-/// at most `allowance` samples has a lesser error.
+/// The first entries of `out` are the kept list, and those after them are as they were. No kept list
+/// that obeys the gap limit and has at most `allowance` samples has a lesser error.
 ///
 /// Refusals: [`Refusal::Length`] if the trace is none or has more than 256 samples, [`Refusal::Tick`],
-/// [`Refusal::Span`], [`Refusal::Allowance`] if the allowance is below 2 or above 4,096, and
-/// [`Refusal::Room`] if `out` has fewer entries than the trace has samples.
+/// [`Refusal::Span`], [`Refusal::Gap`], [`Refusal::Allowance`] if the allowance is below 2 or above
+/// 4,096, [`Refusal::Holes`], and [`Refusal::Room`] if `out` has fewer entries than the trace has
+/// samples. The shortest kept list that obeys the gap limit has both ends of the trace and the two
+/// samples beside each hole; [`Refusal::Holes`] is given exactly if it has more than `allowance`
+/// samples.
 ///
 /// ```
-/// use kovrelna::{least, Least, Ratio, Refusal};
+/// use kovrelna::{least, Least, Ratio, Refusal, GAP_MAX};
 ///
 /// let (ticks, values) = ([0, 1, 2, 3, 4], [0, 3, 0, 3, 0]);
 /// let mut out = [9; 5];
 /// let error = Ratio { p: 2, q: 1 };
-/// assert_eq!(least(&ticks, &values, 4, &mut out), Ok(Least { kept: 3, error }));
+/// assert_eq!(least(&ticks, &values, GAP_MAX, 4, &mut out), Ok(Least { kept: 3, error }));
 /// assert_eq!(out, [0, 3, 4, 9, 9]);
-/// assert_eq!(least(&ticks, &values, 1, &mut out), Err(Refusal::Allowance));
+/// assert_eq!(least(&ticks, &values, GAP_MAX, 1, &mut out), Err(Refusal::Allowance));
+///
+/// // Samples 2 and 3 lie 8 ticks apart.
+/// let (ticks, values) = ([0, 1, 2, 10, 11, 12], [0; 6]);
+/// let mut out = [9; 6];
+/// assert_eq!(least(&ticks, &values, 7, 3, &mut out), Err(Refusal::Holes));
+/// let error = Ratio { p: 0, q: 1 };
+/// assert_eq!(least(&ticks, &values, 7, 4, &mut out), Ok(Least { kept: 4, error }));
+/// assert_eq!(out, [0, 2, 3, 5, 9, 9]);
 /// ```
 pub fn least(
     ticks: &[u32],
     values: &[i16],
+    gap: u32,
     allowance: u64,
     out: &mut [u16],
 ) -> Result<Least, Refusal> {
-    let answer = ffi::least(ticks, values, allowance, out);
+    let answer = ffi::least(ticks, values, gap, allowance, out);
     Refusal::check(answer.number, answer.value)?;
     Ok(Least {
         kept: answer.value as usize,
@@ -546,12 +645,12 @@ pub fn expand_with(codes: &[u8], table: &[i16], out: &mut [i16]) -> Result<usize
 ///
 /// They come in the order 54, 41, any steps, 45, and nothing more. The tolerance is in lowest terms.
 /// A step is short exactly if its advance is at most 255 and its change from -128 to 127. A record has
-/// at most 24,589 bytes.
+/// at most 24,589 bytes. The gap limit is asked of the links and is not part of the record.
 ///
 /// Returns the record's length; the bytes before and after the record are as they were. Refusals:
 /// [`Refusal::Length`], [`Refusal::Tick`], [`Refusal::Span`], [`Refusal::Tolerance`],
-/// [`Refusal::List`], [`Refusal::Link`], and [`Refusal::Room`] with the record's length; from a place
-/// past the end of the buffer there is no room.
+/// [`Refusal::Gap`], [`Refusal::List`], [`Refusal::Link`], and [`Refusal::Room`] with the record's
+/// length; from a place past the end of the buffer there is no room.
 ///
 /// ```
 /// use kovrelna::{write, Refusal, Tolerance};
@@ -565,16 +664,18 @@ pub fn expand_with(codes: &[u8], table: &[i16], out: &mut [i16]) -> Result<usize
 /// assert_eq!(buffer[18..], [0x53, 3, 1, 0x45, 0, 2, 9]);
 /// let answer = write(&ticks, &values, &[0, 2], tolerance, &mut buffer, 4);
 /// assert_eq!(answer, Err(Refusal::Room(22)));
+/// let answer = write(&ticks, &values, &[0, 2], tolerance.with_gap(1), &mut buffer, 2);
+/// assert_eq!(answer, Err(Refusal::Link(0)));
 /// ```
 pub fn write(
     ticks: &[u32],
     values: &[i16],
     list: &[u16],
-    tolerance: Tolerance,
+    limits: impl Into<Limits>,
     buffer: &mut [u8],
     place: usize,
 ) -> Result<usize, Refusal> {
-    ffi::write(ticks, values, list, tolerance.into(), buffer, place).value()
+    ffi::write(ticks, values, list, ffi::Limits::of(limits), buffer, place).value()
 }
 
 /// What [`read`] returns.
@@ -673,12 +774,12 @@ pub struct Totals {
 /// the number of samples of each in `lengths`.
 ///
 /// The first entries of `out` are a summary for each channel, and those after them are as they were. A
-/// summary depends on the channel's own trace and on the tolerance alone. A channel that is no trace is
+/// summary depends on the channel's own trace and on the limits alone. A channel that is no trace is
 /// refused in its own summary and does not end the report.
 ///
 /// Refusals: [`Refusal::Crate`] if there are no channels, more than 64, or the lengths do not add up to
-/// the length of `ticks` and to that of `values`; then [`Refusal::Tolerance`]; then [`Refusal::Room`] if
-/// `out` has fewer entries than there are channels.
+/// the length of `ticks` and to that of `values`; then [`Refusal::Tolerance`]; then [`Refusal::Gap`];
+/// then [`Refusal::Room`] if `out` has fewer entries than there are channels.
 ///
 /// ```
 /// use kovrelna::{report, Ratio, Refusal, Summary, Tolerance, Totals};
@@ -703,10 +804,10 @@ pub fn report(
     ticks: &[u32],
     values: &[i16],
     lengths: &[usize],
-    tolerance: Tolerance,
+    limits: impl Into<Limits>,
     out: &mut [Summary],
 ) -> Result<Totals, Refusal> {
-    let answer = ffi::report(ticks, values, lengths, tolerance.into(), out);
+    let answer = ffi::report(ticks, values, lengths, ffi::Limits::of(limits), out);
     Refusal::check(answer.number, answer.value)?;
     Ok(Totals {
         samples: answer.samples as usize,

@@ -1,10 +1,11 @@
-// The reduction least: the least error over the kept lists of at most m samples (search), and the minimum's list at that error.
+// The reduction least: the least error over the kept lists of at most m samples that obey the gap limit (search), and the minimum's list at
+// that error.
 // A tolerance is tried by the minimum's list at it (tries); tolerances are chosen among fractions of bounded denominator (choices).
 ghost use mathlib.Core.Path.{_≡_};
 ghost use Prim.Native.Nat.{_≤_};
 ghost use lib.ListN.{length};
 ghost use Rattle.lists.specs.Overwrite.{Wrote};
-ghost use Rattle.trace.specs.Link.{Bounded, criterion};
+ghost use Rattle.trace.specs.Link.{Bounded, limited, criterion};
 ghost use Rattle.shortest.specs.Shortest.{minimumList};
 ghost use Rattle.closest.specs.Closest.{Task, leastError};
 use ratio::Ratio;
@@ -33,16 +34,17 @@ pub mod search;
 pub mod tries;
 
 // Writes the minimum's list at the least error over the front of `out`.
-pub fn least(ticks: &[u32], values: &[i16], m: usize, out: &mut [u16]) -> Found
-    requires { ⌜ Task (now ticks) (now values) m × (length (now ticks) ≤ length (now out)) ⌝ }
-    ensures error { λ r. ⌜ r .error ≡ leastError (now (ticks .entry)) (now (values .entry)) m ⌝ }
+pub fn least(ticks: &[u32], values: &[i16], gap: u32, m: usize, out: &mut [u16]) -> Found
+    requires { ⌜ Task (now ticks) (now values) gap m × (length (now ticks) ≤ length (now out)) ⌝ }
+    ensures error { λ r. ⌜ r .error ≡ leastError (now (ticks .entry)) (now (values .entry)) gap m ⌝ }
     ensures allowed { λ r. ⌜ Bounded (criterion (r .error)) ⌝ }
-    ensures list { λ r. ⌜ Wrote (minimumList (now (ticks .entry)) (now (values .entry)) (criterion (r .error))) (now (out .entry)) (r .kept) (now (out .exit)) ⌝ }
+    ensures list { λ r. ⌜ Wrote (minimumList (now (ticks .entry)) (now (values .entry)) (limited gap (r .error))) (now (out .entry)) (r .kept) (now (out .exit)) ⌝ }
 {
-    let error = search::least_error(ticks, values, m);
+    let error = search::least_error(ticks, values, gap, m);
     let c = Criterion {
         p: error.p,
         q: error.q,
+        gap,
     };
     let kept = shortest::minimum(ticks, values, c, out);
     Found { kept, error }

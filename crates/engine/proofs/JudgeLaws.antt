@@ -16,7 +16,7 @@ use Rattle.refusal.specs.declared.Checked.{Checked}
 use Rattle.refusal.specs.declared.Checked.the-variants.{Fine, Refused}
 use Rattle.refusal.proofs.TableLaws.{then-fine}
 use Rattle.kept.specs.Kept.{KeptList, AllValid}
-use Rattle.tolerance.specs.declared.Tolerance.{Tolerance}
+use Rattle.engine.specs.declared.Limits.{Limits}
 use Rattle.trace.specs.declared.Criterion.{Criterion}
 use Rattle.trace.specs.Link.{valid}
 use Rattle.proposed.specs.Proposed.{listRow, invalidAt, firstInvalid}
@@ -65,23 +65,23 @@ module _ (ts : List ℕ) (vs : List ℤ) (l : List ℕ) where
   unfolding judgedAt
   list-refused c h = rw h
 
-  pub common-fine : (t : Tolerance) → commonRows ts vs t ≡ Fine → judgedAt ts vs l (criterionOf t) ≡ judgeOf ts vs l t
+  pub common-fine : (t : Limits) → commonRows ts vs t ≡ Fine → judgedAt ts vs l (criterionOf t) ≡ judgeOf ts vs l t
   unfolding judgeOf judgeRows judgedAt
   common-fine t h = rw h
 
-  pub judge-refused : (t : Tolerance) {x : Refusal} → commonRows ts vs t ≡ Refused x → Declined x ≡ judgeOf ts vs l t
+  pub judge-refused : (t : Limits) {x : Refusal} → commonRows ts vs t ≡ Refused x → Declined x ≡ judgeOf ts vs l t
   unfolding judgeOf judgeRows
   judge-refused t h = rw h
 
   -- what the rows say of a list that none of them refuses
-  pub rows-kept : (t : Tolerance) → judgeRows ts vs l t ≡ Fine → KeptList (length ts - 1) l
+  pub rows-kept : (t : Limits) → judgeRows ts vs l t ≡ Fine → KeptList (length ts - 1) l
   unfolding judgeRows
   rows-kept t h =
       let a = then-fine (commonRows ts vs t) _ h in
       row-kept (common-trace ts vs t (a .0) .some) l .0 (a .1)
 
   -- demand 2: a list is passed exactly if each of its links is within the tolerance
-  pub judge-passes : (t : Tolerance) → judgeOf ts vs l t ≡ Yes ↔ (judgeRows ts vs l t ≡ Fine) × KeptList (length ts - 1) l × AllValid (valid ts vs (criterionOf t)) l
+  pub judge-passes : (t : Limits) → judgeOf ts vs l t ≡ Yes ↔ (judgeRows ts vs l t ≡ Fine) × KeptList (length ts - 1) l × AllValid (valid ts vs (criterionOf t)) l
   unfolding judgeOf
   judge-passes t = (
     λ e. let d = decline-fine {x = judgeRows ts vs l t} e in
@@ -90,5 +90,5 @@ module _ (ts : List ℕ) (vs : List ℤ) (l : List ℕ) where
   )
 
 -- the contract, from the answer
-pub judge-outcome : (ts : List ℕ) (vs : List ℤ) (l : List ℕ) (t : Tolerance) {r : Verdict} → r ≡ judgeOf ts vs l t → JudgeOutcome ts vs l t r
+pub judge-outcome : (ts : List ℕ) (vs : List ℤ) (l : List ℕ) (t : Limits) {r : Verdict} → r ≡ judgeOf ts vs l t → JudgeOutcome ts vs l t r
 judge-outcome ts vs l t e = record { is = e; passed = rw e (judge-passes ts vs l t) }

@@ -1,4 +1,4 @@
--- Laws of the checks 1 to 4.
+-- Laws of the checks 1 to 4 and 15.
 -- Assumes nothing.
 use mathlib.Core.Path.{_≡_}
 use mathlib.Core.List.{List}
@@ -9,48 +9,65 @@ use lib.ListN.{length}
 use borrow.Author.Tests.{le-leb, lt-leb}
 use Rattle.ratio.specs.declared.Ratio.{Ratio}
 use Rattle.refusal.specs.declared.Refusal.{Refusal}
-use Rattle.refusal.specs.declared.Refusal.the-variants.{Room}
+use Rattle.refusal.specs.declared.Refusal.the-variants.{Room, Tolerance, Gap}
 use Rattle.refusal.specs.declared.Checked.the-variants.{Fine, Refused}
 use Rattle.refusal.proofs.TableLaws.{then-fine}
-use Rattle.tolerance.specs.declared.Tolerance.{Tolerance}
-use Rattle.tolerance.specs.declared.Meaning.the-variants.{Exact}
+use Rattle.engine.specs.declared.Limits.{Limits}
+use Rattle.tolerance.specs.declared.Meaning.the-variants.{Exact, NotAllowed}
 use Rattle.tolerance.specs.Meaning.{meaning}
 use Rattle.tolerance.proofs.Meanings.{exact-held}
 use Rattle.trace.specs.declared.Criterion.{Criterion}
 use Rattle.trace.specs.Trace.{Trace, traceRows}
-use Rattle.trace.specs.Link.{criterion}
+use Rattle.trace.specs.Link.{limited}
 use Rattle.trace.proofs.TraceLaws.{rows-trace}
 use Rattle.engine.specs.declared.Ready.{Ready}
 use Rattle.engine.specs.declared.Ready.the-variants.{At, Refused as Declined}
-use Rattle.engine.specs.Prepare.{commonRows, criterionIn, criterionOf, Sets, Allowed, ReadyAt, Prepared, outputRows, OutputReady}
+use Rattle.engine.specs.Prepare.{gapRow, Under, commonRows, criterionIn, criterionOf, Sets, Allowed, ReadyAt, Prepared, outputRows, OutputReady}
 
--- an allowed tolerance sets the criterion of its ratio, within the bounds of an allowed one
-pub exact-sets : (t : Tolerance) {r : Ratio} → meaning t ≡ Exact r → Sets t (criterion r)
+pub gap-low : (g : ℕ) → g < 1 → Refused Gap ≡ gapRow g
+gap-low g h = rw (lt-leb 1 g h)
+
+pub gap-high : (g : ℕ) → 1 ≤ g → 1048575 < g → Refused Gap ≡ gapRow g
+gap-high g some h = rw (le-leb 1 g some, lt-leb g 1048575 h)
+
+pub gap-fine : (g : ℕ) → 1 ≤ g → g ≤ 1048575 → Fine ≡ gapRow g
+gap-fine g some h = rw (le-leb 1 g some, le-leb g 1048575 h)
+
+-- an allowed tolerance and an allowed gap limit set the criterion of its ratio under it, within the bounds of an allowed one
+pub exact-sets : (t : Limits) {r : Ratio} → meaning (t .tolerance) ≡ Exact r → gapRow (t .gap) ≡ Fine → Sets t (limited (t .gap) r)
 unfolding criterionOf criterionIn
-exact-sets t {r} e =
-    let h = exact-held t r e in
-    record { row = rw e; is = rw e; bounded = record { positive = h .positive; q-bound = h .q-bound; p-bound = h .p-bound } }
+exact-sets t {r} e fine =
+    let h = exact-held (t .tolerance) r e in
+    record { row = rw e fine; is = rw e; bounded = record { positive = h .positive; q-bound = h .q-bound; p-bound = h .p-bound } }
 
-pub common-trace : (ts : List ℕ) (vs : List ℤ) (t : Tolerance) → commonRows ts vs t ≡ Fine → Trace ts vs
+-- the gap limit is asked where the tolerance is allowed
+pub exact-allowed : (t : Limits) {r : Ratio} (x : Ready) → meaning (t .tolerance) ≡ Exact r → Under r (t .gap) x → Allowed t x
+exact-allowed t (At c) e u = rw (u .1) (exact-sets t e (u .0))
+exact-allowed t (Declined x) e u = rw e u
+
+pub not-exact : (t : Limits) → meaning (t .tolerance) ≡ NotAllowed → Allowed t (Declined Tolerance)
+not-exact t e = rw e
+
+pub common-trace : (ts : List ℕ) (vs : List ℤ) (t : Limits) → commonRows ts vs t ≡ Fine → Trace ts vs
 unfolding commonRows
 common-trace ts vs t e = rows-trace 4096 ts vs (omega arith) (then-fine (traceRows 4096 ts vs) _ e .0) .0
 
--- the tolerance is asked where the trace passes
-pub sets-ready : (ts : List ℕ) (vs : List ℤ) (t : Tolerance) {c : Criterion} → traceRows 4096 ts vs ≡ Fine → Sets t c → ReadyAt ts vs t c
+-- the limits are asked where the trace passes
+pub sets-ready : (ts : List ℕ) (vs : List ℤ) (t : Limits) {c : Criterion} → traceRows 4096 ts vs ≡ Fine → Sets t c → ReadyAt ts vs t c
 unfolding commonRows
 sets-ready ts vs t e a = record { rows = rw e (a .row); trace = rows-trace 4096 ts vs (omega arith) e .0; is = a .is; bounded = a .bounded }
 
-pub trace-fine : (ts : List ℕ) (vs : List ℤ) (t : Tolerance) (r : Ready) → traceRows 4096 ts vs ≡ Fine → Allowed t r → Prepared ts vs t r
+pub trace-fine : (ts : List ℕ) (vs : List ℤ) (t : Limits) (r : Ready) → traceRows 4096 ts vs ≡ Fine → Allowed t r → Prepared ts vs t r
 unfolding commonRows
 trace-fine ts vs t (At c) e a = sets-ready ts vs t e a
 trace-fine ts vs t (Declined x) e a = rw e a
 
-pub trace-refused : (ts : List ℕ) (vs : List ℤ) (t : Tolerance) {x : Refusal} → traceRows 4096 ts vs ≡ Refused x → commonRows ts vs t ≡ Refused x
+pub trace-refused : (ts : List ℕ) (vs : List ℤ) (t : Limits) {x : Refusal} → traceRows 4096 ts vs ≡ Refused x → commonRows ts vs t ≡ Refused x
 unfolding commonRows
 trace-refused ts vs t e = rw e
 
--- room is asked where the checks 1 to 4 pass
-module _ (ts : List ℕ) (vs : List ℤ) (t : Tolerance) (room : ℕ) where
+-- room is asked where the checks 1 to 4 and 15 pass
+module _ (ts : List ℕ) (vs : List ℤ) (t : Limits) (room : ℕ) where
   pub room-refused : {n : ℕ} → n ≡ length ts → commonRows ts vs t ≡ Fine → room < n → outputRows ts vs t room ≡ Refused (Room n)
   unfolding outputRows
   room-refused {n} e h lt = rw (h, ← e, lt-leb n room lt)

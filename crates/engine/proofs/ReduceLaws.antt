@@ -9,7 +9,7 @@ use lib.ListN.{length}
 use Rattle.lists.specs.Overwrite.{Wrote}
 use Rattle.lists.proofs.OverwriteLaws.{wrote-read}
 use Rattle.kept.specs.Kept.{Greedy}
-use Rattle.tolerance.specs.declared.Tolerance.{Tolerance}
+use Rattle.engine.specs.declared.Limits.{Limits}
 use Rattle.trace.specs.declared.Criterion.{Criterion}
 use Rattle.trace.specs.Trace.{Trace}
 use Rattle.reduction.specs.Walking.{walkList}
@@ -22,15 +22,15 @@ use Rattle.engine.specs.Reduce.{okOf, GreedyList, WalkKept, GallopKept}
 use Rattle.engine.specs.Minimum.{MinimumKept}
 
 -- any greedy list: kept, of valid links, with maximal stops
-pub greedy-list : {ts : List ℕ} {vs : List ℤ} (t : Tolerance) {l : List ℕ} → Trace ts vs → Greedy (okOf ts vs t) (length ts - 1) l → GreedyList ts vs t l
+pub greedy-list : {ts : List ℕ} {vs : List ℤ} (t : Limits) {l : List ℕ} → Trace ts vs → Greedy (okOf ts vs t) (length ts - 1) l → GreedyList ts vs t l
 greedy-list {ts} {vs} t tr g = record { kept = g .kept; within = g .valid; maximal = g .maximal; size = greedy-short ts vs (criterionOf t) tr g }
 
 -- what holds at the criterion of a ready call holds at the tolerance's
-at-tolerance : {ts : List ℕ} {vs : List ℤ} {t : Tolerance} {room : ℕ} {c : Criterion} → OutputReady ts vs t room c → (P : Criterion → Type 0) → P c → P (criterionOf t)
+at-tolerance : {ts : List ℕ} {vs : List ℤ} {t : Limits} {room : ℕ} {c : Criterion} → OutputReady ts vs t room c → (P : Criterion → Type 0) → P c → P (criterionOf t)
 at-tolerance r P h = subst P (r .ready .is) h
 
 -- what a kernel wrote at the criterion c, where the checks pass
-module _ {ts : List ℕ} {vs : List ℤ} {t : Tolerance} {o o′ : List ℕ} {n : ℕ} {c : Criterion} (r : OutputReady ts vs t (length o) c) where
+module _ {ts : List ℕ} {vs : List ℤ} {t : Limits} {o o′ : List ℕ} {n : ℕ} {c : Criterion} (r : OutputReady ts vs t (length o) c) where
   pub walk-kept : Wrote (walkList ts vs c) o n o′ → WalkKept ts vs t o n o′
   walk-kept w = record {
     rows = r .rows;

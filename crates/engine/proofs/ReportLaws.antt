@@ -11,8 +11,7 @@ use Rattle.lists.specs.Overwrite.{overwrite}
 use Rattle.refusal.specs.declared.Refusal.{Refusal}
 use Rattle.refusal.specs.declared.Refusal.the-variants.{Room}
 use Rattle.refusal.specs.declared.Checked.the-variants.{Fine, Refused}
-use Rattle.tolerance.specs.declared.Tolerance.{Tolerance}
-use Rattle.tolerance.specs.Meaning.{meaning}
+use Rattle.engine.specs.declared.Limits.{Limits}
 use Rattle.trace.specs.declared.Criterion.{Criterion}
 use Rattle.sheet.specs.declared.Summary.{Summary}
 use Rattle.sheet.specs.declared.Reported.{Reported}
@@ -20,11 +19,10 @@ use Rattle.sheet.specs.declared.Sheet.{Sheet}
 use Rattle.channels.specs.Channels.{crateRow}
 use Rattle.channels.proofs.ChannelLaws.{crate-divided}
 use Rattle.sheet.specs.Report.{rowsFrom, totalsOf, Rows, Declined, filled}
-use Rattle.engine.specs.Hold.{toleranceRow}
-use Rattle.engine.specs.Prepare.{Sets}
+use Rattle.engine.specs.Prepare.{limitRows, Sets}
 use Rattle.engine.specs.Report.{crateRows, ReportOutcome, Surveyed}
 
-module _ (ts : List ℕ) (vs : List ℤ) (ls : List ℕ) (t : Tolerance) (room : ℕ) where
+module _ (ts : List ℕ) (vs : List ℤ) (ls : List ℕ) (t : Limits) (room : ℕ) where
   -- a sheet that refuses with the first row that applies
   pub sheet-refused : {x : Refusal} {s : Sheet} → crateRows ts vs ls t room ≡ Refused x → Declined x s → Surveyed ts vs ls t room s
   sheet-refused {x} {s} h d = record {
@@ -38,9 +36,9 @@ module _ (ts : List ℕ) (vs : List ℤ) (ls : List ℕ) (t : Tolerance) (room :
   crate-refused e = rw e
 
   module _ (fine : crateRow ts vs ls ≡ Fine) where
-    pub tolerance-refused : {x : Refusal} → toleranceRow (meaning t) ≡ Refused x → crateRows ts vs ls t room ≡ Refused x
+    pub limits-refused : {x : Refusal} → limitRows t ≡ Refused x → crateRows ts vs ls t room ≡ Refused x
     unfolding crateRows
-    tolerance-refused e = rw (fine, e)
+    limits-refused e = rw (fine, e)
 
     module _ {c : Criterion} (sets : Sets t c) where
       pub room-refused : room < length ls → crateRows ts vs ls t room ≡ Refused (Room (length ls))

@@ -12,12 +12,13 @@ use Rattle.refusal.specs.declared.Refusal.the-variants.{Link}
 use Rattle.refusal.specs.declared.Checked.{Checked}
 use Rattle.refusal.specs.declared.Checked.the-variants.{Fine, Refused}
 use Rattle.refusal.proofs.TableLaws.{then-fine}
-use Rattle.tolerance.specs.declared.Tolerance.{Tolerance}
+use Rattle.engine.specs.declared.Limits.{Limits}
 use Rattle.tolerance.specs.declared.Meaning.{Meaning}
 use Rattle.tolerance.specs.declared.Meaning.the-variants.{Exact, NotAllowed}
 use Rattle.tolerance.specs.Meaning.{meaning, Held}
 use Rattle.tolerance.proofs.Meanings.{exact-held}
 use Rattle.trace.specs.declared.Criterion.{Criterion}
+use Rattle.trace.specs.Link.{ratioOf}
 use Rattle.trace.specs.Trace.{traceRows}
 use Rattle.proposed.specs.Proposed.{listRow, firstInvalid}
 use Rattle.proposed.proofs.ProposedLaws.{row-kept}
@@ -26,22 +27,22 @@ use Rattle.writer.specs.Writing.{Kept, selected, writeRow, WrittenAt, WriteDecl
 use Rattle.engine.specs.Hold.{toleranceRow}
 use Rattle.engine.specs.Prepare.{commonRows, criterionIn, criterionOf, ReadyAt}
 use Rattle.engine.specs.Judge.{judgeRows}
-use Rattle.engine.specs.Write.{ratioOf, contentOf, writeRows, Recorded, ListReady}
+use Rattle.engine.specs.Write.{contentOf, writeRows, Recorded, ListReady}
 
 -- an allowed tolerance is held in lowest terms
-row-held : (t : Tolerance) → toleranceRow (meaning t) ≡ Fine → Held (ratioOf (criterionOf t))
+row-held : (t : Limits) → toleranceRow (meaning (t .tolerance)) ≡ Fine → Held (ratioOf (criterionOf t))
 unfolding criterionOf
-row-held t e = go (meaning t) refl e
+row-held t e = go (meaning (t .tolerance)) refl e
   where
-    go : (m : Meaning) → meaning t ≡ m → toleranceRow m ≡ Fine → Held (ratioOf (criterionIn m))
-    go (Exact r) q e = exact-held t r q
+    go : (m : Meaning) → meaning (t .tolerance) ≡ m → toleranceRow m ≡ Fine → Held (ratioOf (criterionIn (t .gap) m))
+    go (Exact r) q e = exact-held (t .tolerance) r q
     go NotAllowed q e = let z : _≡_ {A = ℕ} 0 1 = cc in absurd (omega arith)
 
-pub common-held : (ts : List ℕ) (vs : List ℤ) (t : Tolerance) → commonRows ts vs t ≡ Fine → Held (ratioOf (criterionOf t))
+pub common-held : (ts : List ℕ) (vs : List ℤ) (t : Limits) → commonRows ts vs t ≡ Fine → Held (ratioOf (criterionOf t))
 unfolding commonRows
-common-held ts vs t e = row-held t (then-fine (traceRows 4096 ts vs) _ e .1)
+common-held ts vs t e = row-held t (then-fine (toleranceRow (meaning (t .tolerance))) _ (then-fine (traceRows 4096 ts vs) _ e .1) .0)
 
-module _ (ts : List ℕ) (vs : List ℤ) (l : List ℕ) (t : Tolerance) (m place : ℕ) where
+module _ (ts : List ℕ) (vs : List ℤ) (l : List ℕ) (t : Limits) (m place : ℕ) where
   pub common-refuses : {x : Refusal} → commonRows ts vs t ≡ Refused x → writeRows ts vs l t m place ≡ Refused x
   unfolding writeRows judgeRows
   common-refuses e = rw e
@@ -60,16 +61,16 @@ module _ (ts : List ℕ) (vs : List ℤ) (l : List ℕ) (t : Tolerance) (m place
     links-pass {k} e le w = rw (a, b, ← e, le-leb (length l - 1) k le) w
 
 -- a kept list of a ready call, as the writer asks for it
-pub kept-at : {ts : List ℕ} {vs : List ℤ} {l : List ℕ} {t : Tolerance} {c : Criterion} → ListReady ts vs l t c → Kept ts vs l × Held (ratioOf c)
+pub kept-at : {ts : List ℕ} {vs : List ℤ} {l : List ℕ} {t : Limits} {c : Criterion} → ListReady ts vs l t c → Kept ts vs l × Held (ratioOf c)
 kept-at {ts} {vs} {l} {t} {c} r = (
   record { trace = r .ready .trace; list = r .kept },
   subst (λ (x : Criterion). Held (ratioOf x)) (sym (r .ready .is)) (common-held ts vs t (r .ready .rows)),
 )
 
-pub list-ready : {ts : List ℕ} {vs : List ℤ} {l : List ℕ} {t : Tolerance} {c : Criterion} → ReadyAt ts vs t c → listRow (length ts) l ≡ Fine → ListReady ts vs l t c
+pub list-ready : {ts : List ℕ} {vs : List ℤ} {l : List ℕ} {t : Limits} {c : Criterion} → ReadyAt ts vs t c → listRow (length ts) l ≡ Fine → ListReady ts vs l t c
 list-ready {l} r e = record { ready = r; list = e; kept = row-kept (r .trace .some) l .0 e }
 
-module _ {ts : List ℕ} {vs : List ℤ} {l : List ℕ} {t : Tolerance} {c : Criterion} (r : ListReady ts vs l t c) where
+module _ {ts : List ℕ} {vs : List ℤ} {l : List ℕ} {t : Limits} {c : Criterion} (r : ListReady ts vs l t c) where
   at-tolerance : {k : ℕ} → k ≡ firstInvalid ts vs c l → k ≡ firstInvalid ts vs (criterionOf t) l
   at-tolerance {k} e = subst (λ (x : Criterion). k ≡ firstInvalid ts vs x l) (r .ready .is) e
 

@@ -18,7 +18,7 @@ use Rattle.refusal.specs.declared.Checked.{Checked}
 use Rattle.refusal.specs.declared.Checked.the-variants.{Fine, Refused}
 use Rattle.refusal.specs.Table.{_thenCheck_}
 use Rattle.kept.specs.Kept.{KeptList, AllValid}
-use Rattle.tolerance.specs.declared.Tolerance.{Tolerance}
+use Rattle.engine.specs.declared.Limits.{Limits}
 use Rattle.trace.specs.declared.Criterion.{Criterion}
 use Rattle.trace.specs.Link.{valid}
 use Rattle.proposed.specs.Proposed.{listRow, firstInvalid}
@@ -26,7 +26,7 @@ use Rattle.engine.specs.declared.Verdict.{Verdict}
 use Rattle.engine.specs.declared.Verdict.the-variants.{Yes, No, Refused as Declined}
 use Rattle.engine.specs.Prepare.{commonRows, criterionOf}
 
-unfoldable pub judgeRows : List ℕ → List ℤ → List ℕ → Tolerance → Checked
+unfoldable pub judgeRows : List ℕ → List ℤ → List ℕ → Limits → Checked
 judgeRows ts vs l t = commonRows ts vs t thenCheck listRow (length ts) l
 
 -- links are counted from 0
@@ -37,11 +37,11 @@ abbrev pub declineOr : Checked → Verdict → Verdict
 declineOr Fine v = v
 declineOr (Refused x) v = Declined x
 
-unfoldable pub judgeOf : List ℕ → List ℤ → List ℕ → Tolerance → Verdict
+unfoldable pub judgeOf : List ℕ → List ℤ → List ℕ → Limits → Verdict
 judgeOf ts vs l t = declineOr (judgeRows ts vs l t) (listVerdict ts vs l (criterionOf t))
 
 -- A list that row 6 does not refuse is a kept list, and it is passed exactly if each of its links is within the tolerance (demand 2).
-pub record JudgeOutcome (ts : List ℕ) (vs : List ℤ) (l : List ℕ) (t : Tolerance) (r : Verdict) : Type 0 where
+pub record JudgeOutcome (ts : List ℕ) (vs : List ℤ) (l : List ℕ) (t : Limits) (r : Verdict) : Type 0 where
   pub is : r ≡ judgeOf ts vs l t
   pub passed : r ≡ Yes ↔ (judgeRows ts vs l t ≡ Fine) × KeptList (length ts - 1) l × AllValid (valid ts vs (criterionOf t)) l
 

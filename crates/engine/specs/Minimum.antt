@@ -11,7 +11,7 @@ use lib.ListN.{length}
 use Rattle.lists.specs.Overwrite.{Wrote}
 use Rattle.refusal.specs.declared.Checked.the-variants.{Fine, Refused}
 use Rattle.kept.specs.Minimum.{Minimum}
-use Rattle.tolerance.specs.declared.Tolerance.{Tolerance}
+use Rattle.engine.specs.declared.Limits.{Limits}
 use Rattle.shortest.specs.Shortest.{minimumList}
 use Rattle.engine.specs.declared.Reduced.{Reduced}
 use Rattle.engine.specs.declared.Reduced.the-variants.{Kept, Refused as Declined}
@@ -19,11 +19,11 @@ use Rattle.engine.specs.Prepare.{criterionOf, outputRows}
 use Rattle.engine.specs.Reduce.{okOf}
 
 -- minimum kept n samples, and the lent list o became o′: a kept list of valid links, none is shorter, and of those of its length the latest
-pub record MinimumKept (ts : List ℕ) (vs : List ℤ) (t : Tolerance) (o : List ℕ) (n : ℕ) (o′ : List ℕ) : Type 0 where
+pub record MinimumKept (ts : List ℕ) (vs : List ℤ) (t : Limits) (o : List ℕ) (n : ℕ) (o′ : List ℕ) : Type 0 where
   pub rows : outputRows ts vs t (length o) ≡ Fine
   pub wrote : Wrote (minimumList ts vs (criterionOf t)) o n o′
   pub list : Minimum (okOf ts vs t) (length ts - 1) (minimumList ts vs (criterionOf t))
 
-abbrev pub MinimumOutcome : List ℕ → List ℤ → Tolerance → List ℕ → Reduced → List ℕ → Type 0
+abbrev pub MinimumOutcome : List ℕ → List ℤ → Limits → List ℕ → Reduced → List ℕ → Type 0
 MinimumOutcome ts vs t o (Kept n) o′ = MinimumKept ts vs t o n o′
 MinimumOutcome ts vs t o (Declined x) o′ = (outputRows ts vs t (length o) ≡ Refused x) × (o′ ≡ o)

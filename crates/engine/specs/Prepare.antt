@@ -1,72 +1,95 @@
--- The checks of a trace and a tolerance, which several calls have in common (document 01, "When the engine declines").
---   commonRows                    the first of the rows 1, 2, 3, 4 that applies
---   criterionIn, criterionOf      the criterion that a meaning, a tolerance sets
---   Sets, Allowed                 what check 4 gives: the criterion that an allowed tolerance sets, or the row
---   ReadyAt, Prepared             what the checks 1 to 4 give: a trace and that criterion, or the row
---   outputRows                    the first of the rows 1, 2, 3, 4, 10 that applies, for a list that needs as many entries as the trace has samples
+-- The checks of a trace and its limits, a tolerance and a gap limit, which several calls have in common (document 01, "When the engine declines";
+-- document 02, wish 6).
+--   unlimited                     the limits of a tolerance alone: the gap limit is at its largest
+--   gapRow, limitRows             row 15; the first of the rows 4, 15 that applies
+--   commonRows                    the first of the rows 1, 2, 3, 4, 15 that applies
+--   criterionIn, criterionOf      the criterion that a meaning under a gap limit, that limits set
+--   Under                         what check 15 gives: the criterion of a ratio under the gap limit, or the row
+--   Sets, Allowed                 what the checks 4 and 15 give: the criterion that allowed limits set, or the row
+--   ReadyAt, Prepared             what the checks 1 to 4 and 15 give: a trace and that criterion, or the row
+--   outputRows                    the first of the rows 1, 2, 3, 4, 15, 10 that applies, for a list that needs as many entries as the trace has samples
 --   OutputReady, OutputPrepared   what these checks give
 -- Assumes nothing.
 use mathlib.Core.Path.{_≡_}
+use mathlib.Core.Bool.{_&&_}
 use mathlib.Core.List.{List}
 use Prim.Native.Nat.{ℕ, _≤_}
+use lib.Dec.{leb}
 use lib.IntN.{ℤ}
 use lib.ListN.{length}
+use Rattle.ratio.specs.declared.Ratio.{Ratio}
 use Rattle.ratio.specs.Order.{over}
+use Rattle.refusal.specs.declared.Refusal.the-variants.{Gap}
 use Rattle.refusal.specs.declared.Checked.{Checked}
 use Rattle.refusal.specs.declared.Checked.the-variants.{Fine, Refused}
-use Rattle.refusal.specs.Table.{roomRow, _thenCheck_}
+use Rattle.refusal.specs.Table.{row, roomRow, _thenCheck_}
 use Rattle.tolerance.specs.declared.Tolerance.{Tolerance}
 use Rattle.tolerance.specs.declared.Meaning.{Meaning}
 use Rattle.tolerance.specs.declared.Meaning.the-variants.{Exact, NotAllowed}
 use Rattle.tolerance.specs.Meaning.{meaning}
 use Rattle.trace.specs.declared.Criterion.{Criterion}
 use Rattle.trace.specs.Trace.{Trace, traceRows}
-use Rattle.trace.specs.Link.{criterion, Bounded}
+use Rattle.trace.specs.Link.{limited, Bounded}
+use Rattle.engine.specs.declared.Limits.{Limits}
 use Rattle.engine.specs.declared.Ready.{Ready}
 use Rattle.engine.specs.declared.Ready.the-variants.{At, Refused as Declined}
 use Rattle.engine.specs.Hold.{toleranceRow}
 
-unfoldable pub commonRows : List ℕ → List ℤ → Tolerance → Checked
-commonRows ts vs t = traceRows 4096 ts vs thenCheck toleranceRow (meaning t)
+abbrev pub unlimited : Tolerance → Limits
+unlimited t = record { tolerance = t; gap = 1048575 }
+
+-- 15: gap limit out of range
+abbrev pub gapRow : ℕ → Checked
+gapRow g = row (leb 1 g && leb g 1048575) Gap
+
+abbrev pub limitRows : Limits → Checked
+limitRows t = toleranceRow (meaning (t .tolerance)) thenCheck gapRow (t .gap)
+
+unfoldable pub commonRows : List ℕ → List ℤ → Limits → Checked
+commonRows ts vs t = traceRows 4096 ts vs thenCheck limitRows t
 
 -- 0 where the tolerance is not allowed, which no answer depends on
-abbrev pub criterionIn : Meaning → Criterion
-criterionIn (Exact r) = criterion r
-criterionIn NotAllowed = criterion (over 0 1)
+abbrev pub criterionIn : ℕ → Meaning → Criterion
+criterionIn g (Exact r) = limited g r
+criterionIn g NotAllowed = limited g (over 0 1)
 
-unfoldable pub criterionOf : Tolerance → Criterion
-criterionOf t = criterionIn (meaning t)
+unfoldable pub criterionOf : Limits → Criterion
+criterionOf t = criterionIn (t .gap) (meaning (t .tolerance))
 
--- c is the criterion that t, an allowed tolerance, sets
-pub record Sets (t : Tolerance) (c : Criterion) : Type 0 where
-  pub row : toleranceRow (meaning t) ≡ Fine
+abbrev pub Under : Ratio → ℕ → Ready → Type 0
+Under r g (At c) = (gapRow g ≡ Fine) × (c ≡ limited g r)
+Under r g (Declined x) = gapRow g ≡ Refused x
+
+-- c is the criterion that t, allowed limits, sets
+pub record Sets (t : Limits) (c : Criterion) : Type 0 where
+  pub row : limitRows t ≡ Fine
   pub is : c ≡ criterionOf t
   pub bounded : Bounded c
 
-abbrev pub Allowed : Tolerance → Ready → Type 0
+abbrev pub Allowed : Limits → Ready → Type 0
 Allowed t (At c) = Sets t c
-Allowed t (Declined x) = toleranceRow (meaning t) ≡ Refused x
+Allowed t (Declined x) = limitRows t ≡ Refused x
 
--- a trace, and the criterion of an allowed tolerance
-pub record ReadyAt (ts : List ℕ) (vs : List ℤ) (t : Tolerance) (c : Criterion) : Type 0 where
+-- a trace, and the criterion of allowed limits
+pub record ReadyAt (ts : List ℕ) (vs : List ℤ) (t : Limits) (c : Criterion) : Type 0 where
   pub rows : commonRows ts vs t ≡ Fine
   pub trace : Trace ts vs
   pub is : c ≡ criterionOf t
   pub bounded : Bounded c
 
-abbrev pub Prepared : List ℕ → List ℤ → Tolerance → Ready → Type 0
+abbrev pub Prepared : List ℕ → List ℤ → Limits → Ready → Type 0
 Prepared ts vs t (At c) = ReadyAt ts vs t c
 Prepared ts vs t (Declined x) = commonRows ts vs t ≡ Refused x
 
-unfoldable pub outputRows : List ℕ → List ℤ → Tolerance → ℕ → Checked
+unfoldable pub outputRows : List ℕ → List ℤ → Limits → ℕ → Checked
 outputRows ts vs t room = commonRows ts vs t thenCheck roomRow (length ts) room
 
--- a trace, the criterion of an allowed tolerance, and room for the output
-pub record OutputReady (ts : List ℕ) (vs : List ℤ) (t : Tolerance) (room : ℕ) (c : Criterion) : Type 0 where
+-- a trace, the criterion of allowed limits, and room for the output
+pub record OutputReady (ts : List ℕ) (vs : List ℤ) (t : Limits) (room : ℕ) (c : Criterion) : Type 0 where
   pub rows : outputRows ts vs t room ≡ Fine
   pub ready : ReadyAt ts vs t c
   pub room-is : length ts ≤ room
 
-abbrev pub OutputPrepared : List ℕ → List ℤ → Tolerance → ℕ → Ready → Type 0
+abbrev pub OutputPrepared : List ℕ → List ℤ → Limits → ℕ → Ready → Type 0
 OutputPrepared ts vs t room (At c) = OutputReady ts vs t room c
 OutputPrepared ts vs t room (Declined x) = outputRows ts vs t room ≡ Refused x

@@ -15,7 +15,7 @@ use Rattle.lists.specs.Overwrite.{Wrote}
 use Rattle.refusal.specs.declared.Checked.the-variants.{Fine, Refused}
 use Rattle.kept.specs.Kept.{KeptList, AllValid, MaximalStops, EachLink}
 use Rattle.kept.specs.Gallop.{gallopSearch, stopProbes, listProbes}
-use Rattle.tolerance.specs.declared.Tolerance.{Tolerance}
+use Rattle.engine.specs.declared.Limits.{Limits}
 use Rattle.trace.specs.Link.{valid, NoLonger}
 use Rattle.reduction.specs.Walking.{walkList}
 use Rattle.reduction.specs.Galloping.{gallopList, gallopTotal}
@@ -25,10 +25,10 @@ use Rattle.engine.specs.declared.Probed.{Probed}
 use Rattle.engine.specs.declared.Probed.the-variants.{Kept as Galloped, Refused as NotGalloped}
 use Rattle.engine.specs.Prepare.{criterionOf, outputRows}
 
-abbrev pub okOf : List ℕ → List ℤ → Tolerance → ℕ → ℕ → Bool
+abbrev pub okOf : List ℕ → List ℤ → Limits → ℕ → ℕ → Bool
 okOf ts vs t = valid ts vs (criterionOf t)
 
-pub record GreedyList (ts : List ℕ) (vs : List ℤ) (t : Tolerance) (l : List ℕ) : Type 0 where
+pub record GreedyList (ts : List ℕ) (vs : List ℤ) (t : Limits) (l : List ℕ) : Type 0 where
   pub kept : KeptList (length ts - 1) l
   pub within : AllValid (okOf ts vs t) l
   pub maximal : MaximalStops (okOf ts vs t) (length ts - 1) l
@@ -36,17 +36,17 @@ pub record GreedyList (ts : List ℕ) (vs : List ℤ) (t : Tolerance) (l : List 
   pub size : NoLonger ts vs (criterionOf t) (length l)
 
 -- walk kept n samples, and the lent list o became o′
-pub record WalkKept (ts : List ℕ) (vs : List ℤ) (t : Tolerance) (o : List ℕ) (n : ℕ) (o′ : List ℕ) : Type 0 where
+pub record WalkKept (ts : List ℕ) (vs : List ℤ) (t : Limits) (o : List ℕ) (n : ℕ) (o′ : List ℕ) : Type 0 where
   pub rows : outputRows ts vs t (length o) ≡ Fine
   pub wrote : Wrote (walkList ts vs (criterionOf t)) o n o′
   pub list : GreedyList ts vs t (walkList ts vs (criterionOf t))
 
-abbrev pub WalkOutcome : List ℕ → List ℤ → Tolerance → List ℕ → Reduced → List ℕ → Type 0
+abbrev pub WalkOutcome : List ℕ → List ℤ → Limits → List ℕ → Reduced → List ℕ → Type 0
 WalkOutcome ts vs t o (Kept n) o′ = WalkKept ts vs t o n o′
 WalkOutcome ts vs t o (Declined x) o′ = (outputRows ts vs t (length o) ≡ Refused x) × (o′ ≡ o)
 
 -- gallop kept n samples by p probes, the method's own
-pub record GallopKept (ts : List ℕ) (vs : List ℤ) (t : Tolerance) (o : List ℕ) (n p : ℕ) (o′ : List ℕ) : Type 0 where
+pub record GallopKept (ts : List ℕ) (vs : List ℤ) (t : Limits) (o : List ℕ) (n p : ℕ) (o′ : List ℕ) : Type 0 where
   pub rows : outputRows ts vs t (length o) ≡ Fine
   pub wrote : Wrote (gallopList ts vs (criterionOf t)) o n o′
   pub list : GreedyList ts vs t (gallopList ts vs (criterionOf t))
@@ -56,6 +56,6 @@ pub record GallopKept (ts : List ℕ) (vs : List ℤ) (t : Tolerance) (o : List 
   pub exact : EachLink (λ i j. gallopSearch (okOf ts vs t) (length ts - 1) i .probes ≡ stopProbes (j - i)) (take n o′)
   pub total : p ≡ listProbes (take n o′)
 
-abbrev pub GallopOutcome : List ℕ → List ℤ → Tolerance → List ℕ → Probed → List ℕ → Type 0
+abbrev pub GallopOutcome : List ℕ → List ℤ → Limits → List ℕ → Probed → List ℕ → Type 0
 GallopOutcome ts vs t o (Galloped g) o′ = GallopKept ts vs t o (g .kept) (g .probes) o′
 GallopOutcome ts vs t o (NotGalloped x) o′ = (outputRows ts vs t (length o) ≡ Refused x) × (o′ ≡ o)

@@ -6,11 +6,11 @@ ghost use Rattle.kept.specs.Kept.{KeptList};
 ghost use Rattle.trace.specs.Trace.{Trace};
 ghost use Rattle.trace.specs.Link.{Bounded};
 ghost use Rattle.engine.specs.Judge.{listVerdict, judgedAt, JudgeOutcome};
+use crate::Limits;
 use crate::Ready;
 use crate::Verdict;
 use crate::prepare::prepare;
 use refusal::Checked;
-use tolerance::Tolerance;
 use trace::Criterion;
 
 // The verdict on a kept list.
@@ -38,7 +38,7 @@ fn judge_at(ticks: &[u32], values: &[i16], list: &[u16], c: Criterion) -> Verdic
 }
 
 // Whether each link of the list is within the tolerance; if not, the first link that is not.
-pub fn judge(ticks: &[u32], values: &[i16], list: &[u16], t: Tolerance) -> Verdict
+pub fn judge(ticks: &[u32], values: &[i16], list: &[u16], t: Limits) -> Verdict
     ensures { λ r. ⌜ JudgeOutcome (now (ticks .entry)) (now (values .entry)) (now (list .entry)) t r ⌝ }
 {
     let ready = prepare(ticks, values, t);

@@ -3,7 +3,14 @@ use closest::Found;
 use ratio::Ratio;
 use reduction::Galloped;
 use refusal::Refusal;
+use tolerance::Tolerance;
 use trace::Criterion;
+
+// What links are asked to meet: a tolerance, and a gap limit in ticks from 1 to 1,048,575.
+pub struct Limits {
+    pub tolerance: Tolerance,
+    pub gap: u32,
+}
 
 // What `hold` answers: the tolerance in lowest terms, or a refusal.
 pub enum Holding {
@@ -11,7 +18,7 @@ pub enum Holding {
     Refused(Refusal),
 }
 
-// What the checks of a trace and a tolerance find: the criterion that the tolerance sets, or a refusal.
+// What the checks of a trace and its limits find: the criterion that the limits set, or a refusal.
 enum Ready {
     At(Criterion),
     Refused(Refusal),

@@ -1,12 +1,12 @@
 // The public call `minimum`: the shortest kept list of a trace within a tolerance.
 ghost use Rattle.engine.specs.Minimum.{MinimumOutcome};
+use crate::Limits;
 use crate::Ready;
 use crate::Reduced;
 use crate::prepare::prepare_output;
-use tolerance::Tolerance;
 
 // Writes the minimum's list into the first entries of `out`, which has as many entries as the trace has samples or more.
-pub fn minimum(ticks: &[u32], values: &[i16], t: Tolerance, out: &mut [u16]) -> Reduced
+pub fn minimum(ticks: &[u32], values: &[i16], t: Limits, out: &mut [u16]) -> Reduced
     ensures { λ r. ⌜ MinimumOutcome (now (ticks .entry)) (now (values .entry)) t (now (out .entry)) r (now (out .exit)) ⌝ }
 {
     let ready = prepare_output(ticks, values, t, out.len());

@@ -1,25 +1,56 @@
-// What the calls on a trace with a tolerance have in common: the checks 1 to 4, and 10 for those that write a list.
-ghost use Rattle.engine.specs.Prepare.{Prepared, Allowed, OutputPrepared};
+// What the calls on a trace with limits have in common: the checks 1 to 4 and 15, and 10 for those that write a list.
+ghost use mathlib.Core.Path.{_≡_};
+ghost use Rattle.engine.specs.Prepare.{gapRow, Under, Prepared, Allowed, OutputPrepared};
+use crate::Limits;
 use crate::Ready;
+use ratio::Ratio;
 use refusal::Checked;
 use refusal::Refusal;
 use tolerance::Meaning;
-use tolerance::Tolerance;
 use trace::Criterion;
 
-// Check 4.
-pub fn criterion(t: Tolerance) -> Ready
+// Check 15.
+pub fn check_gap(gap: u32) -> Checked
+    ensures { λ r. ⌜ r ≡ gapRow gap ⌝ }
+{
+    if gap < 1 {
+        return Checked::Refused(Refusal::Gap);
+    }
+    if 1_048_575 < gap {
+        return Checked::Refused(Refusal::Gap);
+    }
+    Checked::Fine
+}
+
+// Check 15, of the gap limit beside an allowed tolerance.
+fn under(r: Ratio, gap: u32) -> Ready
+    ensures { λ x. ⌜ Under r gap x ⌝ }
+{
+    let checked = check_gap(gap);
+    match checked {
+        Checked::Fine => Ready::At(Criterion {
+            p: r.p,
+            q: r.q,
+            gap,
+        }),
+        Checked::Refused(x) => Ready::Refused(x),
+    }
+}
+
+// Checks 4 and 15.
+pub fn criterion(t: Limits) -> Ready
     ensures { λ r. ⌜ Allowed t r ⌝ }
 {
-    let m = tolerance::meaning_of(t);
+    let given = t.tolerance;
+    let m = tolerance::meaning_of(given);
     match m {
-        Meaning::Exact(r) => Ready::At(Criterion { p: r.p, q: r.q }),
+        Meaning::Exact(r) => under(r, t.gap),
         Meaning::NotAllowed => Ready::Refused(Refusal::Tolerance),
     }
 }
 
-// Checks 1, 2, 3 and 4.
-pub fn prepare(ticks: &[u32], values: &[i16], t: Tolerance) -> Ready
+// Checks 1, 2, 3, 4 and 15.
+pub fn prepare(ticks: &[u32], values: &[i16], t: Limits) -> Ready
     ensures { λ r. ⌜ Prepared (now (ticks .entry)) (now (values .entry)) t r ⌝ }
 {
     let checked = trace::limits::check(ticks, values, 4096);
@@ -29,8 +60,8 @@ pub fn prepare(ticks: &[u32], values: &[i16], t: Tolerance) -> Ready
     }
 }
 
-// Checks 1, 2, 3, 4 and 10, for an output of `room` entries.
-pub fn prepare_output(ticks: &[u32], values: &[i16], t: Tolerance, room: usize) -> Ready
+// Checks 1, 2, 3, 4, 15 and 10, for an output of `room` entries.
+pub fn prepare_output(ticks: &[u32], values: &[i16], t: Limits, room: usize) -> Ready
     ensures { λ r. ⌜ OutputPrepared (now (ticks .entry)) (now (values .entry)) t room r ⌝ }
 {
     let ready = prepare(ticks, values, t);

@@ -3,6 +3,7 @@ ghost use mathlib.Core.Path.{_≡_};
 ghost use Rattle.refusal.specs.declared.Checked.the-variants.{Fine};
 ghost use Rattle.channels.specs.Channels.{crateRow};
 ghost use Rattle.engine.specs.Report.{Surveyed, ReportOutcome};
+use crate::Limits;
 use crate::Ready;
 use crate::prepare::criterion;
 use refusal::Checked;
@@ -10,16 +11,9 @@ use refusal::Refusal;
 use sheet::Reported;
 use sheet::Sheet;
 use sheet::Summary;
-use tolerance::Tolerance;
 
-// The report where check 11 passes: checks 4 and 10, for a list of `room` rows.
-fn allowed_sheet(
-    ticks: &[u32],
-    values: &[i16],
-    lengths: &[usize],
-    t: Tolerance,
-    room: usize,
-) -> Sheet
+// The report where check 11 passes: checks 4, 15 and 10, for a list of `room` rows.
+fn allowed_sheet(ticks: &[u32], values: &[i16], lengths: &[usize], t: Limits, room: usize) -> Sheet
     requires { ⌜ crateRow (now ticks) (now values) (now lengths) ≡ Fine ⌝ }
     ensures { λ r. ⌜ Surveyed (now (ticks .entry)) (now (values .entry)) (now (lengths .entry)) t room r ⌝ }
 {
@@ -36,14 +30,8 @@ fn allowed_sheet(
     }
 }
 
-// The whole report by value: checks 11, 4 and 10, and the rows.
-pub fn sheet_of(
-    ticks: &[u32],
-    values: &[i16],
-    lengths: &[usize],
-    t: Tolerance,
-    room: usize,
-) -> Sheet
+// The whole report by value: checks 11, 4, 15 and 10, and the rows.
+pub fn sheet_of(ticks: &[u32], values: &[i16], lengths: &[usize], t: Limits, room: usize) -> Sheet
     ensures { λ r. ⌜ Surveyed (now (ticks .entry)) (now (values .entry)) (now (lengths .entry)) t room r ⌝ }
 {
     let checked = channels::check(ticks, values, lengths);
@@ -58,7 +46,7 @@ pub fn report(
     ticks: &[u32],
     values: &[i16],
     lengths: &[usize],
-    t: Tolerance,
+    t: Limits,
     out: &mut [Summary],
 ) -> Reported
     ensures { λ r. ⌜ ReportOutcome (now (ticks .entry)) (now (values .entry)) (now (lengths .entry)) t (now (out .entry)) r (now (out .exit)) ⌝ }

@@ -1,12 +1,12 @@
 // The public call `walk`: the samples that walk keeps of a trace.
 ghost use Rattle.engine.specs.Reduce.{WalkOutcome};
+use crate::Limits;
 use crate::Ready;
 use crate::Reduced;
 use crate::prepare::prepare_output;
-use tolerance::Tolerance;
 
 // Writes walk's list into the first entries of `out`, which has as many entries as the trace has samples or more.
-pub fn walk(ticks: &[u32], values: &[i16], t: Tolerance, out: &mut [u16]) -> Reduced
+pub fn walk(ticks: &[u32], values: &[i16], t: Limits, out: &mut [u16]) -> Reduced
     ensures { λ r. ⌜ WalkOutcome (now (ticks .entry)) (now (values .entry)) t (now (out .entry)) r (now (out .exit)) ⌝ }
 {
     let ready = prepare_output(ticks, values, t, out.len());

@@ -1,13 +1,13 @@
 // The public call `write`: the record of a list's samples, into the event buffer from a place on.
 ghost use Rattle.engine.specs.Prepare.{ReadyAt};
 ghost use Rattle.engine.specs.Write.{ListReady, WriteOutcome};
+use crate::Limits;
 use crate::Ready;
 use crate::Written;
 use crate::prepare::prepare;
 use ratio::Ratio;
 use refusal::Checked;
 use refusal::Refusal;
-use tolerance::Tolerance;
 use trace::Criterion;
 use writer::Answer;
 
@@ -16,7 +16,7 @@ fn write_list(
     ticks: &[u32],
     values: &[i16],
     list: &[u16],
-    t: Tolerance,
+    t: Limits,
     c: Criterion,
     buffer: &mut [u8],
     place: usize,
@@ -41,7 +41,7 @@ fn write_at(
     ticks: &[u32],
     values: &[i16],
     list: &[u16],
-    t: Tolerance,
+    t: Limits,
     c: Criterion,
     buffer: &mut [u8],
     place: usize,
@@ -61,7 +61,7 @@ pub fn write(
     ticks: &[u32],
     values: &[i16],
     list: &[u16],
-    t: Tolerance,
+    t: Limits,
     buffer: &mut [u8],
     place: usize,
 ) -> Written

@@ -20,7 +20,7 @@ use Rattle.tolerance.specs.declared.Tolerance.the-variants.{Ratio}
 use Rattle.trace.specs.declared.Criterion.{Criterion}
 use Rattle.trace.specs.Level.{level}
 use Rattle.trace.specs.Trace.{traceRows}
-use Rattle.trace.specs.Link.{deviation, within, allFrom, valid, criterion, greatest, farthest, linkError}
+use Rattle.trace.specs.Link.{deviation, within, allFrom, hole, obeys, allWithin, valid, criterion, greatest, farthest, linkError}
 use Rattle.codes.specs.Code.{codeValue, codeValues}
 use Rattle.format.specs.Number.{bytesOnto}
 use Rattle.format.specs.Format.{stepsOnto, samplesOnto, encode}
@@ -30,7 +30,7 @@ use Rattle.shortest.specs.Shortest.{minimumList}
 use Rattle.closest.specs.Closest.{leastError}
 use Rattle.proposed.specs.Proposed.{badAt, listRow, firstInvalid}
 use Rattle.engine.specs.declared.Verdict.the-variants.{Yes, No}
-use Rattle.engine.specs.Prepare.{commonRows, criterionOf}
+use Rattle.engine.specs.Prepare.{unlimited, commonRows, criterionOf}
 use Rattle.engine.specs.Judge.{judgeRows, listVerdict, judgeOf}
 use Rattle.engine.specs.Write.{contentOf}
 
@@ -40,7 +40,7 @@ five = 0 ∷ 1 ∷ 2 ∷ 3 ∷ 4 ∷ []
 
 -- the criterion of the tolerance p/1
 abbrev at : ℕ → Criterion
-at p = criterionOf (Ratio p 1)
+at p = criterionOf (unlimited (Ratio p 1))
 
 -- ---- values 0 3 0 3 0, tolerance 2: walk and gallop keep all five, gallop with 4 probes; minimum 0 3 4
 
@@ -48,63 +48,63 @@ abbrev teeth : List ℤ
 teeth = pos 0 ∷ pos 3 ∷ pos 0 ∷ pos 3 ∷ pos 0 ∷ []
 
 walk-teeth-2 : walkList five teeth (at 2) ≡ 0 ∷ 1 ∷ 2 ∷ 3 ∷ 4 ∷ []
-unfolding walkOf walkFrom stops criterionOf valid allFrom within deviation gcd euclid
+unfolding walkOf walkFrom stops criterionOf valid obeys hole allWithin allFrom within deviation gcd euclid
 walk-teeth-2 = refl
 
 gallop-teeth-2 : gallopList five teeth (at 2) ≡ 0 ∷ 1 ∷ 2 ∷ 3 ∷ 4 ∷ []
-unfolding gallopOf gallopSearch probeOf searchBy doubling bisection stops criterionOf valid allFrom within deviation gcd euclid
+unfolding gallopOf gallopSearch probeOf searchBy doubling bisection stops criterionOf valid obeys hole allWithin allFrom within deviation gcd euclid
 gallop-teeth-2 = refl
 
 probes-teeth-2 : gallopTotal five teeth (at 2) ≡ 4
-unfolding gallopProbes sumFrom gallopOf gallopSearch probeOf searchBy doubling bisection stops criterionOf valid allFrom within deviation gcd euclid
+unfolding gallopProbes sumFrom gallopOf gallopSearch probeOf searchBy doubling bisection stops criterionOf valid obeys hole allWithin allFrom within deviation gcd euclid
 probes-teeth-2 = refl
 
 minimum-teeth-2 : minimumList five teeth (at 2) ≡ 0 ∷ 3 ∷ 4 ∷ []
-unfolding minimumOf nextOf linksOf linksIn bestStop stops criterionOf valid allFrom within deviation gcd euclid
+unfolding minimumOf nextOf linksOf linksIn bestStop stops criterionOf valid obeys hole allWithin allFrom within deviation gcd euclid
 minimum-teeth-2 = refl
 
 -- ---- the same, tolerance 3: all keep 0 4; gallop 5 probes
 
 minimum-teeth-3 : minimumList five teeth (at 3) ≡ 0 ∷ 4 ∷ []
-unfolding minimumOf nextOf linksOf linksIn bestStop stops criterionOf valid allFrom within deviation gcd euclid
+unfolding minimumOf nextOf linksOf linksIn bestStop stops criterionOf valid obeys hole allWithin allFrom within deviation gcd euclid
 minimum-teeth-3 = refl
 
 walk-teeth-3 : walkList five teeth (at 3) ≡ 0 ∷ 4 ∷ []
-unfolding walkOf walkFrom stops criterionOf valid allFrom within deviation gcd euclid
+unfolding walkOf walkFrom stops criterionOf valid obeys hole allWithin allFrom within deviation gcd euclid
 walk-teeth-3 = refl
 
 gallop-teeth-3 : gallopList five teeth (at 3) ≡ 0 ∷ 4 ∷ []
-unfolding gallopOf gallopSearch probeOf searchBy doubling bisection stops criterionOf valid allFrom within deviation gcd euclid
+unfolding gallopOf gallopSearch probeOf searchBy doubling bisection stops criterionOf valid obeys hole allWithin allFrom within deviation gcd euclid
 gallop-teeth-3 = refl
 
 probes-teeth-3 : gallopTotal five teeth (at 3) ≡ 5
-unfolding gallopProbes sumFrom gallopOf gallopSearch probeOf searchBy doubling bisection stops criterionOf valid allFrom within deviation gcd euclid
+unfolding gallopProbes sumFrom gallopOf gallopSearch probeOf searchBy doubling bisection stops criterionOf valid obeys hole allWithin allFrom within deviation gcd euclid
 probes-teeth-3 = refl
 
 -- ---- the same, least for m = 2 is 3/1, for m = 3 and 4 is 2/1 with 0 3 4, for m = 5 is 0/1
 
-least-teeth-2 : leastError five teeth 2 ≡ over 3 1
-unfolding leastOf leastFrom linkError farthest greatest deviation gcd euclid
+least-teeth-2 : leastError five teeth 1048575 2 ≡ over 3 1
+unfolding leastOf obeys hole allFrom leastFrom linkError farthest greatest deviation gcd euclid
 least-teeth-2 = refl
 
-least-teeth-3 : leastError five teeth 3 ≡ over 2 1
-unfolding leastOf leastFrom leastOver lesser greater linkError farthest greatest deviation gcd euclid
+least-teeth-3 : leastError five teeth 1048575 3 ≡ over 2 1
+unfolding leastOf obeys hole allFrom leastFrom leastOver lesser greater linkError farthest greatest deviation gcd euclid
 least-teeth-3 = refl
 
-least-teeth-4 : leastError five teeth 4 ≡ over 2 1
-unfolding leastOf leastFrom leastOver lesser greater linkError farthest greatest deviation gcd euclid
+least-teeth-4 : leastError five teeth 1048575 4 ≡ over 2 1
+unfolding leastOf obeys hole allFrom leastFrom leastOver lesser greater linkError farthest greatest deviation gcd euclid
 least-teeth-4 = refl
 
-least-list-3 : minimumList five teeth (criterion (leastError five teeth 3)) ≡ 0 ∷ 3 ∷ 4 ∷ []
+least-list-3 : minimumList five teeth (criterion (leastError five teeth 1048575 3)) ≡ 0 ∷ 3 ∷ 4 ∷ []
 unfolding criterionOf gcd euclid
 least-list-3 = rw least-teeth-3 minimum-teeth-2
 
-least-list-4 : minimumList five teeth (criterion (leastError five teeth 4)) ≡ 0 ∷ 3 ∷ 4 ∷ []
+least-list-4 : minimumList five teeth (criterion (leastError five teeth 1048575 4)) ≡ 0 ∷ 3 ∷ 4 ∷ []
 unfolding criterionOf gcd euclid
 least-list-4 = rw least-teeth-4 minimum-teeth-2
 
-least-teeth-5 : leastError five teeth 5 ≡ over 0 1
-unfolding leastOf leastFrom leastOver lesser greater linkError farthest greatest deviation gcd euclid
+least-teeth-5 : leastError five teeth 1048575 5 ≡ over 0 1
+unfolding leastOf obeys hole allFrom leastFrom leastOver lesser greater linkError farthest greatest deviation gcd euclid
 least-teeth-5 = refl
 
 -- ---- values 0 2 0 -2 0, tolerance 2: walk 0 2 4; gallop 0 4 with 5 probes
@@ -113,15 +113,15 @@ abbrev wave : List ℤ
 wave = pos 0 ∷ pos 2 ∷ pos 0 ∷ negsuc 1 ∷ pos 0 ∷ []
 
 walk-wave : walkList five wave (at 2) ≡ 0 ∷ 2 ∷ 4 ∷ []
-unfolding walkOf walkFrom stops criterionOf valid allFrom within deviation gcd euclid
+unfolding walkOf walkFrom stops criterionOf valid obeys hole allWithin allFrom within deviation gcd euclid
 walk-wave = refl
 
 gallop-wave : gallopList five wave (at 2) ≡ 0 ∷ 4 ∷ []
-unfolding gallopOf gallopSearch probeOf searchBy doubling bisection stops criterionOf valid allFrom within deviation gcd euclid
+unfolding gallopOf gallopSearch probeOf searchBy doubling bisection stops criterionOf valid obeys hole allWithin allFrom within deviation gcd euclid
 gallop-wave = refl
 
 probes-wave : gallopTotal five wave (at 2) ≡ 5
-unfolding gallopProbes sumFrom gallopOf gallopSearch probeOf searchBy doubling bisection stops criterionOf valid allFrom within deviation gcd euclid
+unfolding gallopProbes sumFrom gallopOf gallopSearch probeOf searchBy doubling bisection stops criterionOf valid obeys hole allWithin allFrom within deviation gcd euclid
 probes-wave = refl
 
 -- ---- ticks 0 1 3, values 0 1 1: link 0 to 2 has error 2/3; valid at 4/6, invalid at 665/1000
@@ -136,21 +136,21 @@ slope-error : linkError slopeTicks slopeValues 0 2 ≡ over 2 3
 unfolding linkError farthest greatest deviation gcd euclid
 slope-error = refl
 
-slope-valid : valid slopeTicks slopeValues (criterionOf (Ratio 4 6)) 0 2 ≡ true
-unfolding criterionOf valid allFrom within deviation gcd euclid
+slope-valid : valid slopeTicks slopeValues (criterionOf (unlimited (Ratio 4 6))) 0 2 ≡ true
+unfolding criterionOf valid obeys hole allWithin allFrom within deviation gcd euclid
 slope-valid = refl
 
-slope-invalid : valid slopeTicks slopeValues (criterionOf (Ratio 665 1000)) 0 2 ≡ false
-unfolding criterionOf valid allFrom within deviation gcd euclid
+slope-invalid : valid slopeTicks slopeValues (criterionOf (unlimited (Ratio 665 1000))) 0 2 ≡ false
+unfolding criterionOf valid obeys hole allWithin allFrom within deviation gcd euclid
 slope-invalid = refl
 
 -- so judge passes the list 0 2 at the one, and names link 0 at the other
-slope-passed : judgeOf slopeTicks slopeValues (0 ∷ 2 ∷ []) (Ratio 4 6) ≡ Yes
-unfolding judgeOf judgeRows commonRows criterionOf listVerdict traceRows listRow badAt firstInvalid first firstOf valid allFrom within deviation gcd euclid
+slope-passed : judgeOf slopeTicks slopeValues (0 ∷ 2 ∷ []) (unlimited (Ratio 4 6)) ≡ Yes
+unfolding judgeOf judgeRows commonRows criterionOf listVerdict traceRows listRow badAt firstInvalid first firstOf valid obeys hole allWithin allFrom within deviation gcd euclid
 slope-passed = refl
 
-slope-named : judgeOf slopeTicks slopeValues (0 ∷ 2 ∷ []) (Ratio 665 1000) ≡ No 0
-unfolding judgeOf judgeRows commonRows criterionOf listVerdict traceRows listRow badAt firstInvalid first firstOf valid allFrom within deviation gcd euclid
+slope-named : judgeOf slopeTicks slopeValues (0 ∷ 2 ∷ []) (unlimited (Ratio 665 1000)) ≡ No 0
+unfolding judgeOf judgeRows commonRows criterionOf listVerdict traceRows listRow badAt firstInvalid first firstOf valid obeys hole allWithin allFrom within deviation gcd euclid
 slope-named = refl
 
 -- ---- ticks 0 1048575 pass; 0 1048576 is 3 at 1; 5 5 is 2 at 1
@@ -179,7 +179,7 @@ tick-not-above = refl
 
 -- ---- ticks 0 1 3, values 0 1 1, list 0 2, tolerance 2/3: its record
 
-slope-record : encode (contentOf slopeTicks slopeValues (0 ∷ 2 ∷ []) (Ratio 2 3))
+slope-record : encode (contentOf slopeTicks slopeValues (0 ∷ 2 ∷ []) (unlimited (Ratio 2 3)))
     ≡ 0x54 ∷ 0 ∷ 0 ∷ 0 ∷ 0 ∷ 2 ∷ 0 ∷ 0 ∷ 3 ∷ 0x41 ∷ 0 ∷ 0 ∷ 0 ∷ 0 ∷ 0 ∷ 0 ∷ 0x53 ∷ 3 ∷ 1 ∷ 0x45 ∷ 0 ∷ 2 ∷ []
 unfolding encode samplesOnto stepsOnto bytesOnto criterionOf gcd euclid
 slope-record = refl

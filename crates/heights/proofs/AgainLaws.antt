@@ -2,22 +2,24 @@
 -- Assumes nothing.
 use mathlib.Core.Path.{_≡_, refl, subst}
 use mathlib.Core.List.{List, [], _∷_}
-use Prim.Native.Nat.{ℕ, _-_, _*_, _≤_}
+use Prim.Native.Nat.{ℕ, _-_, _*_, _≤_, max}
 use native.Mathlib.Nat.{add-comm, mul-pos}
 use native.Mathlib.Omega.{arith}
 use lib.IntN.{ℤ, pos, negsuc}
 use lib.ListN.{length}
 use Rattle.lists.specs.Select.{select}
 use Rattle.lists.proofs.SelectLaws.{select-length}
-use Rattle.kept.specs.Kept.{KeptList}
+use Rattle.kept.specs.Kept.{KeptList, AllValid}
 use Rattle.kept.specs.Stops.{stops}
 use Rattle.kept.specs.Walk.{walkFrom, walkOf}
 use Rattle.kept.specs.Minimum.{bestStop, linksIn, linksOf, nextOf, minimumOf}
+use Rattle.kept.proofs.KeptLaws.{each-map}
 use Rattle.kept.proofs.SelectedLists.{kept-select}
 use Rattle.trace.specs.declared.Criterion.{Criterion}
 use Rattle.trace.specs.Trace.{tick}
-use Rattle.trace.specs.Link.{deviation, within, allFrom, valid, greatest, farthest}
-use Rattle.trace.proofs.SelectedTrace.{selected-first, selected-last}
+use Rattle.trace.specs.Link.{deviation, within, allFrom, hole, obeys, allWithin, valid, greatest, farthest, criterion, ratioOf}
+use Rattle.trace.proofs.Validity.{valid-obeys}
+use Rattle.trace.proofs.SelectedTrace.{selected-first, selected-last, selected-obeys}
 use Rattle.heights.specs.Heights.{Fraction, samplesAfter, everySample, lineAt, traceAt, OnTrace, Near}
 use Rattle.heights.specs.Budget.{StandsFor}
 use Rattle.heights.specs.Again.{added, ReducedAgain}
@@ -30,8 +32,8 @@ use Rattle.heights.proofs.SelectedLaws.{reduced-line, reduced-peak, red
 
 -- ---- distances add up
 
-near-trans : {c e : Criterion} {x y z : Fraction} → 1 ≤ c .q → 1 ≤ e .q → Near e x y → Near c y z → Near (added c e) x z
-near-trans {c} {e} some more h k =
+near-trans : (c e : Criterion) {x y z : Fraction} → 1 ≤ c .q → 1 ≤ e .q → Near (ratioOf e) x y → Near (ratioOf c) y z → Near (ratioOf (added c e)) x z
+near-trans c e some more h k =
     let one : Near (record { p = e .p * c .q; q = c .q * e .q }) _ _ = near-wider more (omega arith) h in
     let two : Near (record { p = c .p * e .q; q = c .q * e .q }) _ _ = near-wider some (omega arith) k in
     excess-near (rw (add-comm (e .p * c .q) (c .p * e .q)) at (excess-trans (near-excess one .0) (near-excess two .0))) (excess-trans (near-excess two .1) (near-excess one .1))
@@ -42,7 +44,7 @@ module _ {ts : List ℕ} {vs : List ℤ} {c e : Criterion} {l h : List ℕ} (fir
   positions : KeptList (length l - 1) h
   positions = subst (λ (n : ℕ). KeptList (n - 1) h) (select-length 0 ts l) (second .kept)
 
-  again-near : (a d : ℕ) → OnTrace ts a d → Near (added c e) (lineAt ts vs (select 0 l h) a d) (traceAt ts vs a d)
+  again-near : (a d : ℕ) → OnTrace ts a d → Near (ratioOf (added c e)) (lineAt ts vs (select 0 l h) a d) (traceAt ts vs a d)
   again-near a d on =
       let on-reduced : OnTrace (select 0 ts l) a d = record {
         positive = on .positive;
@@ -50,9 +52,14 @@ module _ {ts : List ℕ} {vs : List ℤ} {c e : Criterion} {l h : List ℕ} (fir
         to = rw (selected-last (first .trace) (first .kept)) (on .to);
       } in
       let reduced = line-near e (second .trace) (second .kept) (second .within) a d on-reduced in
-      near-trans (first .positive) (second .positive) (subst (Near e (lineAt ts vs (select 0 l h) a d)) (selected-line ts vs l (first .kept) a d)
-      (subst (λ (x : Fraction). Near e x (traceAt (select 0 ts l) (select (pos 0) vs l) a d)) (reduced-line ts vs l (first .kept) h positions a d) reduced))
+      near-trans c e (first .positive) (second .positive) (subst (Near (ratioOf e) (lineAt ts vs (select 0 l h) a d)) (selected-line ts vs l (first .kept) a d)
+      (subst (λ (x : Fraction). Near (ratioOf e) x (traceAt (select 0 ts l) (select (pos 0) vs l) a d)) (reduced-line ts vs l (first .kept) h positions a d) reduced))
       (line-near c (first .trace) (first .kept) (first .within) a d on)
+
+  -- and no hole is crossed
+  again-obeys : AllValid (obeys ts (max (c .gap) (e .gap))) (select 0 l h)
+  again-obeys = selected-obeys (first .trace) (first .kept) (c .gap) (e .gap) (each-map (valid-obeys ts vs c) l (first .within)) h positions
+      (each-map (valid-obeys (select 0 ts l) (select (pos 0) vs l) e) h (second .within))
 
   again-stands : StandsFor ts vs (added c e) (select 0 l h)
   again-stands =
@@ -61,7 +68,7 @@ module _ {ts : List ℕ} {vs : List ℤ} {c e : Criterion} {l h : List ℕ} (fir
         trace = first .trace;
         positive = mul-pos (first .positive) (second .positive);
         kept = kept;
-        within = near-valid (added c e) (select 0 l h) (first .trace) kept (λ k inside. again-near (tick ts k) 1 (sample-on (first .trace) k inside));
+        within = near-valid (added c e) (select 0 l h) (first .trace) kept again-obeys (λ k inside. again-near (tick ts k) 1 (sample-on (first .trace) k inside));
       }
 
   pub reduced-again : ReducedAgain ts vs c e l h
@@ -80,24 +87,24 @@ abbrev ridge : List ℤ
 ridge = pos 0 ∷ negsuc 1 ∷ pos 0 ∷ pos 1 ∷ negsuc 1 ∷ negsuc 4 ∷ []
 
 abbrev two : Criterion
-two = record { p = 2; q = 1 }
+two = criterion (record { p = 2; q = 1 })
 
 -- at 2, walk and minimum keep 0 2 4 5
 ridge-walk : walkOf (valid (everySample 5) ridge two) 5 ≡ 0 ∷ 2 ∷ 4 ∷ 5 ∷ []
-unfolding samplesAfter walkOf walkFrom stops valid allFrom within deviation
+unfolding samplesAfter walkOf walkFrom stops valid obeys hole allWithin allFrom within deviation
 ridge-walk = refl
 
 ridge-minimum : minimumOf (valid (everySample 5) ridge two) 5 ≡ 0 ∷ 2 ∷ 4 ∷ 5 ∷ []
-unfolding samplesAfter minimumOf nextOf linksOf linksIn bestStop stops valid allFrom within deviation
+unfolding samplesAfter minimumOf nextOf linksOf linksIn bestStop stops valid obeys hole allWithin allFrom within deviation
 ridge-minimum = refl
 
 -- of these four samples, again at 2, both keep the first and the last
 ridge-walk-again : walkOf (valid (0 ∷ 2 ∷ 4 ∷ 5 ∷ []) (select (pos 0) ridge (0 ∷ 2 ∷ 4 ∷ 5 ∷ [])) two) 3 ≡ 0 ∷ 3 ∷ []
-unfolding walkOf walkFrom stops valid allFrom within deviation
+unfolding walkOf walkFrom stops valid obeys hole allWithin allFrom within deviation
 ridge-walk-again = refl
 
 ridge-minimum-again : minimumOf (valid (0 ∷ 2 ∷ 4 ∷ 5 ∷ []) (select (pos 0) ridge (0 ∷ 2 ∷ 4 ∷ 5 ∷ [])) two) 3 ≡ 0 ∷ 3 ∷ []
-unfolding minimumOf nextOf linksOf linksIn bestStop stops valid allFrom within deviation
+unfolding minimumOf nextOf linksOf linksIn bestStop stops valid obeys hole allWithin allFrom within deviation
 ridge-minimum-again = refl
 
 -- which are samples 0 and 5: over the 5 ticks between them, sample 3 deviates by 20/5

@@ -14,7 +14,7 @@ use Rattle.kept.specs.Kept.{LinksFrom, final, KeptList, AllValid}
 use Rattle.kept.proofs.KeptLaws.{rise-le}
 use Rattle.trace.specs.declared.Criterion.{Criterion}
 use Rattle.trace.specs.Trace.{tick, Rising, Trace}
-use Rattle.trace.specs.Link.{Valid, valid}
+use Rattle.trace.specs.Link.{AllWithin, valid, ratioOf}
 use Rattle.trace.proofs.Ticks.{later, not-earlier}
 use Rattle.trace.proofs.Validity.{true-valid}
 use Rattle.trace.proofs.Difference.{plus, times, parts, natural, alike}
@@ -159,12 +159,12 @@ module _ {ts : List ℕ} (rising : Rising ts) (vs : List ℤ) (c : Criterion) (s
       let v = in-order lm inside in
       omega (arith, clipped-sum _ _ _ a u v, clipped-sum _ _ _ b u v, clipped-order (d * tick ts k) (d * tick ts l) ab, clipped-order (d * tick ts l) (d * tick ts m) ab)
 
-  module _ {i j : ℕ} (forward : i < j) (inside : j < length ts) (v : Valid ts vs c i j) where
-    step-near : (k : ℕ) → i ≤ k → suc k ≤ j → Near (multiple c (ticksBetween ts a b d k (suc k)) d) (areaBetween ts vs a b d i j k (suc k)) (areaBetween ts vs a b d k (suc k) k (suc k))
+  module _ {i j : ℕ} (forward : i < j) (inside : j < length ts) (v : AllWithin ts vs c i j) where
+    step-near : (k : ℕ) → i ≤ k → suc k ≤ j → Near (multiple (ratioOf c) (ticksBetween ts a b d k (suc k)) d) (areaBetween ts vs a b d i j k (suc k)) (areaBetween ts vs a b d k (suc k) k (suc k))
     unfolding areaUnder
     step-near k ik kj =
         let rises = in-order {k = k} {l = suc k} (omega arith) (omega arith) in
-        let at : (n : ℕ) → Near c (linkAt ts vs i j (clipped (d * tick ts k) (d * tick ts (suc k)) n) d) (linkAt ts vs k (suc k) (clipped (d * tick ts k) (d * tick ts (suc k)) n) d)
+        let at : (n : ℕ) → Near (ratioOf c) (linkAt ts vs i j (clipped (d * tick ts k) (d * tick ts (suc k)) n) d) (linkAt ts vs k (suc k) (clipped (d * tick ts k) (d * tick ts (suc k)) n) d)
         = λ n. link-near rising vs c inside v _ d k some ik kj (clipped-inside _ _ n rises .0) (clipped-inside _ _ n rises .1) in
         near-wider (mul-pos someq (omega arith)) (halved (c .p) _ (c .q) d) (near-multiplied (ticksBetween ts a b d k (suc k)) (2 * d) (omega arith) (near-summed (at a) (at b)))
 
@@ -191,7 +191,7 @@ module _ {ts : List ℕ} (rising : Rising ts) (vs : List ℤ) (c : Criterion) (s
   -- ---- a list beside the steps of the trace
 
   from-near : (s : List ℕ) (i : ℕ) → LinksFrom _<_ i s → LinksFrom (λ i j. valid ts vs c i j ≡ true) i s → final i s < length ts → (n : ℕ) → i + n ≡ final i s
-      → Near (multiple c (ticksBetween ts a b d i (final i s)) d) (areaFrom ts vs i s a b d) (areaFrom ts vs i (samplesAfter i n) a b d)
+      → Near (multiple (ratioOf c) (ticksBetween ts a b d i (final i s)) d) (areaFrom ts vs i s a b d) (areaFrom ts vs i (samplesAfter i n) a b d)
   unfolding areaFrom samplesAfter
   from-near [] i r v inside n e =
       let en : n ≡ 0 = omega arith in
@@ -202,11 +202,11 @@ module _ {ts : List ℕ} (rising : Rising ts) (vs : List ℤ) (c : Criterion) (s
       let ep : c .p * ticksBetween ts a b d i (final j s) ≡ c .p * ticksBetween ts a b d i j + c .p * ticksBetween ts a b d j (final j s)
       = rw (ticks-parts i j (final j s) (omega (arith, r .0)) (omega arith) inside) (mul-add (c .p) _ _) in
       rw (en, ep)
-      (steps-near {i = i} {j = j} (r .0) (omega arith) (true-valid ts vs c i j (v .0)) (final j s - j) _ _ (from-near s j (r .1) (v .1) inside (final j s - j) (omega arith)) (j - i) i (omega (arith, r .0)) (omega arith))
+      (steps-near {i = i} {j = j} (r .0) (omega arith) (true-valid ts vs c i j (v .0) .within) (final j s - j) _ _ (from-near s j (r .1) (v .1) inside (final j s - j) (omega arith)) (j - i) i (omega (arith, r .0)) (omega arith))
 
 -- a kept list within p/q has its areas within p/q times the ticks
 pub area-near : {ts : List ℕ} {vs : List ℤ} (c : Criterion) {l : List ℕ} → 1 ≤ c .q → Trace ts vs → KeptList (length ts - 1) l → AllValid (valid ts vs c) l
-    → (a b d : ℕ) → OnTrace ts a d → OnTrace ts b d → a ≤ b → Near (multiple c (b - a) d) (areaOf ts vs l a b d) (areaOf ts vs (allOf ts) a b d)
+    → (a b d : ℕ) → OnTrace ts a d → OnTrace ts b d → a ≤ b → Near (multiple (ratioOf c) (b - a) d) (areaOf ts vs l a b d) (areaOf ts vs (allOf ts) a b d)
 area-near c {l = []} some t k v a b d oa ob ab = absurd (k .spans)
 area-near {ts} {vs} c {l = i ∷ s} some t k v a b d oa ob ab =
     let wa = clipped-whole _ _ a (oa .from) (oa .to) in

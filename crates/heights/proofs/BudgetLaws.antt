@@ -9,9 +9,10 @@ use lib.IntN.{ℤ, pos, _-ℤ_, _*ℤ_}
 use lib.ListN.{length}
 use lib.Signed.{_≤ℤ_}
 use Rattle.kept.specs.Kept.{KeptList, AllValid}
+use Rattle.ratio.specs.declared.Ratio.{Ratio}
 use Rattle.trace.specs.declared.Criterion.{Criterion}
 use Rattle.trace.specs.Trace.{tick, value, Trace}
-use Rattle.trace.specs.Link.{valid}
+use Rattle.trace.specs.Link.{valid, ratioOf}
 use Rattle.trace.proofs.Difference.{times, at-most, size-at-most, less, parts}
 use Rattle.heights.specs.Heights.{Fraction, lineAt, traceAt, allOf, Near, Equals, Between, peak, trough}
 use Rattle.heights.specs.Budget.{StandsFor, ErrorBudget}
@@ -31,7 +32,7 @@ above-plain a b m n r s e f p q some h k = le-of-mul-le-mul-right {k = e * f} (o
 below-plain : (a b m n r s e f p q : ℕ) → 0 < e * f → (a * f + n * f * e) * q ≤ (b * f + m * f * e) * q + p * (e * f) → r * e + b ≤ a + s * e → (r + n) * q ≤ (s + m) * q + p
 below-plain a b m n r s e f p q some h k = le-of-mul-le-mul-right {k = e * f} (omega (arith, h, mul-le-mul-right (f * q) k)) some
 
-module _ {c : Criterion} {x y : Fraction} {v low high : ℤ} (near : Near c x y) (is : Equals y v) (within : Between low high x) where
+module _ {c : Ratio} {x y : Fraction} {v low high : ℤ} (near : Near c x y) (is : Equals y v) (within : Between low high x) where
   -- v is at most p/q above any upper bound of x, and at most p/q below any lower one
   above-bound : ((v -ℤ high) *ℤ pos (c .q)) ≤ℤ pos (c .p)
   above-bound =
@@ -75,7 +76,7 @@ heights-near h k l m p q u v =
 module _ {ts : List ℕ} {vs : List ℤ} (c : Criterion) {l : List ℕ} (t : Trace ts vs) (kept : KeptList (length ts - 1) l) (within : AllValid (valid ts vs c) l) where
   -- the list's line at a sample's tick, beside the trace's own, which has the sample's value
   module _ (k : ℕ) (inside : k ≤ length ts - 1) where
-    here : Near c (lineAt ts vs l (tick ts k) 1) (traceAt ts vs (tick ts k) 1)
+    here : Near (ratioOf c) (lineAt ts vs l (tick ts k) 1) (traceAt ts vs (tick ts k) 1)
     here = line-near c t kept within (tick ts k) 1 (sample-on t k inside)
 
     passes : Equals (traceAt ts vs (tick ts k) 1) (value vs k)

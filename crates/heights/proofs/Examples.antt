@@ -7,7 +7,7 @@ use native.Mathlib.Omega.{arith}
 use lib.IntN.{ℤ, pos, negsuc, _*ℤ_}
 use Rattle.kept.specs.Kept.{AllValid}
 use Rattle.trace.specs.declared.Criterion.{Criterion}
-use Rattle.trace.specs.Link.{deviation, within, allFrom, valid}
+use Rattle.trace.specs.Link.{deviation, within, allFrom, hole, obeys, allWithin, valid, criterion}
 use Rattle.heights.specs.Heights.{Fraction, linkAt, lineFrom, lineAt, samplesAfter, everySample, traceAt, Equals, joined, peak, trough, height}
 use Rattle.heights.specs.Windows.{summed, multiplied, sumAt, meanAt, clipped, areaUnder, areaFrom, areaOf, meanOver, baselineHeight, baselineDepth}
 
@@ -81,10 +81,10 @@ abbrev plateau : List ℤ
 plateau = pos 0 ∷ pos 2 ∷ pos 2 ∷ pos 2 ∷ pos 2 ∷ pos 0 ∷ pos 9 ∷ []
 
 abbrev two : Criterion
-two = record { p = 2; q = 1 }
+two = criterion (record { p = 2; q = 1 })
 
 plateau-within : AllValid (valid seven plateau two) (0 ∷ 5 ∷ 6 ∷ [])
-unfolding valid allFrom within deviation
+unfolding valid obeys hole allWithin allFrom within deviation
 plateau-within = (refl, (refl, tt))
 
 plateau-mean : Equals (meanAt (lineAt seven plateau (0 ∷ 5 ∷ 6 ∷ [])) 1 4) (pos 0) × Equals (meanAt (traceAt seven plateau) 1 4) (pos 2)
@@ -123,7 +123,7 @@ abbrev dip : List ℤ
 dip = pos 0 ∷ negsuc 1 ∷ negsuc 1 ∷ negsuc 1 ∷ negsuc 1 ∷ pos 0 ∷ pos 2 ∷ pos 0 ∷ []
 
 dip-within : AllValid (valid eight dip two) (0 ∷ 7 ∷ [])
-unfolding valid allFrom within deviation
+unfolding valid obeys hole allWithin allFrom within deviation
 dip-within = (refl, tt)
 
 dip-baseline : Equals (baselineHeight dip (0 ∷ 7 ∷ []) (meanAt (lineAt eight dip (0 ∷ 7 ∷ [])) 1 4)) (pos 0)
@@ -142,7 +142,7 @@ abbrev basin : List ℤ
 basin = pos 0 ∷ negsuc 1 ∷ negsuc 1 ∷ negsuc 1 ∷ negsuc 1 ∷ pos 0 ∷ negsuc 8 ∷ []
 
 basin-within : AllValid (valid seven basin two) (0 ∷ 5 ∷ 6 ∷ [])
-unfolding valid allFrom within deviation
+unfolding valid obeys hole allWithin allFrom within deviation
 basin-within = (refl, (refl, tt))
 
 basin-depth : Equals (baselineDepth basin (0 ∷ 5 ∷ 6 ∷ []) (meanAt (lineAt seven basin (0 ∷ 5 ∷ 6 ∷ [])) 1 4)) (pos 9)
@@ -154,7 +154,7 @@ abbrev hump : List ℤ
 hump = pos 0 ∷ pos 2 ∷ pos 2 ∷ pos 2 ∷ pos 2 ∷ pos 0 ∷ negsuc 1 ∷ pos 0 ∷ []
 
 hump-within : AllValid (valid eight hump two) (0 ∷ 7 ∷ [])
-unfolding valid allFrom within deviation
+unfolding valid obeys hole allWithin allFrom within deviation
 hump-within = (refl, tt)
 
 hump-depth : Equals (baselineDepth hump (0 ∷ 7 ∷ []) (meanAt (lineAt eight hump (0 ∷ 7 ∷ [])) 1 4)) (pos 0)

@@ -7,7 +7,7 @@ use native.Mathlib.Nat.{zero-add, add-zero, mul-comm, mul-assoc, mul-le-mul-righ
 use native.Mathlib.Omega.{arith}
 use lib.IntN.{ℤ, pos, natAbs, _+ℤ_, _-ℤ_, _*ℤ_, +ℤ-comm}
 use lib.Signed.{_≤ℤ_}
-use Rattle.trace.specs.declared.Criterion.{Criterion}
+use Rattle.ratio.specs.declared.Ratio.{Ratio}
 use Rattle.trace.proofs.Difference.{Diff, negated, plus, times, less, parts, same, natural, alike, at-most, size-at-most, wider}
 use Rattle.heights.specs.Heights.{Fraction, Near, Equals}
 use Rattle.heights.specs.Windows.{whole, summed, multiplied, opposite, multiple, Excess}
@@ -66,7 +66,7 @@ equals-summed {x} {y} {v} {w} h k =
 
 -- ---- at most p/q above
 
-module _ {c : Criterion} {x y : Fraction} {a b m n : ℕ} (dx : Diff (x .num) a b) (dy : Diff (y .num) m n) where
+module _ {c : Ratio} {x y : Fraction} {a b m n : ℕ} (dx : Diff (x .num) a b) (dy : Diff (y .num) m n) where
   excess-over : Excess c x y → Over (a * c .q) (b * c .q) (x .den) (m * c .q) (n * c .q) (y .den) (c .p)
   excess-over h = omega (arith, at-most (times (less (times dx (y .den)) (times dy (x .den))) (c .q)) (c .p * (x .den * y .den)) .0 (h .above))
 
@@ -77,7 +77,7 @@ module _ {c : Criterion} {x y : Fraction} {a b m n : ℕ} (dx : Diff (x .num) a 
     above = at-most (times (less (times dx (y .den)) (times dy (x .den))) (c .q)) (c .p * (x .den * y .den)) .1 (omega arith);
   }
 
-pub excess-wider : {c d : Criterion} {x y : Fraction} → 1 ≤ c .q → c .p * d .q ≤ d .p * c .q → Excess c x y → Excess d x y
+pub excess-wider : {c d : Ratio} {x y : Fraction} → 1 ≤ c .q → c .p * d .q ≤ d .p * c .q → Excess c x y → Excess d x y
 excess-wider {c} {d} {x} {y} some e h = record {
   left = h .left;
   right = h .right;
@@ -85,7 +85,7 @@ excess-wider {c} {d} {x} {y} some e h = record {
       (omega (arith, mul-le-mul-right (x .den * y .den) e)) (h .above);
 }
 
-excess-multiplied : {c : Criterion} {x y : Fraction} (m n : ℕ) → 1 ≤ n → Excess c x y → Excess (multiple c m n) (multiplied x m n) (multiplied y m n)
+excess-multiplied : {c : Ratio} {x y : Fraction} (m n : ℕ) → 1 ≤ n → Excess c x y → Excess (multiple c m n) (multiplied x m n) (multiplied y m n)
 unfolding multiplied
 excess-multiplied {c} {x} {y} m n some h =
     let dx = parts (x .num) .2 in
@@ -94,7 +94,7 @@ excess-multiplied {c} {x} {y} m n some h =
     (rw (product-by (parts (x .num) .0) m (c .q) n, product-by (parts (x .num) .1) m (c .q) n, product-by (parts (y .num) .0) m (c .q) n, product-by (parts (y .num) .1) m (c .q) n)
     (over-multiplied _ _ _ _ _ _ (c .p) m n (excess-over dx dy h)))
 
-excess-left : {c : Criterion} {x y : Fraction} (z : Fraction) → 1 ≤ z .den → Excess c x y → Excess c (summed x z) (summed y z)
+excess-left : {c : Ratio} {x y : Fraction} (z : Fraction) → 1 ≤ z .den → Excess c x y → Excess c (summed x z) (summed y z)
 unfolding summed
 excess-left {c} {x} {y} z some h =
     let dx = parts (x .num) in
@@ -115,13 +115,13 @@ module _ {o p q : ℕ} where
   pub excess-summed : {x y z w : Fraction} → Excess (record { p = o; q = q }) x y → Excess (record { p = p; q = q }) z w → Excess (record { p = o + p; q = q }) (summed x z) (summed y w)
   excess-summed {y = y} {z} {w} h k = excess-trans (excess-left z (k .left) h) (rw (summed-comm y z, summed-comm y w) (excess-left y (h .right) k))
 
-pub excess-opposite : {c : Criterion} {x y : Fraction} → Excess c y x → Excess c (opposite x) (opposite y)
+pub excess-opposite : {c : Ratio} {x y : Fraction} → Excess c y x → Excess c (opposite x) (opposite y)
 excess-opposite {x = x} {y} h =
     let dx = parts (x .num) .2 in
     let dy = parts (y .num) .2 in
     over-excess (negated dx) (negated dy) (h .right) (h .left) (omega (arith, excess-over dy dx h))
 
-pub excess-whole : {c : Criterion} (v w : ℤ) → ((v -ℤ w) *ℤ pos (c .q)) ≤ℤ pos (c .p) → Excess c (whole v) (whole w)
+pub excess-whole : {c : Ratio} (v w : ℤ) → ((v -ℤ w) *ℤ pos (c .q)) ≤ℤ pos (c .p) → Excess c (whole v) (whole w)
 excess-whole {c} v w h =
     let dv = parts v .2 in
     let dw = parts w .2 in
@@ -130,18 +130,18 @@ excess-whole {c} v w h =
 -- ---- near: at most p/q above, either way round
 
 -- a fraction near one that is a whole number
-pub value-apart : {c : Criterion} {x y : Fraction} {v : ℤ} → Near c x y → Equals y v → natAbs (x .num *ℤ pos (y .den) -ℤ v *ℤ pos (y .den) *ℤ pos (x .den)) * c .q ≤ c .p * (x .den * y .den)
+pub value-apart : {c : Ratio} {x y : Fraction} {v : ℤ} → Near c x y → Equals y v → natAbs (x .num *ℤ pos (y .den) -ℤ v *ℤ pos (y .den) *ℤ pos (x .den)) * c .q ≤ c .p * (x .den * y .den)
 value-apart {c} {x} {y} near is = subst (λ (z : ℤ). natAbs (x .num *ℤ pos (y .den) -ℤ z *ℤ pos (x .den)) * c .q ≤ c .p * (x .den * y .den)) (is .is) (near .apart)
 
-near-equal : {c : Criterion} {x y : Fraction} → 1 ≤ x .den → 1 ≤ y .den → x .num *ℤ pos (y .den) ≡ y .num *ℤ pos (x .den) → Near c x y
+near-equal : {c : Ratio} {x y : Fraction} → 1 ≤ x .den → 1 ≤ y .den → x .num *ℤ pos (y .den) ≡ y .num *ℤ pos (x .den) → Near c x y
 near-equal {c} {x} {y} ex ey e =
     let d = parts (y .num *ℤ pos (x .den)) .2 in
     record { left = ex; right = ey; apart = rw e (size-at-most (same (less d d) 0 0 (omega arith)) (c .q) _ .1 (omega arith)) }
 
-pub near-refl : (c : Criterion) (x : Fraction) → 1 ≤ x .den → Near c x x
+pub near-refl : (c : Ratio) (x : Fraction) → 1 ≤ x .den → Near c x x
 near-refl c x e = near-equal e e refl
 
-module _ {c : Criterion} {x y : Fraction} where
+module _ {c : Ratio} {x y : Fraction} where
   pub near-excess : Near c x y → Excess c x y × Excess c y x
   near-excess h =
       let dx = parts (x .num) .2 in
@@ -160,23 +160,23 @@ module _ {c : Criterion} {x y : Fraction} where
             (omega (arith, excess-over dx dy h), omega (arith, excess-over dy dx k));
       }
 
-pub near-sym : {c : Criterion} {x y : Fraction} → Near c x y → Near c y x
+pub near-sym : {c : Ratio} {x y : Fraction} → Near c x y → Near c y x
 near-sym h = excess-near (near-excess h .1) (near-excess h .0)
 
-pub near-opposite : {c : Criterion} {x y : Fraction} → Near c x y → Near c (opposite x) (opposite y)
+pub near-opposite : {c : Ratio} {x y : Fraction} → Near c x y → Near c (opposite x) (opposite y)
 near-opposite h = excess-near (excess-opposite (near-excess h .1)) (excess-opposite (near-excess h .0))
 
-pub near-wider : {c d : Criterion} {x y : Fraction} → 1 ≤ c .q → c .p * d .q ≤ d .p * c .q → Near c x y → Near d x y
+pub near-wider : {c d : Ratio} {x y : Fraction} → 1 ≤ c .q → c .p * d .q ≤ d .p * c .q → Near c x y → Near d x y
 near-wider some e h = excess-near (excess-wider some e (near-excess h .0)) (excess-wider some e (near-excess h .1))
 
-pub near-multiplied : {c : Criterion} {x y : Fraction} (m n : ℕ) → 1 ≤ n → Near c x y → Near (multiple c m n) (multiplied x m n) (multiplied y m n)
+pub near-multiplied : {c : Ratio} {x y : Fraction} (m n : ℕ) → 1 ≤ n → Near c x y → Near (multiple c m n) (multiplied x m n) (multiplied y m n)
 near-multiplied m n some h = excess-near (excess-multiplied m n some (near-excess h .0)) (excess-multiplied m n some (near-excess h .1))
 
 module _ {o p q : ℕ} where
   pub near-summed : {x y z w : Fraction} → Near (record { p = o; q = q }) x y → Near (record { p = p; q = q }) z w → Near (record { p = o + p; q = q }) (summed x z) (summed y w)
   near-summed h k = excess-near (excess-summed (near-excess h .0) (near-excess k .0)) (excess-summed (near-excess h .1) (near-excess k .1))
 
-pub near-left : {c : Criterion} {x y : Fraction} (z : Fraction) → 1 ≤ z .den → Near c x y → Near c (summed x z) (summed y z)
+pub near-left : {c : Ratio} {x y : Fraction} (z : Fraction) → 1 ≤ z .den → Near c x y → Near c (summed x z) (summed y z)
 near-left z some h = excess-near (excess-left z some (near-excess h .0)) (excess-left z some (near-excess h .1))
 
 -- ---- the same fraction: near at 0
@@ -184,7 +184,7 @@ near-left z some h = excess-near (excess-left z some (near-excess h .0)) (excess
 abbrev pub Same : Fraction → Fraction → Type 0
 Same = Near (record { p = 0; q = 1 })
 
-pub near-same : {c : Criterion} {x y z : Fraction} → Same x y → Near c y z → Near c x z
+pub near-same : {c : Ratio} {x y z : Fraction} → Same x y → Near c y z → Near c x z
 near-same {c} h k =
     let zero : Near (record { p = 0; q = c .q }) _ _ = near-wider (omega arith) (omega arith) h in
     excess-near (rw (zero-add (c .p)) at (excess-trans (near-excess zero .0) (near-excess k .0))) (rw (add-zero (c .p)) at (excess-trans (near-excess k .1) (near-excess zero .1)))

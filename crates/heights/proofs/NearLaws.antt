@@ -13,15 +13,16 @@ use lib.IntN.{ℤ}
 use lib.ListN.{length}
 use Rattle.kept.specs.Kept.{KeptList, AllValid}
 use Rattle.kept.proofs.KeptLaws.{each-zip, kept-links, kept-one}
+use Rattle.ratio.specs.declared.Ratio.{Ratio}
 use Rattle.trace.specs.declared.Criterion.{Criterion}
 use Rattle.trace.specs.Trace.{tick, Rising, Trace}
-use Rattle.trace.specs.Link.{Band, Valid, valid}
+use Rattle.trace.specs.Link.{Band, AllWithin, valid, ratioOf}
 use Rattle.trace.proofs.Line.{Above, Below}
 use Rattle.trace.proofs.Ticks.{not-earlier}
 use Rattle.trace.proofs.Difference.{Diff, same, less, times, size-at-most}
 use Rattle.trace.proofs.Deviation.{line}
 use Rattle.trace.proofs.Offsets.{offsetBase, offsetOf, offset-of-diff, High, Low}
-use Rattle.trace.proofs.Validity.{valid-band, true-valid}
+use Rattle.trace.proofs.Validity.{within-band, true-valid}
 use Rattle.trace.proofs.Half.{band-high, band-low}
 use Rattle.heights.specs.Heights.{Fraction, linkAt, lineFrom, lineAt, samplesAfter, everySample, traceAt, OnTrace, Near}
 use Rattle.heights.proofs.Entries.{every-kept, every-links}
@@ -57,7 +58,7 @@ module _ (a b c u s p q d : ℕ) {x r t : ℕ} (eu : d * u ≡ x) (es : d * s �
   parts-below h = rw (et, ← eu, ← es) (omega (arith, mul-le-mul-right d (h .le)))
 
 -- two fractions over one base are near if their levels are
-near-levels : {c : Criterion} {x y : Fraction} (base : ℕ) {m n : ℕ} → 1 ≤ x .den → 1 ≤ y .den → Diff (x .num) m (base * x .den) → Diff (y .num) n (base * y .den)
+near-levels : {c : Ratio} {x y : Fraction} (base : ℕ) {m n : ℕ} → 1 ≤ x .den → 1 ≤ y .den → Diff (x .num) m (base * x .den) → Diff (y .num) n (base * y .den)
     → m * y .den * c .q ≤ n * x .den * c .q + c .p * (x .den * y .den)
     → n * x .den * c .q ≤ m * y .den * c .q + c .p * (x .den * y .den)
     → Near c x y
@@ -69,9 +70,9 @@ near-levels {c} {x} {y} base {m} {n} ex ey hx hy up down = record {
 
 -- ---- a valid link
 
-module _ {ts : List ℕ} (rising : Rising ts) (vs : List ℤ) (c : Criterion) {i j : ℕ} (inside : j < length ts) (v : Valid ts vs c i j) where
+module _ {ts : List ℕ} (rising : Rising ts) (vs : List ℤ) (c : Criterion) {i j : ℕ} (inside : j < length ts) (v : AllWithin ts vs c i j) where
   band : Band ts vs i j (c .p) (c .q) (c .p) (c .q)
-  band = valid-band ts vs c i j v
+  band = within-band ts vs c i j v
 
   -- each sample of the link, its ends included, is within p/q of it
   sample-high : (k : ℕ) → i ≤ k → k ≤ j → High ts vs i j (c .p) (c .q) k
@@ -81,7 +82,7 @@ module _ {ts : List ℕ} (rising : Rising ts) (vs : List ℤ) (c : Criterion) {i
   sample-low = band-low rising vs inside band
 
   -- so its line is within p/q of that of two neighbours in it, between them
-  pub link-near : (a d k : ℕ) → 1 ≤ d → i ≤ k → suc k ≤ j → d * tick ts k ≤ a → a ≤ d * tick ts (suc k) → Near c (linkAt ts vs i j a d) (linkAt ts vs k (suc k) a d)
+  pub link-near : (a d k : ℕ) → 1 ≤ d → i ≤ k → suc k ≤ j → d * tick ts k ≤ a → a ≤ d * tick ts (suc k) → Near (ratioOf c) (linkAt ts vs i j a d) (linkAt ts vs k (suc k) a d)
   link-near a d k some ik kj from to =
       let ti : tick ts i ≤ tick ts k = not-earlier rising ik (omega arith) in
       let tj : tick ts (suc k) ≤ tick ts j = not-earlier rising kj inside in
@@ -113,31 +114,31 @@ starts-before {ts} rising a d i n inside some first to = elim (decLe n i) [
   | no h ↦ omega arith
 ]
 
-one-near : (ts : List ℕ) (vs : List ℤ) (c : Criterion) (a d : ℕ) (l : List ℕ) → KeptList 0 l → Near c (lineAt ts vs l a d) (lineAt ts vs (everySample 0) a d)
+one-near : (ts : List ℕ) (vs : List ℤ) (c : Ratio) (a d : ℕ) (l : List ℕ) → KeptList 0 l → Near c (lineAt ts vs l a d) (lineAt ts vs (everySample 0) a d)
 unfolding lineFrom samplesAfter
 one-near ts vs c a d l k = rw (kept-one l k) (near-refl c _ (omega arith))
 
 module _ {ts : List ℕ} (rising : Rising ts) (vs : List ℤ) (c : Criterion) (last a d : ℕ) (size : suc last ≡ length ts) (on : OnTrace ts a d) where
   -- a link of the list, and a step of the trace, that decide at one tick
-  located-near : {x y : Fraction} → Located ts vs (λ i j. (i < j) × (j ≤ last) × (valid ts vs c i j ≡ true)) a d x → Located ts vs (λ i j. (j ≡ suc i) × (j ≤ last)) a d y → Near c x y
+  located-near : {x y : Fraction} → Located ts vs (λ i j. (i < j) × (j ≤ last) × (valid ts vs c i j ≡ true)) a d x → Located ts vs (λ i j. (j ≡ suc i) × (j ≤ last)) a d y → Near (ratioOf c) x y
   located-near x y =
       let e : y .j ≡ suc (y .i) = y .link .0 in
       let to : a ≤ d * tick ts (suc (y .i)) = subst (λ (n : ℕ). a ≤ d * tick ts n) e (y .to) in
       rw (x .is, y .is, e)
-      (link-near rising vs c {i = x .i} {j = x .j} (omega (arith, x .link .1)) (true-valid ts vs c (x .i) (x .j) (x .link .2)) a d (y .i) (on .positive)
+      (link-near rising vs c {i = x .i} {j = x .j} (omega (arith, x .link .1)) (true-valid ts vs c (x .i) (x .j) (x .link .2) .within) a d (y .i) (on .positive)
       (omega (arith, starts-before rising a d (x .i) (suc (y .i)) (omega (arith, x .link .0, x .link .1)) (omega arith) (x .first) to))
       (starts-before rising a d (y .i) (x .j) (omega (arith, y .link)) (omega (arith, x .link .0)) (y .first) (x .to))
       (y .from) to)
 
-  kept-near : (l : List ℕ) → KeptList last l → AllValid (valid ts vs c) l → Near c (lineAt ts vs l a d) (lineAt ts vs (everySample last) a d)
+  kept-near : (l : List ℕ) → KeptList last l → AllValid (valid ts vs c) l → Near (ratioOf c) (lineAt ts vs l a d) (lineAt ts vs (everySample last) a d)
   kept-near l k v =
       let to : a ≤ d * tick ts last = subst (λ (n : ℕ). a ≤ d * tick ts n) (omega arith) (on .to) in
-      ⊎-elim (λ z. subst (λ (n : ℕ). KeptList n l → Near c (lineAt ts vs l a d) (lineAt ts vs (everySample n) a d)) z (one-near ts vs c a d l) k)
+      ⊎-elim (λ z. subst (λ (n : ℕ). KeptList n l → Near (ratioOf c) (lineAt ts vs l a d) (lineAt ts vs (everySample n) a d)) z (one-near ts vs (ratioOf c) a d l) k)
       (λ some. located-near
       (kept-located ts vs _ a d l some k (each-zip (λ i j r w. (r .0, r .1, w)) l (kept-links last l k) v) (on .from) to)
       (kept-located ts vs _ a d (everySample last) some (every-kept last) (every-links _ last (λ k h. (refl, h))) (on .from) to))
       (eq-or-lt-of-le (zero-le {n = last}))
 
 pub line-near : {ts : List ℕ} {vs : List ℤ} (c : Criterion) {l : List ℕ} → Trace ts vs → KeptList (length ts - 1) l → AllValid (valid ts vs c) l
-    → (a d : ℕ) → OnTrace ts a d → Near c (lineAt ts vs l a d) (traceAt ts vs a d)
+    → (a d : ℕ) → OnTrace ts a d → Near (ratioOf c) (lineAt ts vs l a d) (traceAt ts vs a d)
 line-near {ts} {vs} c {l} t k v a d on = kept-near (t .rising) vs c (length ts - 1) a d (omega (arith, t .some)) on l k v

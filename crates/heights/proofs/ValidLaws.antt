@@ -1,4 +1,4 @@
--- A kept list whose lines are within p/q of the trace's own at each sample's tick is within p/q: the other way round from NearLaws.
+-- A kept list whose lines are within p/q of the trace's own at each sample's tick and that obeys the gap limit is within both: the other way round from NearLaws.
 -- Assumes nothing.
 use mathlib.Core.Path.{_≡_, _∙_}
 use mathlib.Core.Bool.{true}
@@ -13,11 +13,12 @@ use Rattle.kept.specs.Kept.{LinksFrom, final, KeptList, AllValid}
 use Rattle.kept.proofs.KeptLaws.{rise-le}
 use Rattle.trace.specs.declared.Criterion.{Criterion}
 use Rattle.trace.specs.Trace.{tick, value, Rising, Trace}
-use Rattle.trace.specs.Link.{Within, valid}
+use Rattle.trace.specs.Link.{Within, obeys, valid, ratioOf}
 use Rattle.trace.proofs.Ticks.{later}
 use Rattle.trace.proofs.Difference.{Diff, same, less, times, size-at-most}
 use Rattle.trace.proofs.Deviation.{diff}
 use Rattle.trace.proofs.Offsets.{offset-of-diff}
+use Rattle.trace.proofs.Holes.{true-obeys}
 use Rattle.trace.proofs.Validity.{valid-true}
 use Rattle.heights.specs.Heights.{Fraction, linkAt, lineFrom, lineAt, allOf, traceAt, Near, Equals}
 use Rattle.heights.proofs.Entries.{every-kept, every-entry}
@@ -40,7 +41,7 @@ level-apart : (m w t f base : ℕ) {x v : ℤ} → Diff x m (base * t) → Diff 
 level-apart m w t f base hx hv = same (less (times hx f) (times (times hv f) t)) (m * f) (w * f * t) (omega arith)
 
 module _ {ts : List ℕ} (rising : Rising ts) (vs : List ℤ) (c : Criterion) {i j k : ℕ} (ik : i < k) (kj : k < j) (inside : j < length ts) where
-  near-within : {y : Fraction} → Near c (linkAt ts vs i j (tick ts k) 1) y → Equals y (value vs k) → Within ts vs c i j k
+  near-within : {y : Fraction} → Near (ratioOf c) (linkAt ts vs i j (tick ts k) 1) y → Equals y (value vs k) → Within ts vs c i j k
   near-within {y} near is =
       let ti : tick ts i < tick ts k = later rising k ik (omega arith) in
       let tj : tick ts k < tick ts j = later rising j kj inside in
@@ -58,24 +59,27 @@ module _ {ts : List ℕ} (rising : Rising ts) (vs : List ℤ) (c : Criterion) {i
 
 module _ {ts : List ℕ} (rising : Rising ts) (vs : List ℤ) (c : Criterion) where
   -- at the ticks between two samples the line is that of their link, and after them that of the rest
-  from-valid : (s : List ℕ) (i : ℕ) → LinksFrom _<_ i s → final i s < length ts
-      → ((k : ℕ) → i < k → k < final i s → (y : Fraction) × Near c (lineFrom ts vs i s (tick ts k) 1) y × Equals y (value vs k)) → LinksFrom (λ i j. valid ts vs c i j ≡ true) i s
+  from-valid : (s : List ℕ) (i : ℕ) → LinksFrom _<_ i s → LinksFrom (λ i j. obeys ts (c .gap) i j ≡ true) i s → final i s < length ts
+      → ((k : ℕ) → i < k → k < final i s → (y : Fraction) × Near (ratioOf c) (lineFrom ts vs i s (tick ts k) 1) y × Equals y (value vs k)) → LinksFrom (λ i j. valid ts vs c i j ≡ true) i s
   unfolding lineFrom
-  from-valid [] i r inside near = tt
-  from-valid (j ∷ s) i r inside near =
+  from-valid [] i r o inside near = tt
+  from-valid (j ∷ s) i r o inside near =
       let j-inside : j ≤ final j s = omega (arith, rise-le j s (r .1)) in
       let tj : (k : ℕ) → k < j → tick ts k < tick ts j = λ k u. later rising j u (omega arith) in
       let jt : (k : ℕ) → j < k → k < final j s → tick ts j < tick ts k = λ k l u. later rising k l (omega arith) in (
         valid-true ts vs c i j (record {
-          between = λ k l u. let n = near k l (omega arith) in near-within rising vs c l u (omega arith) (rw (le-leb (tick ts k) (1 * tick ts j) (omega (arith, tj k u))) at (n .1)) (n .2);
+          within = record {
+            between = λ k l u. let n = near k l (omega arith) in near-within rising vs c l u (omega arith) (rw (le-leb (tick ts k) (1 * tick ts j) (omega (arith, tj k u))) at (n .1)) (n .2);
+          };
+          obeys = true-obeys ts (c .gap) i j (o .0);
         }),
-        from-valid s j (r .1) inside (λ k l u. let n = near k (omega (arith, r .0)) u in (n .0, rw (lt-leb (tick ts k) (1 * tick ts j) (omega (arith, jt k l u))) at (n .1), n .2)),
+        from-valid s j (r .1) (o .1) inside (λ k l u. let n = near k (omega (arith, r .0)) u in (n .0, rw (lt-leb (tick ts k) (1 * tick ts j) (omega (arith, jt k l u))) at (n .1), n .2)),
       )
 
-pub near-valid : {ts : List ℕ} {vs : List ℤ} (c : Criterion) (l : List ℕ) → Trace ts vs → KeptList (length ts - 1) l
-    → ((k : ℕ) → k ≤ length ts - 1 → Near c (lineAt ts vs l (tick ts k) 1) (traceAt ts vs (tick ts k) 1)) → AllValid (valid ts vs c) l
-near-valid c [] t k near = tt
-near-valid {ts} {vs} c (i ∷ s) t k near =
+pub near-valid : {ts : List ℕ} {vs : List ℤ} (c : Criterion) (l : List ℕ) → Trace ts vs → KeptList (length ts - 1) l → AllValid (obeys ts (c .gap)) l
+    → ((k : ℕ) → k ≤ length ts - 1 → Near (ratioOf c) (lineAt ts vs l (tick ts k) 1) (traceAt ts vs (tick ts k) 1)) → AllValid (valid ts vs c) l
+near-valid c [] t k o near = tt
+near-valid {ts} {vs} c (i ∷ s) t k o near =
     let last = length ts - 1 in
-    from-valid (t .rising) vs c s i (k .rises) (omega (arith, k .spans .1, t .some))
+    from-valid (t .rising) vs c s i (k .rises) o (omega (arith, k .spans .1, t .some))
     (λ m l u. (traceAt ts vs (tick ts m) 1, near m (omega (arith, k .spans .1)), line-through t (allOf ts) (every-kept last) m (every-entry last m (omega (arith, k .spans .1)))))

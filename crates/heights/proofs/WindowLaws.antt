@@ -9,9 +9,10 @@ use lib.IntN.{ℤ, pos, _-ℤ_, _*ℤ_}
 use lib.ListN.{length}
 use lib.Signed.{_≤ℤ_}
 use Rattle.kept.specs.Kept.{KeptList, AllValid}
+use Rattle.ratio.specs.declared.Ratio.{Ratio}
 use Rattle.trace.specs.declared.Criterion.{Criterion}
 use Rattle.trace.specs.Trace.{tick, Trace}
-use Rattle.trace.specs.Link.{valid}
+use Rattle.trace.specs.Link.{valid, ratioOf}
 use Rattle.trace.proofs.Difference.{times, less, parts, at-most}
 use Rattle.heights.specs.Heights.{Fraction, lineAt, traceAt, allOf, OnTrace, Near, Equals, peak, trough}
 use Rattle.heights.specs.Windows.{Line, summed, Excess, Window, sumAt, meanAt, valueSum, meanOver, BaselineNear}
@@ -25,7 +26,7 @@ use Rattle.heights.proofs.ExtremeLaws.{line-through}
 
 -- ---- whole ticks
 
-module _ (c : Criterion) (f g : Line) where
+module _ (c : Ratio) (f g : Line) where
   sum-near : (n a : ℕ) → ((k : ℕ) → a ≤ k → k < a + n → Near c (f k 1) (g k 1)) → Near (record { p = c .p * n; q = c .q }) (sumAt f a n) (sumAt g a n)
   unfolding sumAt
   sum-near zero a h = near-refl _ _ (omega arith)
@@ -52,7 +53,7 @@ samples-sum {ts} {vs} t (suc n) k a inside h =
 -- ---- a greatest or least value beside a mean
 
 -- u, x of the list and v, y of the trace: u is never above v and at most p/q below it, and x is within p/q of y
-baseline-near : {c : Criterion} {u v x y : Fraction} → Excess (record { p = 0; q = c .q }) u v → Excess c v u → Near c x y → BaselineNear c (summed u x) (summed v y)
+baseline-near : {c : Ratio} {u v x y : Fraction} → Excess (record { p = 0; q = c .q }) u v → Excess c v u → Near c x y → BaselineNear c (summed u x) (summed v y)
 baseline-near {c} never most near =
     let double : c .p * 2 ≡ c .p + c .p = omega arith in
     record {
@@ -72,16 +73,16 @@ by-ticks : (p q w d : ℕ) → p * w * d * q ≤ p * (q * d * w)
 by-ticks p q w d = omega arith
 
 module _ {ts : List ℕ} {vs : List ℤ} (c : Criterion) {l : List ℕ} (some : 1 ≤ c .q) (t : Trace ts vs) (kept : KeptList (length ts - 1) l) (within : AllValid (valid ts vs c) l) where
-  means-at : (a n : ℕ) → Window ts a n → Near c (meanAt (lineAt ts vs l) a n) (meanAt (traceAt ts vs) a n)
-  means-at a n w = mean-near c (lineAt ts vs l) (traceAt ts vs) a n some (w .some) (λ k u v. line-near c t kept within k 1 (window-on w k u v))
+  means-at : (a n : ℕ) → Window ts a n → Near (ratioOf c) (meanAt (lineAt ts vs l) a n) (meanAt (traceAt ts vs) a n)
+  means-at a n w = mean-near (ratioOf c) (lineAt ts vs l) (traceAt ts vs) a n some (w .some) (λ k u v. line-near c t kept within k 1 (window-on w k u v))
 
-  means-over : (a b d : ℕ) → OnTrace ts a d → OnTrace ts b d → a < b → Near c (meanOver ts vs l a b d) (meanOver ts vs (allOf ts) a b d)
+  means-over : (a b d : ℕ) → OnTrace ts a d → OnTrace ts b d → a < b → Near (ratioOf c) (meanOver ts vs l a b d) (meanOver ts vs (allOf ts) a b d)
   means-over a b d oa ob ab =
       near-wider (mul-pos (mul-pos some (oa .positive)) (omega arith)) (by-ticks (c .p) (c .q) (b - a) d) (near-multiplied d (b - a) (omega arith) (area-near c some t kept within a b d oa ob (omega arith)))
 
   module _ (peak-high : peak vs l ≤ℤ peak vs (allOf ts)) (peak-near : ((peak vs (allOf ts) -ℤ peak vs l) *ℤ pos (c .q)) ≤ℤ pos (c .p))
       (trough-low : trough vs (allOf ts) ≤ℤ trough vs l) (trough-near : ((trough vs l -ℤ trough vs (allOf ts)) *ℤ pos (c .q)) ≤ℤ pos (c .p)) where
-    baseline : {x y : Fraction} → Near c x y → BaselineBudget ts vs c l x y
+    baseline : {x y : Fraction} → Near (ratioOf c) x y → BaselineBudget ts vs c l x y
     baseline h = record {
       over-mean = baseline-near (excess-whole _ _ (at-most-none _ _ (c .q) peak-high)) (excess-whole _ _ peak-near) (near-opposite h);
       under-mean = baseline-near (excess-opposite (excess-whole (trough vs (allOf ts)) (trough vs l) (at-most-none _ _ (c .q) trough-low)))

@@ -21,7 +21,7 @@ use lib.Dec.{leb}
 use lib.IntN.{ℤ, pos, natAbs, _+ℤ_, _-ℤ_, _*ℤ_}
 use lib.ListN.{length}
 use lib.Signed.{_≤ℤ_, leZ}
-use Rattle.trace.specs.declared.Criterion.{Criterion}
+use Rattle.ratio.specs.declared.Ratio.{Ratio}
 use Rattle.trace.specs.Trace.{tick, value}
 
 -- num / den
@@ -71,10 +71,10 @@ pub record OnTrace (ts : List ℕ) (a d : ℕ) : Type 0 where
 -- ---- fractions
 
 -- |x - y| ≤ p/q, times both denominators and q
-pub record Near (c : Criterion) (x y : Fraction) : Type 0 where
+pub record Near (r : Ratio) (x y : Fraction) : Type 0 where
   pub left : 1 ≤ x .den
   pub right : 1 ≤ y .den
-  pub apart : natAbs (x .num *ℤ pos (y .den) -ℤ y .num *ℤ pos (x .den)) * c .q ≤ c .p * (x .den * y .den)
+  pub apart : natAbs (x .num *ℤ pos (y .den) -ℤ y .num *ℤ pos (x .den)) * r .q ≤ r .p * (x .den * y .den)
 
 pub record Equals (x : Fraction) (v : ℤ) : Type 0 where
   pub positive : 1 ≤ x .den

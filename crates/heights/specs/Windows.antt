@@ -3,7 +3,7 @@
 --   whole, nothing        a whole number as a fraction; 0
 --   summed, multiplied    the sum of two fractions; m/n times a fraction
 --   opposite              a fraction times -1
---   multiple              m/n times the criterion p/q
+--   multiple              m/n times p/q
 --   Window                the n whole ticks a, a+1, .. lie between the first and the last
 --   sumAt, meanAt         the sum and the mean of a line at the n whole ticks a, a+1, ..
 --   valueSum              the sum of the values of the n samples k, k+1, ..
@@ -22,7 +22,7 @@ use Prim.Native.Nat.{ℕ, zero, suc, _+_, _-_, _*_, _≤_, min, max}
 use lib.IntN.{ℤ, pos, negℤ, _+ℤ_, _-ℤ_, _*ℤ_}
 use lib.ListN.{length}
 use lib.Signed.{_≤ℤ_}
-use Rattle.trace.specs.declared.Criterion.{Criterion}
+use Rattle.ratio.specs.declared.Ratio.{Ratio}
 use Rattle.trace.specs.Trace.{tick, value}
 use Rattle.heights.specs.Heights.{Fraction, linkAt, peak, trough}
 
@@ -49,14 +49,14 @@ abbrev pub opposite : Fraction → Fraction
 opposite x = record { num = negℤ (x .num); den = x .den }
 
 -- m/n times p/q
-abbrev pub multiple : Criterion → ℕ → ℕ → Criterion
-multiple c m n = record { p = c .p * m; q = c .q * n }
+abbrev pub multiple : Ratio → ℕ → ℕ → Ratio
+multiple r m n = record { p = r .p * m; q = r .q * n }
 
 -- x - y ≤ p/q, times both denominators and q
-pub record Excess (c : Criterion) (x y : Fraction) : Type 0 where
+pub record Excess (r : Ratio) (x y : Fraction) : Type 0 where
   pub left : 1 ≤ x .den
   pub right : 1 ≤ y .den
-  pub above : ((x .num *ℤ pos (y .den) -ℤ y .num *ℤ pos (x .den)) *ℤ pos (c .q)) ≤ℤ pos (c .p * (x .den * y .den))
+  pub above : ((x .num *ℤ pos (y .den) -ℤ y .num *ℤ pos (x .den)) *ℤ pos (r .q)) ≤ℤ pos (r .p * (x .den * y .den))
 
 -- ---- whole ticks
 
@@ -112,6 +112,6 @@ baselineHeight vs l m = summed (whole (peak vs l)) (opposite m)
 abbrev pub baselineDepth : List ℤ → List ℕ → Fraction → Fraction
 baselineDepth vs l m = summed (opposite (whole (trough vs l))) m
 
-pub record BaselineNear (c : Criterion) (x y : Fraction) : Type 0 where
-  pub large : Excess c x y
-  pub small : Excess (multiple c 2 1) y x
+pub record BaselineNear (r : Ratio) (x y : Fraction) : Type 0 where
+  pub large : Excess r x y
+  pub small : Excess (multiple r 2 1) y x

@@ -43,7 +43,7 @@ module _ (l : List ℕ) where
   select-final [] i = refl
   select-final (j ∷ s) i = select-final s j
 
-  links-select : {R : ℕ → ℕ → Type 0} (S : ℕ → ℕ → Type 0) → ((i j : ℕ) → R i j → S (getD l i 0) (getD l j 0)) → (s : List ℕ) (i : ℕ) → LinksFrom R i s → LinksFrom S (getD l i 0) (select 0 l s)
+  pub links-select : {R : ℕ → ℕ → Type 0} (S : ℕ → ℕ → Type 0) → ((i j : ℕ) → R i j → S (getD l i 0) (getD l j 0)) → (s : List ℕ) (i : ℕ) → LinksFrom R i s → LinksFrom S (getD l i 0) (select 0 l s)
   links-select S f [] i r = tt
   links-select S f (j ∷ s) i r = (f i j (r .0), links-select S f s j (r .1))
 

@@ -1,5 +1,5 @@
 -- What the structs of the C interface stand for: the enums of the public calls.
---   toleranceOf   the tolerance that a form gives
+--   toleranceOf, limitsOf   the tolerance that a form gives; with the gap limit
 --   heldOf, verdictOf, keptOf, gallopedOf, closestOf, writtenOf, readOf, comparedOf, reportOf, listedOf   an answer as numbers: 0 for success, or the refusal's number and value
 --   HoldExport, JudgeExport, WalkExport, GallopExport, MinimumExport, LeastExport, ExpandExport, ExpandWithExport, WriteExport, ReadExport, SameExport,
 --   ReportExport, PedestalsExport   an export's answer is that of the public call, with its whole outcome
@@ -13,6 +13,7 @@ use lib.IntN.{ℤ}
 use Rattle.refusal.specs.Table.{numberOf, returnedOf}
 use Rattle.tolerance.specs.declared.Tolerance as T
 use Rattle.tolerance.specs.declared.Tolerance.the-variants.{Ratio, Counts, Noise}
+use Rattle.engine.specs.declared.Limits as L
 use Rattle.engine.specs.declared.Holding.{Holding}
 use Rattle.engine.specs.declared.Holding.the-variants.{Held as IsHeld, Refused as HoldRefused}
 use Rattle.engine.specs.declared.Verdict as E
@@ -45,6 +46,7 @@ use Rattle.pedestals.specs.declared.Compared as P
 use Rattle.pedestals.specs.declared.Compared.the-variants.{Listed, Refused as NotListed}
 use Rattle.pedestals.specs.Compare.{Run, causeNumber, causeValue, CompareOutcome}
 use Rattle.kovrelna.specs.declared.Tolerance.{Tolerance}
+use Rattle.kovrelna.specs.declared.Limits.{Limits}
 use Rattle.kovrelna.specs.declared.Held.{Held}
 use Rattle.kovrelna.specs.declared.Verdict.{Verdict}
 use Rattle.kovrelna.specs.declared.Answer.{Answer}
@@ -61,6 +63,9 @@ toleranceOf t =
     (cond (eqb (t .form) 2) (Noise (record { noise = t .x; multiple = t .y }))
     (Ratio 0 0)))
 
+abbrev pub limitsOf : Limits → L.Limits
+limitsOf t = record { tolerance = toleranceOf (t .tolerance); gap = t .gap }
+
 abbrev pub heldOf : Holding → Held
 heldOf (IsHeld r) = record { number = 0; value = 0; p = r .p; q = r .q }
 heldOf (HoldRefused x) = record { number = numberOf x; value = returnedOf x; p = 0; q = 0 }
@@ -75,10 +80,10 @@ verdictOf Yes = record { number = 0; passed = 1; value = 0 }
 verdictOf (No k) = record { number = 0; passed = 0; value = k }
 verdictOf (Refused x) = record { number = numberOf x; passed = 0; value = returnedOf x }
 
-pub record JudgeExport (ts : List ℕ) (vs : List ℤ) (l : List ℕ) (t : Tolerance) (r : Verdict) : Type 0 where
+pub record JudgeExport (ts : List ℕ) (vs : List ℤ) (l : List ℕ) (t : Limits) (r : Verdict) : Type 0 where
   pub answer : E.Verdict
   pub is : r ≡ verdictOf answer
-  pub outcome : JudgeOutcome ts vs l (toleranceOf t) answer
+  pub outcome : JudgeOutcome ts vs l (limitsOf t) answer
 
 abbrev pub keptOf : Reduced → Answer
 keptOf (IsKept n) = record { number = 0; value = n }
@@ -88,29 +93,29 @@ abbrev pub gallopedOf : Probed → Galloped
 gallopedOf (IsGalloped g) = record { number = 0; value = g .kept; probes = g .probes }
 gallopedOf (NotGalloped x) = record { number = numberOf x; value = returnedOf x; probes = 0 }
 
-pub record WalkExport (ts : List ℕ) (vs : List ℤ) (t : Tolerance) (o : List ℕ) (r : Answer) (o′ : List ℕ) : Type 0 where
+pub record WalkExport (ts : List ℕ) (vs : List ℤ) (t : Limits) (o : List ℕ) (r : Answer) (o′ : List ℕ) : Type 0 where
   pub answer : Reduced
   pub is : r ≡ keptOf answer
-  pub outcome : WalkOutcome ts vs (toleranceOf t) o answer o′
+  pub outcome : WalkOutcome ts vs (limitsOf t) o answer o′
 
-pub record GallopExport (ts : List ℕ) (vs : List ℤ) (t : Tolerance) (o : List ℕ) (r : Galloped) (o′ : List ℕ) : Type 0 where
+pub record GallopExport (ts : List ℕ) (vs : List ℤ) (t : Limits) (o : List ℕ) (r : Galloped) (o′ : List ℕ) : Type 0 where
   pub answer : Probed
   pub is : r ≡ gallopedOf answer
-  pub outcome : GallopOutcome ts vs (toleranceOf t) o answer o′
+  pub outcome : GallopOutcome ts vs (limitsOf t) o answer o′
 
-pub record MinimumExport (ts : List ℕ) (vs : List ℤ) (t : Tolerance) (o : List ℕ) (r : Answer) (o′ : List ℕ) : Type 0 where
+pub record MinimumExport (ts : List ℕ) (vs : List ℤ) (t : Limits) (o : List ℕ) (r : Answer) (o′ : List ℕ) : Type 0 where
   pub answer : Reduced
   pub is : r ≡ keptOf answer
-  pub outcome : MinimumOutcome ts vs (toleranceOf t) o answer o′
+  pub outcome : MinimumOutcome ts vs (limitsOf t) o answer o′
 
 abbrev pub closestOf : C.Closest → Closest
 closestOf (IsClosest f) = record { number = 0; value = f .kept; p = f .error .p; q = f .error .q }
 closestOf (NotClosest x) = record { number = numberOf x; value = returnedOf x; p = 0; q = 0 }
 
-pub record LeastExport (ts : List ℕ) (vs : List ℤ) (m : ℕ) (o : List ℕ) (r : Closest) (o′ : List ℕ) : Type 0 where
+pub record LeastExport (ts : List ℕ) (vs : List ℤ) (g m : ℕ) (o : List ℕ) (r : Closest) (o′ : List ℕ) : Type 0 where
   pub answer : C.Closest
   pub is : r ≡ closestOf answer
-  pub outcome : LeastOutcome ts vs m o answer o′
+  pub outcome : LeastOutcome ts vs g m o answer o′
 
 abbrev pub writtenOf : Written → Answer
 writtenOf (Count n) = record { number = 0; value = n }
@@ -135,10 +140,10 @@ pub record ExpandWithExport (codes : List ℕ) (table o : List ℤ) (r : Answer)
   pub is : r ≡ writtenOf answer
   pub outcome : ExpandWithOutcome codes table o answer o′
 
-pub record WriteExport (ts : List ℕ) (vs : List ℤ) (l : List ℕ) (t : Tolerance) (o : List ℕ) (place : ℕ) (r : Answer) (o′ : List ℕ) : Type 0 where
+pub record WriteExport (ts : List ℕ) (vs : List ℤ) (l : List ℕ) (t : Limits) (o : List ℕ) (place : ℕ) (r : Answer) (o′ : List ℕ) : Type 0 where
   pub answer : Written
   pub is : r ≡ writtenOf answer
-  pub outcome : WriteOutcome ts vs l (toleranceOf t) o place answer o′
+  pub outcome : WriteOutcome ts vs l (limitsOf t) o place answer o′
 
 pub record ReadExport (b ts : List ℕ) (vs : List ℤ) (r : Content) (ts′ : List ℕ) (vs′ : List ℤ) : Type 0 where
   pub answer : R.Answer
@@ -154,10 +159,10 @@ abbrev pub reportOf : Reported → Report
 reportOf (Counted k) = record { number = 0; value = 0; samples = k .samples; kept = k .kept; p = k .p; q = k .q }
 reportOf (NotCounted x) = record { number = numberOf x; value = returnedOf x; samples = 0; kept = 0; p = 0; q = 0 }
 
-pub record ReportExport (ts : List ℕ) (vs : List ℤ) (ls : List ℕ) (t : Tolerance) (o : List Summary) (r : Report) (o′ : List Summary) : Type 0 where
+pub record ReportExport (ts : List ℕ) (vs : List ℤ) (ls : List ℕ) (t : Limits) (o : List Summary) (r : Report) (o′ : List Summary) : Type 0 where
   pub answer : Reported
   pub is : r ≡ reportOf answer
-  pub outcome : ReportOutcome ts vs ls (toleranceOf t) o answer o′
+  pub outcome : ReportOutcome ts vs ls (limitsOf t) o answer o′
 
 abbrev pub listedOf : P.Compared → Compared
 listedOf (Listed n) = record { number = 0; value = 0; moved = n .moved; noisy = n .noisy }

@@ -1,7 +1,7 @@
 // The C interface: each export is a public call of `engine` or of a product above it, with numbers and structs for its enums.
 ghost use mathlib.Core.Path.{_≡_};
 ghost use Rattle.engine.specs.Report.{Surveyed};
-ghost use Rattle.kovrelna.specs.Border.{toleranceOf, heldOf, verdictOf, keptOf, gallopedOf, closestOf, writtenOf, readOf, comparedOf, HoldExport, JudgeExport, WalkExport, GallopExport, MinimumExport, LeastExport, ExpandExport, ExpandWithExport, WriteExport, ReadExport, SameExport, reportOf, ReportExport, listedOf, PedestalsExport};
+ghost use Rattle.kovrelna.specs.Border.{toleranceOf, limitsOf, heldOf, verdictOf, keptOf, gallopedOf, closestOf, writtenOf, readOf, comparedOf, HoldExport, JudgeExport, WalkExport, GallopExport, MinimumExport, LeastExport, ExpandExport, ExpandWithExport, WriteExport, ReadExport, SameExport, reportOf, ReportExport, listedOf, PedestalsExport};
 ghost use Rattle.pedestals.specs.Compare.{runOf};
 use sheet::Sheet;
 use sheet::Summary;
@@ -14,6 +14,13 @@ pub struct Tolerance {
     pub q: u64,
     pub x: f64,
     pub y: f64,
+}
+
+// What links are asked to meet: a tolerance, and a gap limit in ticks.
+#[repr(C)]
+pub struct Limits {
+    pub tolerance: Tolerance,
+    pub gap: u32,
 }
 
 // A tolerance in lowest terms under the number 0, or a refusal's number and value.
@@ -105,6 +112,17 @@ fn tolerance_of(t: Tolerance) -> tolerance::Tolerance
         return tolerance::Tolerance::Noise(noise);
     }
     tolerance::Tolerance::Ratio(0, 0)
+}
+
+fn limits_of(t: Limits) -> engine::Limits
+    ensures { λ r. ⌜ r ≡ limitsOf t ⌝ }
+{
+    let given = t.tolerance;
+    let tolerance = tolerance_of(given);
+    engine::Limits {
+        tolerance,
+        gap: t.gap,
+    }
 }
 
 fn held_of(h: engine::Holding) -> Held
@@ -278,16 +296,10 @@ fn listed_of(a: pedestals::Compared) -> Compared
 }
 
 // The report by value, for a list of `room` summaries.
-fn border_sheet(
-    ticks: &[u32],
-    values: &[i16],
-    lengths: &[usize],
-    t: Tolerance,
-    room: usize,
-) -> Sheet
-    ensures { λ r. ⌜ Surveyed (now (ticks .entry)) (now (values .entry)) (now (lengths .entry)) (toleranceOf t) room r ⌝ }
+fn border_sheet(ticks: &[u32], values: &[i16], lengths: &[usize], t: Limits, room: usize) -> Sheet
+    ensures { λ r. ⌜ Surveyed (now (ticks .entry)) (now (values .entry)) (now (lengths .entry)) (limitsOf t) room r ⌝ }
 {
-    engine::report::sheet_of(ticks, values, lengths, tolerance_of(t), room)
+    engine::report::sheet_of(ticks, values, lengths, limits_of(t), room)
 }
 
 fn report_of(s: Sheet) -> Report
@@ -320,7 +332,7 @@ pub extern "C" fn kovrelna_report(
     ticks: &[u32],
     values: &[i16],
     lengths: &[usize],
-    t: Tolerance,
+    t: Limits,
     out: &mut [Summary],
 ) -> Report
     ensures { λ r. ⌜ ReportExport (now (ticks .entry)) (now (values .entry)) (now (lengths .entry)) t (now (out .entry)) r (now (out .exit)) ⌝ }
@@ -340,28 +352,18 @@ pub extern "C" fn kovrelna_hold(t: Tolerance) -> Held
 
 // Whether each link of the list is within the tolerance.
 #[no_mangle]
-pub extern "C" fn kovrelna_judge(
-    ticks: &[u32],
-    values: &[i16],
-    list: &[u16],
-    t: Tolerance,
-) -> Verdict
+pub extern "C" fn kovrelna_judge(ticks: &[u32], values: &[i16], list: &[u16], t: Limits) -> Verdict
     ensures { λ r. ⌜ JudgeExport (now (ticks .entry)) (now (values .entry)) (now (list .entry)) t r ⌝ }
 {
-    verdict_of(engine::judge::judge(ticks, values, list, tolerance_of(t)))
+    verdict_of(engine::judge::judge(ticks, values, list, limits_of(t)))
 }
 
 // Writes walk's list into the first entries of `out`.
 #[no_mangle]
-pub extern "C" fn kovrelna_walk(
-    ticks: &[u32],
-    values: &[i16],
-    t: Tolerance,
-    out: &mut [u16],
-) -> Answer
+pub extern "C" fn kovrelna_walk(ticks: &[u32], values: &[i16], t: Limits, out: &mut [u16]) -> Answer
     ensures { λ r. ⌜ WalkExport (now (ticks .entry)) (now (values .entry)) t (now (out .entry)) r (now (out .exit)) ⌝ }
 {
-    kept_of(engine::walk::walk(ticks, values, tolerance_of(t), out))
+    kept_of(engine::walk::walk(ticks, values, limits_of(t), out))
 }
 
 // Writes gallop's list into the first entries of `out`.
@@ -369,12 +371,12 @@ pub extern "C" fn kovrelna_walk(
 pub extern "C" fn kovrelna_gallop(
     ticks: &[u32],
     values: &[i16],
-    t: Tolerance,
+    t: Limits,
     out: &mut [u16],
 ) -> Galloped
     ensures { λ r. ⌜ GallopExport (now (ticks .entry)) (now (values .entry)) t (now (out .entry)) r (now (out .exit)) ⌝ }
 {
-    galloped_of(engine::gallop::gallop(ticks, values, tolerance_of(t), out))
+    galloped_of(engine::gallop::gallop(ticks, values, limits_of(t), out))
 }
 
 // Writes the minimum's list into the first entries of `out`.
@@ -382,12 +384,12 @@ pub extern "C" fn kovrelna_gallop(
 pub extern "C" fn kovrelna_minimum(
     ticks: &[u32],
     values: &[i16],
-    t: Tolerance,
+    t: Limits,
     out: &mut [u16],
 ) -> Answer
     ensures { λ r. ⌜ MinimumExport (now (ticks .entry)) (now (values .entry)) t (now (out .entry)) r (now (out .exit)) ⌝ }
 {
-    kept_of(engine::minimum::minimum(ticks, values, tolerance_of(t), out))
+    kept_of(engine::minimum::minimum(ticks, values, limits_of(t), out))
 }
 
 // Writes the list with the least error of at most `allowance` samples into the first entries of `out`.
@@ -395,12 +397,13 @@ pub extern "C" fn kovrelna_minimum(
 pub extern "C" fn kovrelna_least(
     ticks: &[u32],
     values: &[i16],
+    gap: u32,
     allowance: u64,
     out: &mut [u16],
 ) -> Closest
-    ensures { λ r. ⌜ LeastExport (now (ticks .entry)) (now (values .entry)) allowance (now (out .entry)) r (now (out .exit)) ⌝ }
+    ensures { λ r. ⌜ LeastExport (now (ticks .entry)) (now (values .entry)) gap allowance (now (out .entry)) r (now (out .exit)) ⌝ }
 {
-    closest_of(engine::least::least(ticks, values, allowance as usize, out))
+    closest_of(engine::least::least(ticks, values, gap, allowance as usize, out))
 }
 
 // Writes the value of each range code into the first entries of `out`.
@@ -425,13 +428,13 @@ pub extern "C" fn kovrelna_write(
     ticks: &[u32],
     values: &[i16],
     list: &[u16],
-    t: Tolerance,
+    t: Limits,
     buffer: &mut [u8],
     place: usize,
 ) -> Answer
     ensures { λ r. ⌜ WriteExport (now (ticks .entry)) (now (values .entry)) (now (list .entry)) t (now (buffer .entry)) place r (now (buffer .exit)) ⌝ }
 {
-    written_of(engine::write::write(ticks, values, list, tolerance_of(t), buffer, place))
+    written_of(engine::write::write(ticks, values, list, limits_of(t), buffer, place))
 }
 
 // Writes the samples of a record into the first entries of both lists.

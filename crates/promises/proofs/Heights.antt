@@ -5,8 +5,8 @@ use mathlib.Core.List.{List}
 use Prim.Native.Nat.{ℕ}
 use lib.IntN.{ℤ}
 use lib.ListN.{take}
-use Rattle.tolerance.specs.declared.Tolerance.{Tolerance}
-use Rattle.trace.specs.Link.{criterion}
+use Rattle.engine.specs.declared.Limits.{Limits}
+use Rattle.trace.specs.Link.{limited}
 use Rattle.heights.specs.Budget.{ErrorBudget}
 use Rattle.heights.proofs.BudgetLaws.{error-budget}
 use Rattle.reduction.specs.declared.Galloped.{Galloped}
@@ -22,7 +22,7 @@ use Rattle.engine.specs.Least.{LeastOutcome}
 use Rattle.engine.specs.Judge.{JudgeOutcome}
 use Rattle.promises.proofs.Standing.{walk-stands, gallop-stands, minimum-stands, judge-stands, least-stands}
 
-module _ (ts : List ℕ) (vs : List ℤ) (t : Tolerance) where
+module _ (ts : List ℕ) (vs : List ℤ) (t : Limits) where
   pub walk-budget : {o o′ : List ℕ} {n : ℕ} → WalkOutcome ts vs t o (Kept n) o′ → ErrorBudget ts vs (criterionOf t) (take n o′)
   walk-budget h = error-budget (walk-stands ts vs t h)
 
@@ -37,5 +37,5 @@ module _ (ts : List ℕ) (vs : List ℤ) (t : Tolerance) where
   judge-budget h = error-budget (judge-stands ts vs t h)
 
 -- least's list, at the error that it returns
-pub least-budget : (ts : List ℕ) (vs : List ℤ) (m : ℕ) {o o′ : List ℕ} {f : Found} → LeastOutcome ts vs m o (KeptAt f) o′ → ErrorBudget ts vs (criterion (f .error)) (take (f .kept) o′)
-least-budget ts vs m h = error-budget (least-stands ts vs m h)
+pub least-budget : (ts : List ℕ) (vs : List ℤ) (g m : ℕ) {o o′ : List ℕ} {f : Found} → LeastOutcome ts vs g m o (KeptAt f) o′ → ErrorBudget ts vs (limited g (f .error)) (take (f .kept) o′)
+least-budget ts vs g m h = error-budget (least-stands ts vs g m h)

@@ -9,3 +9,4 @@ pub mod Report
 pub mod Expand
 pub mod PedestalShift
 pub mod Pedestals
+pub mod Dropouts

@@ -1,7 +1,7 @@
 -- Demand 3, whole: how near the kept lists are to the shortest and to the closest. For every trace, unless the call is refused:
---   walk-near      walk's list is a kept list within the tolerance, and no kept list within half the tolerance has fewer samples
+--   walk-near      walk's list is a kept list within the limits, and no kept list within half the tolerance that obeys the gap limit has fewer samples
 --   gallop-near    so is gallop's
---   least-near     least's list has at most m samples and exactly the error returned, and no kept list of at most m samples has a lesser one
+--   least-near     least's list obeys the gap limit and has at most m samples and exactly the error returned, and no such list has a lesser one
 -- Each follows from the call's contract alone, and speaks of what the call returned: the kept number, the error, the entries written.
 -- Assumes nothing.
 use mathlib.Core.Path.{_≡_}
@@ -14,8 +14,12 @@ use Rattle.lists.specs.Overwrite.{Wrote}
 use Rattle.lists.proofs.OverwriteLaws.{wrote-read}
 use Rattle.refusal.specs.declared.Checked.the-variants.{Fine}
 use Rattle.refusal.proofs.TableLaws.{then-fine}
-use Rattle.tolerance.specs.declared.Tolerance.{Tolerance}
+use Rattle.engine.specs.declared.Limits.{Limits}
+use Rattle.kept.proofs.KeptLaws.{each-map}
+use Rattle.trace.specs.Link.{limited, ratioOf}
+use Rattle.trace.proofs.Validity.{valid-obeys}
 use Rattle.trace.proofs.Errors.{within-error}
+use Rattle.shortest.specs.Shortest.{minimumList}
 use Rattle.reduction.specs.declared.Galloped.{Galloped}
 use Rattle.closest.specs.declared.Found.{Found}
 use Rattle.engine.specs.declared.Reduced.the-variants.{Kept}
@@ -23,33 +27,33 @@ use Rattle.engine.specs.declared.Probed.the-variants.{Kept as KeptBy}
 use Rattle.engine.specs.declared.Closest.the-variants.{Kept as KeptAt}
 use Rattle.engine.specs.Prepare.{commonRows, criterionOf, outputRows}
 use Rattle.engine.specs.Reduce.{GreedyList, WalkOutcome, GallopOutcome}
-use Rattle.engine.specs.Write.{ratioOf}
 use Rattle.engine.proofs.PrepareLaws.{common-trace}
 use Rattle.engine.specs.Least.{LeastOutcome}
 use Rattle.promises.specs.Nearness.{NearShortest, Nearest}
 
 module _ (ts : List ℕ) (vs : List ℤ) where
-  greedy-near : (t : Tolerance) {l o o′ : List ℕ} {n : ℕ} → outputRows ts vs t (length o) ≡ Fine → Wrote l o n o′ → GreedyList ts vs t l → NearShortest ts vs t n (take n o′)
+  greedy-near : (t : Limits) {l o o′ : List ℕ} {n : ℕ} → outputRows ts vs t (length o) ≡ Fine → Wrote l o n o′ → GreedyList ts vs t l → NearShortest ts vs t n (take n o′)
   unfolding outputRows
   greedy-near t {l} rows w g = rw (wrote-read w) (record {
     kept = g .kept;
     count = omega (arith, w .count);
     within = g .within;
-    error = within-error (common-trace ts vs t (then-fine (commonRows ts vs t) _ rows .0)) l (g .kept) (ratioOf (criterionOf t)) .0 (g .within);
+    error = within-error (common-trace ts vs t (then-fine (commonRows ts vs t) _ rows .0)) (criterionOf t .gap) l (g .kept) (ratioOf (criterionOf t)) .0 (g .within) .1;
     size = λ h k v. omega (arith, w .count, g .size h k v);
   })
 
-  pub walk-near : (t : Tolerance) {o o′ : List ℕ} {n : ℕ} → WalkOutcome ts vs t o (Kept n) o′ → NearShortest ts vs t n (take n o′)
+  pub walk-near : (t : Limits) {o o′ : List ℕ} {n : ℕ} → WalkOutcome ts vs t o (Kept n) o′ → NearShortest ts vs t n (take n o′)
   walk-near t w = greedy-near t (w .rows) (w .wrote) (w .list)
 
-  pub gallop-near : (t : Tolerance) {o o′ : List ℕ} {g : Galloped} → GallopOutcome ts vs t o (KeptBy g) o′ → NearShortest ts vs t (g .kept) (take (g .kept) o′)
+  pub gallop-near : (t : Limits) {o o′ : List ℕ} {g : Galloped} → GallopOutcome ts vs t o (KeptBy g) o′ → NearShortest ts vs t (g .kept) (take (g .kept) o′)
   gallop-near t w = greedy-near t (w .rows) (w .wrote) (w .list)
 
-  pub least-near : (m : ℕ) {o o′ : List ℕ} {f : Found} → LeastOutcome ts vs m o (KeptAt f) o′ → Nearest ts vs m f (take (f .kept) o′)
-  least-near m w =
+  pub least-near : (g m : ℕ) {o o′ : List ℕ} {f : Found} → LeastOutcome ts vs g m o (KeptAt f) o′ → Nearest ts vs g m f (take (f .kept) o′)
+  least-near g m {f} w =
       let l = w .list in
       rw (wrote-read (w .wrote)) (record {
         kept = l .minimum .kept;
+        obeying = each-map (λ i j v. valid-obeys ts vs (limited g (f .error)) i j v) (minimumList ts vs (limited g (f .error))) (l .minimum .valid);
         count = omega (arith, w .wrote .count);
         few = l .allowed;
         error = l .error;

@@ -26,6 +26,7 @@ use Rattle.trace.specs.Link.{deviation, Within, valid, criterion}
 use Rattle.trace.proofs.Difference.{Diff, natural, size as size-of, size-at-most}
 use Rattle.trace.proofs.Deviation.{line, diff}
 use Rattle.trace.proofs.TraceLaws.{trace-rows}
+use Rattle.trace.proofs.Holes.{true-obeys, widest-obeys}
 use Rattle.trace.proofs.Validity.{valid-true, valid-false, steps-valid}
 use Rattle.heights.specs.Heights.{everySample}
 use Rattle.heights.proofs.Entries.{every-length, every-at, every-stops}
@@ -99,7 +100,7 @@ module _ (n : ℕ) (even : n % 2 ≡ 0) (two : 2 ≤ n) (few : n ≤ 4096) where
   }
 
   sets : Sets (justWide n) c
-  sets = exact-sets (justWide n) (rw (le-leb 1 (n - 1) (omega arith), le-leb (n - 1) 1048575 (omega arith), le-leb (3 * (n - 2)) (65535 * (n - 1)) (omega arith)))
+  sets = exact-sets (justWide n) (rw (le-leb 1 (n - 1) (omega arith), le-leb (n - 1) 1048575 (omega arith), le-leb (3 * (n - 2)) (65535 * (n - 1)) (omega arith))) refl
 
   accepts : (room : ℕ) → n ≤ room → outputRows ts vs (justWide n) room ≡ Fine
   accepts room h =
@@ -133,7 +134,7 @@ module _ (n : ℕ) (even : n % 2 ≡ 0) (two : 2 ≤ n) (few : n ≤ 4096) where
 
   -- from the first sample to the last
   whole : valid ts vs c 0 (n - 1) ≡ true
-  whole = valid-true ts vs c 0 (n - 1) (record { between = inside })
+  whole = valid-true ts vs c 0 (n - 1) (record { within = record { between = inside }; obeys = true-obeys ts 1048575 0 (n - 1) (widest-obeys trace 0 (n - 1)) })
     where
       inside : (k : ℕ) → 0 < k → k < n - 1 → Within ts vs c 0 (n - 1) k
       inside k l u =

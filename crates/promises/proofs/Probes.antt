@@ -12,7 +12,7 @@ use Rattle.lists.proofs.OverwriteLaws.{wrote-read}
 use Rattle.refusal.proofs.TableLaws.{then-fine}
 use Rattle.kept.specs.Gallop.{listProbes}
 use Rattle.kept.proofs.ProbeLaws.{total-stops, total-samples, total-reached, reached-only}
-use Rattle.tolerance.specs.declared.Tolerance.{Tolerance}
+use Rattle.engine.specs.declared.Limits.{Limits}
 use Rattle.reduction.specs.declared.Galloped.{Galloped}
 use Rattle.engine.specs.declared.Probed.the-variants.{Kept}
 use Rattle.engine.specs.Prepare.{commonRows, outputRows}
@@ -20,7 +20,7 @@ use Rattle.engine.specs.Reduce.{GallopOutcome}
 use Rattle.engine.proofs.PrepareLaws.{common-trace}
 use Rattle.promises.specs.Probes.{ProbeBudget}
 
-pub probe-budget : {ts : List ℕ} {vs : List ℤ} {t : Tolerance} {o o′ : List ℕ} {g : Galloped}
+pub probe-budget : {ts : List ℕ} {vs : List ℤ} {t : Limits} {o o′ : List ℕ} {g : Galloped}
     → GallopOutcome ts vs t o (Kept g) o′ → ProbeBudget (length ts) (g .kept - 1) (g .probes) (take (g .kept) o′)
 unfolding outputRows
 probe-budget {ts} {vs} {t} w =
@@ -35,6 +35,6 @@ probe-budget {ts} {vs} {t} w =
       reached-only = reached-only fit _ kept;
     })
 
-pub probes-alone : {ts us : List ℕ} {vs ws : List ℤ} {t u : Tolerance} {o o′ e e′ : List ℕ} {g h : Galloped}
+pub probes-alone : {ts us : List ℕ} {vs ws : List ℤ} {t u : Limits} {o o′ e e′ : List ℕ} {g h : Galloped}
     → GallopOutcome ts vs t o (Kept g) o′ → GallopOutcome us ws u e (Kept h) e′ → take (g .kept) o′ ≡ take (h .kept) e′ → g .probes ≡ h .probes
 probes-alone w x same = w .total ∙ ap listProbes same ∙ sym (x .total)

@@ -1,4 +1,4 @@
--- What a report says of each channel, from its contract alone: the row of channel i is that of the channel's own samples at the tolerance.
+-- What a report says of each channel, from its contract alone: the row of channel i is that of the channel's own samples under the limits.
 --   report-row, report-rest   each row, and that the entries after the rows stay
 --   report-own                a channel has the same row in any two crates that hold the same samples for it
 --   row-walk, row-declined    a row is what walk answers for the channel's samples, and the error of the list that it writes
@@ -22,10 +22,9 @@ use Rattle.refusal.specs.declared.Checked.{Checked}
 use Rattle.refusal.specs.declared.Checked.the-variants.{Fine, Refused}
 use Rattle.refusal.specs.Table.{_thenCheck_}
 use Rattle.refusal.proofs.TableLaws.{then-fine}
-use Rattle.tolerance.specs.declared.Tolerance.{Tolerance}
-use Rattle.tolerance.specs.Meaning.{meaning}
+use Rattle.engine.specs.declared.Limits.{Limits}
 use Rattle.trace.specs.Trace.{traceRows}
-use Rattle.trace.specs.Link.{listError}
+use Rattle.trace.specs.Link.{listError, ratioOf}
 use Rattle.channels.specs.Channels.{ofChannel}
 use Rattle.sheet.specs.declared.Summary.{Summary}
 use Rattle.sheet.specs.declared.Totals.{Totals}
@@ -34,15 +33,13 @@ use Rattle.sheet.specs.Report.{keptRow, declinedRow, rowOf, rowError, largestEr
 use Rattle.sheet.proofs.RowLaws.{rows-length, rows-own, row-within, row-positive, row-lowest, largest-one, largest-least}
 use Rattle.sheet.proofs.ReportLaws.{channel-fine, channel-refused, walked-row}
 use Rattle.engine.specs.declared.Reduced.the-variants.{Kept, Refused as Declined}
-use Rattle.engine.specs.Hold.{toleranceRow}
-use Rattle.engine.specs.Prepare.{commonRows, criterionOf, outputRows}
+use Rattle.engine.specs.Prepare.{limitRows, commonRows, criterionOf, outputRows}
 use Rattle.engine.specs.Reduce.{WalkOutcome}
 use Rattle.engine.specs.Report.{reportRows, ReportOutcome}
-use Rattle.engine.specs.Write.{ratioOf}
 
 -- ---- the rows
 
-module _ {ts : List ℕ} {vs : List ℤ} {ls : List ℕ} {t : Tolerance} {o o′ : List Summary} {k : Totals} (r : ReportOutcome ts vs ls t o (Counted k) o′) where
+module _ {ts : List ℕ} {vs : List ℤ} {ls : List ℕ} {t : Limits} {o o′ : List Summary} {k : Totals} (r : ReportOutcome ts vs ls t o (Counted k) o′) where
   count : length (reportRows ts vs ls t) ≡ length ls
   count = rows-length (criterionOf t) ts vs 0 ls
 
@@ -74,22 +71,22 @@ module _ {ts : List ℕ} {vs : List ℤ} {ls : List ℕ} {t : Tolerance} {o o′
       (largest-one (λ x. gcd (x .p) (x .q) ≡ 1) (reportRows ts vs ls t) refl (each-row (λ x. gcd (x .p) (x .q) ≡ 1) (row-lowest (criterionOf t))))
 
 -- two crates that hold the same samples for a channel, wherever it stands in each
-pub report-own : {ts us : List ℕ} {vs ws : List ℤ} {ls ms : List ℕ} {t : Tolerance} {o o′ e e′ : List Summary} {k m : Totals}
+pub report-own : {ts us : List ℕ} {vs ws : List ℤ} {ls ms : List ℕ} {t : Limits} {o o′ e e′ : List Summary} {k m : Totals}
     → ReportOutcome ts vs ls t o (Counted k) o′ → ReportOutcome us ws ms t e (Counted m) e′ → (i j : ℕ) → i < length ls → j < length ms
     → ofChannel ls i ts ≡ ofChannel ms j us → ofChannel ls i vs ≡ ofChannel ms j ws → getD o′ i zeros ≡ getD e′ j zeros
 report-own r s i j h u a b = rw (report-row r i h, report-row s j u, a, b)
 
 -- ---- a row and walk
 
-module _ (ts : List ℕ) (vs : List ℤ) (t : Tolerance) {o o′ : List ℕ} where
+module _ (ts : List ℕ) (vs : List ℤ) (t : Limits) {o o′ : List ℕ} where
   pub row-walk : {n : ℕ} → WalkOutcome ts vs t o (Kept n) o′ → rowOf (criterionOf t) ts vs ≡ keptRow (length ts) n (listError ts vs (take n o′))
   unfolding outputRows commonRows
   row-walk w =
       let rows = then-fine (traceRows 4096 ts vs) _ (then-fine (commonRows ts vs t) _ (w .rows) .0) .0 in
       sym (channel-fine (criterionOf t) ts vs rows (walked-row ts vs (criterionOf t) (w .wrote) refl))
 
-  -- walk's own refusal, where the tolerance is allowed and the output long enough
-  pub row-declined : {x : Refusal} → WalkOutcome ts vs t o (Declined x) o′ → toleranceRow (meaning t) ≡ Fine → length ts ≤ length o → rowOf (criterionOf t) ts vs ≡ declinedRow x
+  -- walk's own refusal, where the limits are allowed and the output long enough
+  pub row-declined : {x : Refusal} → WalkOutcome ts vs t o (Declined x) o′ → limitRows t ≡ Fine → length ts ≤ length o → rowOf (criterionOf t) ts vs ≡ declinedRow x
   unfolding outputRows commonRows
   row-declined {x} w fine room =
       sym (channel-refused (criterionOf t) ts vs (only (traceRows 4096 ts vs) (rw (fine, le-leb (length ts) (length o) room) at (w .0))) refl)

@@ -1,5 +1,5 @@
 -- What each call keeps, or judge passes, stands for its trace (heights: specs/Budget, `StandsFor`), from the call's contract alone: it is a kept
--- list within the tolerance. What a call wrote is read from its output: the first n entries, n being the number that it returned.
+-- list of valid links. What a call wrote is read from its output: the first n entries, n being the number that it returned.
 -- Assumes nothing.
 use mathlib.Core.Path.{_≡_, refl}
 use mathlib.Core.List.{List}
@@ -11,8 +11,8 @@ use Rattle.lists.proofs.OverwriteLaws.{wrote-read}
 use Rattle.refusal.specs.declared.Checked.the-variants.{Fine}
 use Rattle.refusal.proofs.TableLaws.{then-fine}
 use Rattle.kept.specs.Kept.{KeptList, AllValid}
-use Rattle.tolerance.specs.declared.Tolerance.{Tolerance}
-use Rattle.trace.specs.Link.{criterion}
+use Rattle.engine.specs.declared.Limits.{Limits}
+use Rattle.trace.specs.Link.{limited}
 use Rattle.heights.specs.Budget.{StandsFor}
 use Rattle.reduction.specs.declared.Galloped.{Galloped}
 use Rattle.closest.specs.declared.Found.{Found}
@@ -29,7 +29,7 @@ use Rattle.engine.proofs.LeastLaws.{least-task}
 use Rattle.engine.proofs.PrepareLaws.{common-trace}
 use Rattle.engine.proofs.WriteLaws.{common-held}
 
-module _ (ts : List ℕ) (vs : List ℤ) (t : Tolerance) where
+module _ (ts : List ℕ) (vs : List ℤ) (t : Limits) where
   passed-stands : {l : List ℕ} → commonRows ts vs t ≡ Fine → KeptList (length ts - 1) l → AllValid (okOf ts vs t) l → StandsFor ts vs (criterionOf t) l
   passed-stands rows k v = record { trace = common-trace ts vs t rows; positive = common-held ts vs t rows .positive; kept = k; within = v }
 
@@ -52,9 +52,9 @@ module _ (ts : List ℕ) (vs : List ℤ) (t : Tolerance) where
   judge-stands h = let passed = h .passed .0 refl in passed-stands (then-fine (commonRows ts vs t) _ (passed .0) .0) (passed .1) (passed .2)
 
 -- least's list, at the error that it returns
-pub least-stands : (ts : List ℕ) (vs : List ℤ) (m : ℕ) {o o′ : List ℕ} {f : Found} → LeastOutcome ts vs m o (KeptAt f) o′ → StandsFor ts vs (criterion (f .error)) (take (f .kept) o′)
-least-stands ts vs m {o} h = rw (wrote-read (h .wrote)) (record {
-  trace = least-task ts vs m (length o) (h .rows) .0 .trace;
+pub least-stands : (ts : List ℕ) (vs : List ℤ) (g m : ℕ) {o o′ : List ℕ} {f : Found} → LeastOutcome ts vs g m o (KeptAt f) o′ → StandsFor ts vs (limited g (f .error)) (take (f .kept) o′)
+least-stands ts vs g m {o} h = rw (wrote-read (h .wrote)) (record {
+  trace = least-task ts vs g m (length o) (h .rows) .0 .trace;
   positive = h .allowed .positive;
   kept = h .list .minimum .kept;
   within = h .list .minimum .valid;

@@ -3,3 +3,4 @@ pub mod Nearness
 pub mod NoFactor
 pub mod Probes
 pub mod Pedestals
+pub mod Dropouts

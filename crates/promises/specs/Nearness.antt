@@ -1,6 +1,6 @@
--- How near a list is to the shortest and to the closest: demand 3, whole (document 01, "The trace and its links").
---   NearShortest    a kept list within the tolerance, and no kept list within half of it has fewer samples
---   Nearest         a kept list of at most m samples, and no such list has a lesser error
+-- How near a list is to the shortest and to the closest: demand 3, whole (document 01, "The trace and its links"; document 02, wish 6).
+--   NearShortest    a kept list of valid links, and no kept list of links that are valid at half the tolerance under the same gap limit has fewer samples
+--   Nearest         a kept list of at most m samples that obeys the gap limit, and no such list has a lesser error
 -- The theorems are in proofs/Nearness. Assumes nothing.
 use mathlib.Core.Path.{_≡_}
 use mathlib.Core.List.{List}
@@ -10,26 +10,27 @@ use lib.ListN.{length}
 use Rattle.ratio.specs.Gcd.{gcd}
 use Rattle.ratio.specs.Order.{AtMost}
 use Rattle.kept.specs.Kept.{KeptList, AllValid}
-use Rattle.tolerance.specs.declared.Tolerance.{Tolerance}
-use Rattle.trace.specs.Link.{listError, NoLonger}
+use Rattle.engine.specs.declared.Limits.{Limits}
+use Rattle.trace.specs.Link.{obeys, listError, NoLonger, ratioOf}
 use Rattle.closest.specs.declared.Found.{Found}
 use Rattle.engine.specs.Prepare.{criterionOf}
 use Rattle.engine.specs.Reduce.{okOf}
-use Rattle.engine.specs.Write.{ratioOf}
 
--- l is a kept list of n samples within the tolerance, so that its error is at most the tolerance, and no kept list within half of it has fewer
-pub record NearShortest (ts : List ℕ) (vs : List ℤ) (t : Tolerance) (n : ℕ) (l : List ℕ) : Type 0 where
+-- l is a kept list of n samples whose links are valid, so that its error is at most the tolerance, and no kept list within half of it that obeys the gap
+-- limit has fewer
+pub record NearShortest (ts : List ℕ) (vs : List ℤ) (t : Limits) (n : ℕ) (l : List ℕ) : Type 0 where
   pub kept : KeptList (length ts - 1) l
   pub count : length l ≡ n
   pub within : AllValid (okOf ts vs t) l
   pub error : AtMost (listError ts vs l) (ratioOf (criterionOf t))
   pub size : NoLonger ts vs (criterionOf t) n
 
--- l is a kept list of at most m samples with the error returned, in lowest terms, and every such list has at least that error
-pub record Nearest (ts : List ℕ) (vs : List ℤ) (m : ℕ) (f : Found) (l : List ℕ) : Type 0 where
+-- l is a kept list of at most m samples that obeys the gap limit g, with the error returned, in lowest terms, and every such list has at least that error
+pub record Nearest (ts : List ℕ) (vs : List ℤ) (g m : ℕ) (f : Found) (l : List ℕ) : Type 0 where
   pub kept : KeptList (length ts - 1) l
+  pub obeying : AllValid (obeys ts g) l
   pub count : length l ≡ f .kept
   pub few : length l ≤ m
   pub error : listError ts vs l ≡ f .error
   pub lowest : gcd (f .error .p) (f .error .q) ≡ 1
-  pub least : (h : List ℕ) → KeptList (length ts - 1) h → length h ≤ m → AtMost (f .error) (listError ts vs h)
+  pub least : (h : List ℕ) → KeptList (length ts - 1) h → AllValid (obeys ts g) h → length h ≤ m → AtMost (f .error) (listError ts vs h)

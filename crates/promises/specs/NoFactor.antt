@@ -1,7 +1,7 @@
 -- At one tolerance no factor bounds walk's and gallop's lists by the shortest: the traces of values 0 3 0 3 .. 0 3, for an even number n of samples.
 --   counting      the ticks 0 1 .. n - 1
 --   zigzag        the values: 3 at each odd sample
---   justWide      the tolerance 3 (n - 2) / (n - 1), at which the link from the first sample to the last is valid
+--   justWide      the tolerance 3 (n - 2) / (n - 1), at which the link from the first sample to the last is valid, and no gap limit
 --   NoFactor      at this tolerance walk and gallop keep all n samples, and minimum keeps 2
 -- The theorem is in proofs/NoFactor. Assumes nothing.
 use mathlib.Core.Path.{_≡_}
@@ -10,18 +10,18 @@ use Prim.Native.Nat.{ℕ, _-_, _*_, _%_, _≤_}
 use lib.IntN.{ℤ, pos}
 use lib.ListN.{length}
 use Rattle.refusal.specs.declared.Checked.the-variants.{Fine}
-use Rattle.tolerance.specs.declared.Tolerance.{Tolerance}
 use Rattle.tolerance.specs.declared.Tolerance.the-variants.{Ratio}
 use Rattle.heights.specs.Heights.{everySample}
 use Rattle.reduction.specs.declared.Galloped.{Galloped}
 use Rattle.reduction.specs.Walking.{walkList}
 use Rattle.reduction.specs.Galloping.{gallopList}
 use Rattle.shortest.specs.Shortest.{minimumList}
+use Rattle.engine.specs.declared.Limits.{Limits}
 use Rattle.engine.specs.declared.Reduced.{Reduced}
 use Rattle.engine.specs.declared.Reduced.the-variants.{Kept}
 use Rattle.engine.specs.declared.Probed.{Probed}
 use Rattle.engine.specs.declared.Probed.the-variants.{Kept as KeptBy}
-use Rattle.engine.specs.Prepare.{criterionOf, outputRows}
+use Rattle.engine.specs.Prepare.{unlimited, criterionOf, outputRows}
 use Rattle.engine.specs.Reduce.{WalkOutcome, GallopOutcome}
 use Rattle.engine.specs.Minimum.{MinimumOutcome}
 
@@ -31,8 +31,8 @@ counting n = everySample (n - 1)
 abbrev pub zigzag : ℕ → List ℤ
 zigzag n = map (λ (k : ℕ). pos (3 * (k % 2))) (counting n)
 
-abbrev pub justWide : ℕ → Tolerance
-justWide n = Ratio (3 * (n - 2)) (n - 1)
+abbrev pub justWide : ℕ → Limits
+justWide n = unlimited (Ratio (3 * (n - 2)) (n - 1))
 
 pub record NoFactor (n : ℕ) : Type 0 where
   -- no row of the table applies, for an output of n entries or more

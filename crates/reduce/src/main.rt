@@ -1,6 +1,7 @@
 // The program reduce: reads one record from standard input, treats its samples as a trace, and prints what walk, gallop and minimum keep of it.
 // Each printing function says whether all was written; what is cut off is reported on standard error.
 ghost use Prim.Native.Nat.{_≤_};
+use engine::Limits;
 use engine::Probed;
 use engine::Reduced;
 use ratio::Ratio;
@@ -74,22 +75,30 @@ fn print_probed(kept: Probed, list: &[u16]) -> bool {
     }
 }
 
+// A record's tolerance under the largest gap limit, since records carry none.
+fn no_gap_limit(t: Ratio) -> Limits {
+    Limits {
+        tolerance: Tolerance::Ratio(t.p, t.q),
+        gap: 1_048_575,
+    }
+}
+
 // What walk keeps of a trace, what gallop, and what minimum.
 fn print_walk(ticks: &[u32], values: &[i16], t: Ratio) -> bool {
     let mut list = [0u16; 4096];
-    let kept = engine::walk::walk(ticks, values, Tolerance::Ratio(t.p, t.q), &mut list);
+    let kept = engine::walk::walk(ticks, values, no_gap_limit(t), &mut list);
     print(b"walk ") && print_kept(kept, &list)
 }
 
 fn print_gallop(ticks: &[u32], values: &[i16], t: Ratio) -> bool {
     let mut list = [0u16; 4096];
-    let kept = engine::gallop::gallop(ticks, values, Tolerance::Ratio(t.p, t.q), &mut list);
+    let kept = engine::gallop::gallop(ticks, values, no_gap_limit(t), &mut list);
     print(b"gallop ") && print_probed(kept, &list)
 }
 
 fn print_minimum(ticks: &[u32], values: &[i16], t: Ratio) -> bool {
     let mut list = [0u16; 4096];
-    let kept = engine::minimum::minimum(ticks, values, Tolerance::Ratio(t.p, t.q), &mut list);
+    let kept = engine::minimum::minimum(ticks, values, no_gap_limit(t), &mut list);
     print(b"minimum ") && print_kept(kept, &list)
 }
 

@@ -4,17 +4,20 @@ use mathlib.Core.Path.{_≡_, refl, sym, _∙_, subst}
 use mathlib.Core.Bool.{Bool, true, false}
 use mathlib.Core.List.{List}
 use Prim.Native.Nat.{ℕ, _+_, _-_, _*_, _≤_, _<_}
+use native.Mathlib.Decide.{decLt}
 use native.Mathlib.Omega.{arith}
 use lib.IntN.{ℤ}
 use lib.ListN.{length}
+use Rattle.lists.proofs.Tests.{true-false}
 use Rattle.kept.specs.declared.Search.{Search}
 use Rattle.kept.specs.Gallop.{found, halfway, doubling, bisection, searchBy, gallopSearch}
-use Rattle.kept.proofs.GallopLaws.{probe-within, probe-none, search-bounds}
+use Rattle.kept.proofs.GallopLaws.{probe-within, probe-none, search-bounds, gallop-stop-greedy}
 use Rattle.kept.proofs.SearchLaws.{moved-yes, stayed-no, Doubling, doubling-none, doubling-more, doubling-ends, Bisecting, bisecting-yes, bisecting-no}
 use Rattle.trace.specs.declared.Criterion.{Criterion}
 use Rattle.trace.specs.Trace.{Trace}
-use Rattle.trace.specs.Link.{Bounded, valid}
-use Rattle.trace.proofs.Validity.{steps-valid}
+use Rattle.trace.specs.Link.{Bounded, obeys, valid, linksEnd}
+use Rattle.trace.proofs.Holes.{links-end-inside, obeys-past}
+use Rattle.trace.proofs.Validity.{steps-valid, valid-obeys, hole-invalid}
 use Rattle.reduction.specs.declared.Links.{Links}
 use Rattle.reduction.specs.declared.Probing.{Probing}
 use Rattle.reduction.specs.Outgoing.{TakenIn, Next, Beyond}
@@ -35,10 +38,24 @@ module _ {ts : List ℕ} {vs : List ℤ} {c : Criterion} {s : Probing} {d : ℕ}
     probes = refl;
   }
 
-  pub probed-past : length ts ≤ from + d → AfterProbe ts vs c from s d (record { low = s .low; probes = s .probes + 1; links = s .links })
-  probed-past le = probed-no (probe-none (valid ts vs c) (length ts - 1) from d (omega (arith, p .yes .inside)))
+  start-inside : from + 1 < length ts
+  start-inside = omega (arith, p .yes .inside, p .yes .pos)
 
-  module _ (inside : from + d < length ts) where
+  pub probed-past : s .links .limit < from + d → AfterProbe ts vs c from s d (record { low = s .low; probes = s .probes + 1; links = s .links })
+  probed-past past = probed-no (elim (decLt (length ts - 1) (from + d)) [
+    | yes out ↦ probe-none (valid ts vs c) (length ts - 1) from d (omega arith)
+    | no ins ↦
+        probe-within (valid ts vs c) (length ts - 1) from d (omega arith)
+        ∙ hole-invalid ts vs c from (from + d) (obeys-past ts (c .gap) from start-inside (from + d) (omega (arith, p .yes .links .limit)) (omega (arith, start-inside)))
+  ])
+
+  module _ (reach : from + d ≤ s .links .limit) where
+    pub inside : from + d < length ts
+    inside = omega (arith, p .yes .links .limit, links-end-inside ts (c .gap) from start-inside)
+
+    to-end : from + d ≤ linksEnd ts (c .gap) from
+    to-end = omega (arith, p .yes .links .limit)
+
     pub probes-later : Beyond ts vs c (s .links) (from + d)
     probes-later = record {
       trace = p .trace;
@@ -51,10 +68,10 @@ module _ {ts : List ℕ} {vs : List ℤ} {c : Criterion} {s : Probing} {d : ℕ}
     }
 
     pub probes-next : Next ts vs c (s .links) (from + s .low + 1)
-    probes-next = next-at (p .yes .links) (p .trace) (p .bounded) (omega arith) (omega (arith, p .further))
+    probes-next = next-at (p .yes .links) (p .trace) (p .bounded) (omega arith) (omega (arith, p .further, to-end)) (omega (arith, p .further, inside))
 
     answer : {b : Bool} → valid ts vs c from (from + d) ≡ b → probeAt ts vs c from d ≡ b
-    answer e = probe-within (valid ts vs c) (length ts - 1) from d (omega arith) ∙ e
+    answer e = probe-within (valid ts vs c) (length ts - 1) from d (omega (arith, inside)) ∙ e
 
     pub probed-fails : valid ts vs c from (from + d) ≡ false → AfterProbe ts vs c from s d (record { low = s .low; probes = s .probes + 1; links = s .links })
     probed-fails e = probed-no (answer e)
@@ -62,7 +79,7 @@ module _ {ts : List ℕ} {vs : List ℤ} {c : Criterion} {s : Probing} {d : ℕ}
     -- l has taken in every sample before the one probed
     module _ {l : Links} (t : TakenIn ts vs c from (from + d) l) where
       pub far-next : Next ts vs c l (from + d)
-      far-next = next-at t (p .trace) (p .bounded) (omega (arith, p .further)) inside
+      far-next = next-at t (p .trace) (p .bounded) (omega (arith, p .further)) to-end inside
 
       pub probed-invalid : {b : Bool} → b ≡ false → b ≡ valid ts vs c (l .from .sample) (from + d) → AfterProbe ts vs c from s d (record { low = s .low; probes = s .probes + 1; links = s .links })
       probed-invalid q e = probed-fails (sym (valid-at t (from + d) e) ∙ q)
@@ -145,7 +162,13 @@ module _ {ts : List ℕ} {vs : List ℤ} {c : Criterion} {i : ℕ} {up : Probing
   unfolding gallopSearch searchBy
   searched = rw (← d) (rw (y .links .start .sample) at b)
 
-  pub searched-bounds : i + 1 < length ts → (0 < r .low) × (i + r .low < length ts) × (r .probes ≤ 2 * r .low)
-  searched-bounds h =
+  pub searched-bounds : {limit : ℕ} → i + 1 < length ts → limit ≡ linksEnd ts (c .gap) i → (0 < r .low) × (i + r .low ≤ limit) × (i + r .low < length ts) × (r .probes ≤ 2 * r .low)
+  searched-bounds {limit} h e =
       let f = search-bounds (valid ts vs c) (steps-valid ts vs c) (length ts - 1) i (omega arith) r searched in
-      (f .0, omega (arith, f .1), f .2)
+      let v = gallop-stop-greedy (valid ts vs c) (steps-valid ts vs c) (length ts - 1) i (omega arith) .valid in
+      let o : obeys ts (c .gap) i (i + r .low) ≡ true = valid-obeys ts vs c i (i + r .low) (rw (← searched) at v) in (
+        f .0,
+        elim (decLt limit (i + r .low)) [ yes q ↦ true-false o (obeys-past ts (c .gap) i h (i + r .low) (omega arith) (omega (arith, f .1))) | no q ↦ omega arith ],
+        omega (arith, f .1),
+        f .2,
+      )

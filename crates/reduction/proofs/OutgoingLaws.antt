@@ -4,7 +4,7 @@ use mathlib.Core.Path.{_≡_, sym, subst, _∙_}
 use mathlib.Core.Logic.{⊎-elim}
 use mathlib.Core.Bool.{Bool, true, false}
 use mathlib.Core.List.{List}
-use Prim.Native.Nat.{ℕ, _+_, _<_}
+use Prim.Native.Nat.{ℕ, _+_, _≤_, _<_}
 use native.Mathlib.Nat.{eq-or-lt-of-le}
 use native.Mathlib.Omega.{arith}
 use lib.IntN.{ℤ}
@@ -15,11 +15,12 @@ use Rattle.trace.specs.declared.Start.{Start}
 use Rattle.trace.specs.declared.Edge.{Edge}
 use Rattle.trace.specs.declared.Cone.{Cone}
 use Rattle.trace.specs.Trace.{Trace}
-use Rattle.trace.specs.Link.{Linked, Bounded, valid}
+use Rattle.trace.specs.Link.{Linked, Bounded, valid, linksEnd}
 use Rattle.trace.specs.Edge.{middle, StartAt, EdgeTo, Slope, Tilt, noSteeper}
 use Rattle.trace.specs.Cone.{coneFrom, admitsEdge, extendedBy, ConeFits}
 use Rattle.trace.proofs.EdgeLaws.{edge-at, tilts, tilt-slope, low-test, high-test}
-use Rattle.trace.proofs.Validity.{true-valid, not-above, not-below}
+use Rattle.trace.proofs.Holes.{obeys-to}
+use Rattle.trace.proofs.Validity.{true-valid, obeying-valid, not-above, not-below}
 use Rattle.trace.proofs.ConeLaws.{low-none, high-none, takes-none, takes-more, takes-admits}
 use Rattle.reduction.specs.declared.Links.{Links}
 use Rattle.reduction.specs.Outgoing.{TakenIn, Next, Beyond}
@@ -30,21 +31,24 @@ module _ {ts : List ℕ} {vs : List ℤ} {c : Criterion} {i : ℕ} {s : Start} {
   pub first-tilt : Tilt to (c .p)
   first-tilt = tilts (edge-at h e) t (omega arith) inside (b .q-bound) (b .p-bound)
 
-  pub taken-first : {cone : Cone} → cone ≡ extendedBy (coneFrom (c .p)) to (c .p) → ConeFits cone → TakenIn ts vs c i (i + 1 + 1) (record { from = s; cone = cone })
-  taken-first q f = record {
+  pub taken-first : {cone : Cone} {limit : ℕ} → cone ≡ extendedBy (coneFrom (c .p)) to (c .p) → ConeFits cone → limit ≡ linksEnd ts (c .gap) i
+      → TakenIn ts vs c i (i + 1 + 1) (record { from = s; cone = cone; limit = limit })
+  taken-first q f g = record {
     start = h;
     takes = rw q (takes-more (record { trace = t; forward = omega arith; inside = inside }) b (takes-none h) (edge-at h e));
     fits = f;
+    limit = g;
   }
 
 -- the next sample j of links whose start is sample i
 module _ {ts : List ℕ} {vs : List ℤ} {c : Criterion} {i j : ℕ} {l : Links} (h : TakenIn ts vs c i j l) where
-  pub next-at : Trace ts vs → Bounded c → i < j → j < length ts → Next ts vs c l j
-  next-at t b ij jn = record {
+  pub next-at : Trace ts vs → Bounded c → i < j → j ≤ linksEnd ts (c .gap) i → j < length ts → Next ts vs c l j
+  next-at t b ij reach jn = record {
     trace = t;
     bounded = b;
     taken = subst (λ (k : ℕ). TakenIn ts vs c k j l) (sym (h .start .sample)) h;
     after = omega (arith, h .start .sample);
+    reach = omega (arith, h .limit);
     inside = jn;
   }
 
@@ -67,9 +71,10 @@ module _ {ts : List ℕ} {vs : List ℤ} {c : Criterion} {j : ℕ} {l : Links} {
 
   pub next-valid : admitsEdge (l .cone) to ≡ valid ts vs c (l .from .sample) j
   next-valid = takes-admits link (n .bounded) (n .taken .takes) h
+      ∙ sym (obeying-valid ts vs c _ j (obeys-to ts (c .gap) _ (omega (arith, n .after, n .inside)) j (omega (arith, n .reach, n .taken .limit))))
 
-  pub next-taken : {cone : Cone} → cone ≡ extendedBy (l .cone) to (c .p) → ConeFits cone → TakenIn ts vs c (l .from .sample) (j + 1) (record { from = l .from; cone = cone })
-  next-taken e f = record { start = n .taken .start; takes = rw e (takes-more link (n .bounded) (n .taken .takes) h); fits = f }
+  pub next-taken : {cone : Cone} → cone ≡ extendedBy (l .cone) to (c .p) → ConeFits cone → TakenIn ts vs c (l .from .sample) (j + 1) (record { from = l .from; cone = cone; limit = l .limit })
+  next-taken e f = record { start = n .taken .start; takes = rw e (takes-more link (n .bounded) (n .taken .takes) h); fits = f; limit = n .taken .limit }
 
 -- the edge from a sample to itself
 module _ {ts : List ℕ} {vs : List ℤ} {q i k : ℕ} {e : Edge} (h : EdgeTo ts vs q i k e) (same : i ≡ k) where
@@ -99,7 +104,7 @@ module _ {ts : List ℕ} {vs : List ℤ} {c : Criterion} {e : ℕ} {l : Links} {
         (λ lt.
         low-test (n .trace) (k .lower-from) (omega (arith, k .lower-to, n .order)) (n .inside) h (k .low-edge)
         (tilts (k .low-edge) (n .trace) (k .lower-from) (omega (arith, k .lower-to, n .order, n .inside)) (n .bounded .q-bound) (n .bounded .p-bound) .low)
-        ∙ is-true-unless _ (λ q. not-above ts vs c from e (k .lower) q (true-valid ts vs c from e v .between (k .lower) lt (omega (arith, k .lower-to, n .order)))))
+        ∙ is-true-unless _ (λ q. not-above ts vs c from e (k .lower) q (true-valid ts vs c from e v .within .between (k .lower) lt (omega (arith, k .lower-to, n .order)))))
         (eq-or-lt-of-le (k .lower-from)))
 
     high-passes : noSteeper to (l .cone .high) ≡ true
@@ -109,7 +114,7 @@ module _ {ts : List ℕ} {vs : List ℤ} {c : Criterion} {e : ℕ} {l : Links} {
         (λ z. high-none (k .high) to (c .p) (own-run (k .high-edge) z) (own-rise (k .high-edge) z))
         (λ lt.
         high-test (n .trace) (k .upper-from) (omega (arith, k .upper-to, n .order)) (n .inside) h (k .high-edge) (c .p)
-        ∙ is-true-unless _ (λ q. not-below ts vs c from e (k .upper) q (true-valid ts vs c from e v .between (k .upper) lt (omega (arith, k .upper-to, n .order)))))
+        ∙ is-true-unless _ (λ q. not-below ts vs c from e (k .upper) q (true-valid ts vs c from e v .within .between (k .upper) lt (omega (arith, k .upper-to, n .order)))))
         (eq-or-lt-of-le (k .upper-from)))
 
   pub later-invalid : admitsEdge (l .cone) to ≡ false → valid ts vs c from e ≡ false

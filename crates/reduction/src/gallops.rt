@@ -4,7 +4,7 @@ ghost use Prim.Native.Nat.{_+_, _-_, _*_, _≤_, _<_};
 ghost use lib.ListN.{length};
 ghost use Rattle.kept.specs.Gallop.{found, doubling, bisection, gallopSearch};
 ghost use Rattle.trace.specs.Trace.{Trace};
-ghost use Rattle.trace.specs.Link.{Bounded, valid};
+ghost use Rattle.trace.specs.Link.{Bounded, valid, linksEnd};
 ghost use Rattle.reduction.specs.Outgoing.{TakenIn, Next};
 ghost use Rattle.reduction.specs.Galloping.{probeAt, Yes, Probes, AfterProbe, Gallops};
 use crate::Galloped;
@@ -17,10 +17,11 @@ use crate::outgoing::reaches;
 use crate::outgoing::taken;
 use kept::Search;
 use trace::Criterion;
+use trace::gaps::end_from;
 
 // The links with the samples from a on and before b taken in too.
 fn taken_to(ticks: &[u32], values: &[i16], c: Criterion, links: Links, a: usize, b: usize) -> Links
-    requires { ⌜ Next (now ticks) (now values) c links a × (a ≤ b) × (b < length (now ticks)) ⌝ }
+    requires { ⌜ Next (now ticks) (now values) c links a × (a ≤ b) × (b ≤ links .limit) × (b < length (now ticks)) ⌝ }
     ensures { λ r. ⌜ TakenIn (now (ticks .entry)) (now (values .entry)) c (links .from .sample) b r ⌝ }
 {
     let mut l = links;
@@ -32,7 +33,7 @@ fn taken_to(ticks: &[u32], values: &[i16], c: Criterion, links: Links, a: usize,
     l
 }
 
-// The search after a probe at offset d. A probe past the last sample answers no, and counts.
+// The search after a probe at offset d. A probe past the last sample, or the last to which links obey the gap limit, answers no, and counts.
 fn probe(ticks: &[u32], values: &[i16], c: Criterion, s: Probing, d: usize) -> Probing
     requires { ⌜ Probes (now ticks) (now values) c s d ⌝ }
     ensures { λ r. ⌜ AfterProbe (now (ticks .entry)) (now (values .entry)) c (s .links .from .sample) s d r ⌝ }
@@ -46,7 +47,7 @@ fn probe(ticks: &[u32], values: &[i16], c: Criterion, s: Probing, d: usize) -> P
         probes,
         links,
     };
-    if ticks.len() <= end {
+    if links.limit < end {
         return no;
     }
     if !passes(ticks, values, c, links, end) {
@@ -64,15 +65,15 @@ fn probe(ticks: &[u32], values: &[i16], c: Criterion, s: Probing, d: usize) -> P
 }
 
 // The last yes of probes from sample i at offsets 2, 4, 8, ..
-fn double(ticks: &[u32], values: &[i16], c: Criterion, i: usize) -> Probing
-    requires { ⌜ Trace (now ticks) (now values) × Bounded c × (i + 1 < length (now ticks)) ⌝ }
+fn double(ticks: &[u32], values: &[i16], c: Criterion, i: usize, limit: usize) -> Probing
+    requires { ⌜ Trace (now ticks) (now values) × Bounded c × (i + 1 < length (now ticks)) × (limit ≡ linksEnd (now ticks) (c .gap) i) ⌝ }
     ensures yes { λ r. ⌜ Yes (now (ticks .entry)) (now (values .entry)) c i r × (r .probes ≤ r .low) ⌝ }
     ensures finds { λ r. ⌜ found (r .low) (r .probes) ≡ doubling (probeAt (now (ticks .entry)) (now (values .entry)) c i) 1 0 (length (now (ticks .entry)) - 1) ⌝ }
 {
     let mut s = Probing {
         low: 1,
         probes: 0,
-        links: links_past(ticks, values, c, i),
+        links: links_past(ticks, values, c, i, limit),
     };
     loop {
         let high = s.low + s.low;
@@ -104,12 +105,12 @@ fn bisect(ticks: &[u32], values: &[i16], c: Criterion, up: Probing) -> Search
 }
 
 // The search from sample i: the offset of its stop, and its probes.
-fn search(ticks: &[u32], values: &[i16], c: Criterion, i: usize) -> Search
-    requires { ⌜ Trace (now ticks) (now values) × Bounded c × (i + 1 < length (now ticks)) ⌝ }
+fn search(ticks: &[u32], values: &[i16], c: Criterion, i: usize, limit: usize) -> Search
+    requires { ⌜ Trace (now ticks) (now values) × Bounded c × (i + 1 < length (now ticks)) × (limit ≡ linksEnd (now ticks) (c .gap) i) ⌝ }
     ensures finds { λ r. ⌜ r ≡ gallopSearch (valid (now (ticks .entry)) (now (values .entry)) c) (length (now (ticks .entry)) - 1) i ⌝ }
-    ensures bounds { λ r. ⌜ (0 < r .low) × (i + r .low < length (now (ticks .entry))) × (r .probes ≤ 2 * r .low) ⌝ }
+    ensures bounds { λ r. ⌜ (0 < r .low) × (i + r .low ≤ limit) × (i + r .low < length (now (ticks .entry))) × (r .probes ≤ 2 * r .low) ⌝ }
 {
-    let up = double(ticks, values, c, i);
+    let up = double(ticks, values, c, i, limit);
     bisect(ticks, values, c, up)
 }
 
@@ -123,8 +124,10 @@ pub fn gallop(ticks: &[u32], values: &[i16], c: Criterion, out: &mut [u16]) -> G
     let mut count: usize = 1;
     let mut i: usize = 0;
     let mut probes: usize = 0;
+    let mut limit: usize = 0;
     while i < last {
-        let s = search(ticks, values, c, i);
+        limit = end_from(ticks, values, c.gap, i, limit);
+        let s = search(ticks, values, c, i, limit);
         i += s.low;
         probes += s.probes;
         store(out, count, i);

@@ -2,10 +2,12 @@
 use trace::Cone;
 use trace::Start;
 
-// The links from one sample: the sample, and the cone of what the samples taken in leave open.
+// The links from one sample: the sample, the cone of what the samples taken in leave open, and the last sample to which links obey the
+// gap limit.
 pub struct Links {
     pub from: Start,
     pub cone: Cone,
+    pub limit: usize,
 }
 
 // A search from a sample: the offset of its last yes, the probes made, and the links with the samples up to that offset taken in.

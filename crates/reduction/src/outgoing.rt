@@ -4,7 +4,7 @@ ghost use mathlib.Core.Bool.{false};
 ghost use Prim.Native.Nat.{_+_, _<_};
 ghost use lib.ListN.{length};
 ghost use Rattle.trace.specs.Trace.{Trace};
-ghost use Rattle.trace.specs.Link.{Bounded, valid};
+ghost use Rattle.trace.specs.Link.{Bounded, valid, linksEnd};
 ghost use Rattle.reduction.specs.Outgoing.{TakenIn, Next, Beyond};
 use crate::Links;
 use trace::Criterion;
@@ -15,8 +15,8 @@ use trace::edges::edge_to;
 use trace::edges::start_at;
 
 // The links from sample i, with the next sample taken in.
-pub fn links_past(ticks: &[u32], values: &[i16], c: Criterion, i: usize) -> Links
-    requires { ⌜ Trace (now ticks) (now values) × Bounded c × (i + 1 < length (now ticks)) ⌝ }
+pub fn links_past(ticks: &[u32], values: &[i16], c: Criterion, i: usize, limit: usize) -> Links
+    requires { ⌜ Trace (now ticks) (now values) × Bounded c × (i + 1 < length (now ticks)) × (limit ≡ linksEnd (now ticks) (c .gap) i) ⌝ }
     ensures { λ r. ⌜ TakenIn (now (ticks .entry)) (now (values .entry)) c i (i + 1 + 1) r ⌝ }
 {
     let from = start_at(ticks, values, i, c.q);
@@ -24,6 +24,7 @@ pub fn links_past(ticks: &[u32], values: &[i16], c: Criterion, i: usize) -> Link
     Links {
         from,
         cone: cone_of(to, c.p),
+        limit,
     }
 }
 
@@ -59,5 +60,6 @@ pub fn taken(ticks: &[u32], values: &[i16], c: Criterion, links: Links, j: usize
     Links {
         from,
         cone: narrower,
+        limit: links.limit,
     }
 }

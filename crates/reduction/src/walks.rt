@@ -5,24 +5,24 @@ ghost use lib.ListN.{length};
 ghost use Rattle.lists.specs.Overwrite.{Wrote};
 ghost use Rattle.kept.specs.Walk.{walkStop};
 ghost use Rattle.trace.specs.Trace.{Trace};
-ghost use Rattle.trace.specs.Link.{Bounded, valid};
+ghost use Rattle.trace.specs.Link.{Bounded, valid, linksEnd};
 ghost use Rattle.reduction.specs.Walking.{walkList};
 use crate::entries::store;
 use crate::outgoing::links_past;
 use crate::outgoing::reaches;
 use crate::outgoing::taken;
 use trace::Criterion;
+use trace::gaps::end_from;
 
-// The stop from sample i: the sample before the first invalid link, or the last sample.
-fn stop_after(ticks: &[u32], values: &[i16], c: Criterion, i: usize) -> usize
-    requires { ⌜ Trace (now ticks) (now values) × Bounded c × (i + 1 < length (now ticks)) ⌝ }
+// The stop from sample i: the sample before the first invalid link, or the last sample. Links past `limit` do not obey the gap limit.
+fn stop_after(ticks: &[u32], values: &[i16], c: Criterion, i: usize, limit: usize) -> usize
+    requires { ⌜ Trace (now ticks) (now values) × Bounded c × (i + 1 < length (now ticks)) × (limit ≡ linksEnd (now ticks) (c .gap) i) ⌝ }
     ensures stop { λ r. ⌜ r ≡ walkStop (valid (now (ticks .entry)) (now (values .entry)) c) (length (now (ticks .entry)) - 1) i ⌝ }
-    ensures bounds { λ r. ⌜ (i < r) × (r < length (now (ticks .entry))) ⌝ }
+    ensures bounds { λ r. ⌜ (i < r) × (r ≤ limit) × (r < length (now (ticks .entry))) ⌝ }
 {
-    let last = ticks.len() - 1;
-    let mut links = links_past(ticks, values, c, i);
+    let mut links = links_past(ticks, values, c, i, limit);
     let mut at = i + 1;
-    while at < last {
+    while at < limit {
         let next = at + 1;
         if !reaches(ticks, values, c, links, next) {
             return at;
@@ -42,8 +42,10 @@ pub fn walk(ticks: &[u32], values: &[i16], c: Criterion, out: &mut [u16]) -> usi
     store(out, 0, 0);
     let mut count: usize = 1;
     let mut i: usize = 0;
+    let mut limit: usize = 0;
     while i < last {
-        i = stop_after(ticks, values, c, i);
+        limit = end_from(ticks, values, c.gap, i, limit);
+        i = stop_after(ticks, values, c, i, limit);
         store(out, count, i);
         count += 1;
     }

@@ -72,7 +72,7 @@ part-is c ts vs at n e = rw (lent-part at n ts, lent-part at n vs) at e
 pub totals-with : (t : Totals) (r : Summary) {e : Ratio} → e ≡ greater (over (t .p) (t .q)) (over (r .p) (r .q)) → _≡_ {A = Totals} (record { samples = t .samples + r .samples; kept = t .kept + r .kept; p = e .p; q = e .q }) (totalsWith t r)
 totals-with t r e = rw e
 
-pub zero-bounded : Bounded (record { p = 0; q = 1 })
+pub zero-bounded : Bounded (criterion (over 0 1))
 zero-bounded = record { positive = omega arith; q-bound = omega arith; p-bound = omega arith }
 
 pub greater-bounded : (x y : Ratio) → Bounded (criterion x) → Bounded (criterion y) → Bounded (criterion (greater x y))

@@ -58,7 +58,7 @@ module _ (c : Criterion) (ts : List ℕ) (vs : List ℤ) where
   -- a row's error is at most the criterion's ratio, and in lowest terms
   pub row-within : AtMost (rowError (rowOf c ts vs)) (over (c .p) (c .q))
   row-within = row-one (λ x. AtMost x (over (c .p) (c .q))) (omega arith)
-      (λ t. let g = walk-list-greedy ts vs c in within-error t (walkList ts vs c) (g .kept) (over (c .p) (c .q)) .0 (g .valid))
+      (λ t. let g = walk-list-greedy ts vs c in within-error t (c .gap) (walkList ts vs c) (g .kept) (over (c .p) (c .q)) .0 (g .valid) .1)
 
   pub row-positive : 0 < rowOf c ts vs .q
   row-positive = row-one (λ x. 0 < x .q) (omega arith) (λ t. error-pos (link-errors t) (walk-list-greedy ts vs c .kept))
@@ -67,7 +67,7 @@ module _ (c : Criterion) (ts : List ℕ) (vs : List ℤ) where
   unfolding gcd euclid
   row-lowest = row-one (λ x. gcd (x .p) (x .q) ≡ 1) refl
       (λ t. error-one (linkError ts vs) (λ x. gcd (x .p) (x .q) ≡ 1) (walkList ts vs c) refl
-      (each-map (λ i j b. trace-measures t .lowest i j (b .0) (b .1)) (walkList ts vs c) (kept-links (length ts - 1) (walkList ts vs c) (walk-list-greedy ts vs c .kept))))
+      (each-map (λ i j b. trace-measures t (c .gap) .lowest i j (b .0) (b .1)) (walkList ts vs c) (kept-links (length ts - 1) (walkList ts vs c) (walk-list-greedy ts vs c .kept))))
 
 -- ---- totals
 

@@ -28,7 +28,7 @@ use Rattle.ratio.specs.Order.{over, greater}
 use Rattle.channels.specs.Channels.{part}
 use Rattle.trace.specs.declared.Criterion.{Criterion}
 use Rattle.trace.specs.Trace.{traceRows}
-use Rattle.trace.specs.Link.{listError, Bounded}
+use Rattle.trace.specs.Link.{listError, criterion, Bounded}
 use Rattle.reduction.specs.Walking.{walkList}
 use Rattle.sheet.specs.declared.Summary.{Summary}
 use Rattle.sheet.specs.declared.Totals.{Totals}
@@ -88,13 +88,13 @@ totalsOf rs = totalsWithAll (totalled 0 0 (over 0 1)) rs
 pub record RowBounds (r : Summary) : Type 0 where
   pub samples : r .samples ≤ 4096
   pub kept : r .kept ≤ 4096
-  pub allowed : Bounded (record { p = r .p; q = r .q })
+  pub allowed : Bounded (criterion (rowError r))
 
 -- of the totals of i rows
 pub record TotalBounds (i : ℕ) (t : Totals) : Type 0 where
   pub samples : t .samples ≤ 4096 * i
   pub kept : t .kept ≤ 4096 * i
-  pub allowed : Bounded (record { p = t .p; q = t .q })
+  pub allowed : Bounded (criterion (largestError t))
 
 pub record Rows (c : Criterion) (ts : List ℕ) (vs : List ℤ) (ls : List ℕ) (s : Sheet) : Type 0 where
   pub count : s .count ≡ length ls

@@ -6,8 +6,8 @@ ghost use Prim.Native.Nat.{_+_, _≤_, _<_};
 ghost use lib.ListN.{length};
 ghost use Rattle.channels.specs.Channels.{Divided};
 ghost use Rattle.trace.specs.Trace.{Trace};
-ghost use Rattle.trace.specs.Link.{Bounded};
-ghost use Rattle.sheet.specs.Report.{walkedRow, declinedRow, rowOf, partRow, RowBounds, totalsWith, Rows, Declined, rowAt, Fits, filled};
+ghost use Rattle.trace.specs.Link.{criterion, Bounded};
+ghost use Rattle.sheet.specs.Report.{walkedRow, declinedRow, rowOf, partRow, RowBounds, largestError, totalsWith, Rows, Declined, rowAt, Fits, filled};
 use ratio::Ratio;
 use ratio::order::greater;
 use refusal::Checked;
@@ -102,7 +102,7 @@ fn part_row(ticks: &[u32], values: &[i16], c: Criterion, at: usize, n: usize) ->
 
 // The totals with one row more.
 fn add(t: Totals, r: Summary) -> Totals
-    requires { ⌜ (t .samples ≤ 262144) × (t .kept ≤ 262144) × Bounded (record { p = t .p; q = t .q }) × RowBounds r ⌝ }
+    requires { ⌜ (t .samples ≤ 262144) × (t .kept ≤ 262144) × Bounded (criterion (largestError t)) × RowBounds r ⌝ }
     ensures { λ u. ⌜ u ≡ totalsWith t r ⌝ }
 {
     let worst = greater(Ratio { p: t.p, q: t.q }, Ratio { p: r.p, q: r.q });

@@ -19,7 +19,8 @@ use Rattle.trace.specs.declared.Cone.{Cone}
 use Rattle.trace.specs.Link.{Linked, valid}
 use Rattle.trace.specs.Edge.{StartAt, EdgeTo, Reach, Slope, Tilt, noSteeper}
 use Rattle.trace.specs.Cone.{coneFrom, admitsEdge, extendedBy, ConeFits, Takes}
-use Rattle.trace.proofs.Validity.{steps-valid}
+use Rattle.trace.proofs.Holes.{links-end-after, links-end-inside, obeys-to, obeys-past}
+use Rattle.trace.proofs.Validity.{steps-valid, obeying-valid, hole-invalid}
 use Rattle.trace.proofs.EdgeLaws.{reach, edge-at, tilts, edge-slope, tilt-slope}
 use Rattle.trace.proofs.ConeLaws.{takes-none, takes-more, takes-admits}
 use Rattle.trace.proofs.EmptyCone.{empty-invalid}
@@ -60,7 +61,10 @@ pub record Scanning (ts : List ℕ) (vs : List ℤ) (c : Criterion) (i : ℕ) (c
   pub fits : ConeFits cone
   pub to : j ≤ length ts
 
-module _ {ts : List ℕ} {vs : List ℤ} {c : Criterion} {links : List ℕ} {i : ℕ} (s : Scan ts vs c links i) where
+module _ {ts : List ℕ} {vs : List ℤ} {c : Criterion} {links : List ℕ} {i limit : ℕ} (s : Scan ts vs c links i limit) where
+  end-inside : limit < length ts
+  end-inside = omega (arith, s .limit-is, links-end-inside ts (c .gap) i (s .inside))
+
   pub scanning-none : {st : Start} → StartAt ts vs (c .q) i st → Scanning ts vs c i (coneFrom (c .p)) (i + 1) (i + 1)
   scanning-none st =
       let p : c .p ≤ 68718362625 = omega (arith, s .bounded .p-bound, s .bounded .q-bound) in
@@ -71,13 +75,19 @@ module _ {ts : List ℕ} {vs : List ℤ} {c : Criterion} {links : List ℕ} {i :
         to = omega (arith, s .inside);
       }
 
+  pub first-end : i + 1 ≤ limit
+  first-end = omega (arith, s .limit-is, links-end-after ts (c .gap) i (s .inside))
+
   -- the next end j, by the edge to it
-  module _ {cone : Cone} {b j : ℕ} {st : Start} (g : Scanning ts vs c i cone b j) (jn : j ≤ length ts - 1) (at : StartAt ts vs (c .q) i st) where
+  module _ {cone : Cone} {b j : ℕ} {st : Start} (g : Scanning ts vs c i cone b j) (to-limit : j ≤ limit) (at : StartAt ts vs (c .q) i st) where
     inside : j < length ts
-    inside = omega (arith, s .trace .some)
+    inside = omega (arith, end-inside)
+
+    jn : j ≤ length ts - 1
+    jn = omega (arith, inside)
 
     pub end-room : j < length links
-    end-room = omega (arith, s .counted .links-room)
+    end-room = omega (arith, jn, s .counted .links-room)
 
     pub edge-requires : Reach ts vs (c .q) st j
     edge-requires = reach at (s .trace) (omega (arith, g .choosing .from)) inside (s .bounded .q-bound)
@@ -98,8 +108,8 @@ module _ {ts : List ℕ} {vs : List ℤ} {c : Criterion} {links : List ℕ} {i :
       scanning-more e h =
           let counts = s .counted .counts in
           record {
-            choosing = rw e (choosing-more (g .choosing) (counts j (omega (arith, g .choosing .from)) jn) (counts b (omega (arith, g .choosing .after)) (omega (arith, g .choosing .before)))
-                (takes-admits link (s .bounded) (g .takes) (edge-at at edge)));
+            choosing = rw e (choosing-more (g .choosing) (counts j (omega (arith, g .choosing .from)) jn) (counts b (omega (arith, g .choosing .after)) (omega (arith, g .choosing .before, jn)))
+                (takes-admits link (s .bounded) (g .takes) (edge-at at edge) ∙ sym (obeying-valid ts vs c i j (obeys-to ts (c .gap) i (s .inside) j (omega (arith, s .limit-is))))));
             takes = rw (h .0) (takes-more link (s .bounded) (g .takes) (edge-at at edge));
             fits = h .1;
             to = omega (arith, inside);
@@ -115,15 +125,15 @@ module _ {ts : List ℕ} {vs : List ℤ} {c : Criterion} {links : List ℕ} {i :
   -- the first end, whose link is valid
   pub scanning-first : {st : Start} {to : Edge} {next : Cone} → (at : StartAt ts vs (c .q) i st) → EdgeTo ts vs (c .q) (st .sample) (i + 1) to
       → (next ≡ extendedBy (coneFrom (c .p)) to (c .p)) × ConeFits next → Scanning ts vs c i next (i + 1) (i + 1 + 1)
-  scanning-first at edge h = scanning-more (scanning-none at) (omega (arith, s .inside)) at edge (better-alone _ _ _ (i + 1) (i + 1)) h
+  scanning-first at edge h = scanning-more (scanning-none at) first-end at edge (better-alone _ _ _ (i + 1) (i + 1)) h
 
   module _ {cone : Cone} {b j : ℕ} (g : Scanning ts vs c i cone b j) where
     scanned : ((e : ℕ) → j ≤ e → e ≤ length ts - 1 → valid ts vs c i e ≡ false) → b ≡ nextOf (valid ts vs c) (length ts - 1) i
     scanned none = chosen _ _ (g .choosing) (omega (arith, s .inside)) (omega (arith, g .to, s .trace .some)) none
 
-    -- the scan has taken in the last sample
-    pub scanned-all : length ts - 1 < j → b ≡ nextOf (valid ts vs c) (length ts - 1) i
-    scanned-all h = scanned (λ e l u. absurd (omega arith))
+    -- the scan has taken in the last sample, or the last to which links obey the gap limit
+    pub scanned-all : limit < j → b ≡ nextOf (valid ts vs c) (length ts - 1) i
+    scanned-all h = scanned (λ e l u. hole-invalid ts vs c i e (obeys-past ts (c .gap) i (s .inside) e (omega (arith, s .limit-is)) (omega (arith, s .inside))))
 
     -- or the cone is empty
     pub scanned-empty : noSteeper (cone .low) (cone .high) ≡ false → b ≡ nextOf (valid ts vs c) (length ts - 1) i

@@ -16,7 +16,7 @@ use lib.ListN.{length, getD}
 use Rattle.kept.specs.Minimum.{linksOf, nextOf, minimumOf}
 use Rattle.trace.specs.declared.Criterion.{Criterion}
 use Rattle.trace.specs.Trace.{Trace}
-use Rattle.trace.specs.Link.{Bounded, valid}
+use Rattle.trace.specs.Link.{Bounded, valid, linksEnd}
 
 abbrev pub minimumList : List ℕ → List ℤ → Criterion → List ℕ
 minimumList ts vs c = minimumOf (valid ts vs c) (length ts - 1)
@@ -37,8 +37,9 @@ pub record Onward (last : ℕ) (next : List ℕ) : Type 0 where
 unfoldable pub betterEnd : ℕ → ℕ → Bool → ℕ → ℕ → ℕ
 betterEnd x y valid j b = cond (leb x y && valid) j b
 
-pub record Scan (ts : List ℕ) (vs : List ℤ) (c : Criterion) (links : List ℕ) (i : ℕ) : Type 0 where
+pub record Scan (ts : List ℕ) (vs : List ℤ) (c : Criterion) (links : List ℕ) (i limit : ℕ) : Type 0 where
   pub trace : Trace ts vs
   pub bounded : Bounded c
   pub inside : i + 1 < length ts
   pub counted : Counted (valid ts vs c) (length ts - 1) (suc i) links
+  pub limit-is : limit ≡ linksEnd ts (c .gap) i

@@ -19,6 +19,8 @@ use trace::cones::extended;
 use trace::edges::edge_to;
 use trace::edges::no_steeper;
 use trace::edges::start_at;
+use trace::gaps::end_of;
+use trace::gaps::run_from;
 
 // An end of a link: its sample, and the fewest links from it on.
 pub struct End {
@@ -53,12 +55,18 @@ fn is_empty(cone: Cone) -> bool
 }
 
 // The latest next sample of a shortest list from sample i, by one scan over the ends j of its links with one cone. The scan stops where
-// the cone is empty, which it is not where the link to j is valid.
-fn next_stop(ticks: &[u32], values: &[i16], c: Criterion, links: &[u16], i: usize) -> usize
-    requires { ⌜ Scan (now ticks) (now values) c (now links) i ⌝ }
+// the cone is empty, which it is not where the link to j is valid, and at `limit`, the last sample to which links obey the gap limit.
+fn next_stop(
+    ticks: &[u32],
+    values: &[i16],
+    c: Criterion,
+    links: &[u16],
+    i: usize,
+    limit: usize,
+) -> usize
+    requires { ⌜ Scan (now ticks) (now values) c (now links) i limit ⌝ }
     ensures { λ r. ⌜ r ≡ nextOf (valid (now (ticks .entry)) (now (values .entry)) c) (length (now (ticks .entry)) - 1) i ⌝ }
 {
-    let last = ticks.len() - 1;
     let from = start_at(ticks, values, i, c.q);
     let first = i + 1;
     let mut cone = cone_of(edge_to(ticks, values, from, first, c.q), c.p);
@@ -67,7 +75,7 @@ fn next_stop(ticks: &[u32], values: &[i16], c: Criterion, links: &[u16], i: usiz
         links: links[first],
     };
     let mut j = first + 1;
-    while j <= last {
+    while j <= limit {
         let to = edge_to(ticks, values, from, j, c.q);
         if admits(cone, to) {
             b = better(links, b, j);
@@ -89,10 +97,12 @@ fn plan(ticks: &[u32], values: &[i16], c: Criterion, links: &mut [u16], next: &m
     ensures { λ _. ⌜ Planned (valid (now (ticks .entry)) (now (values .entry)) c) (length (now (ticks .entry)) - 1) 0 (now (next .exit)) ⌝ }
 {
     let mut i = ticks.len() - 1;
+    let mut run = i;
     links[i] = 0;
     while 0 < i {
         i -= 1;
-        let b = next_stop(ticks, values, c, links, i);
+        run = run_from(ticks, c.gap, i, run);
+        let b = next_stop(ticks, values, c, links, i, end_of(i, run));
         links[i] = links[b] + 1;
         next[i] = b as u16;
     }

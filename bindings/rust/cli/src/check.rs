@@ -1,8 +1,9 @@
 //! The command `check`: whether a record may stand for a trace. Its samples are samples of the trace,
-//! the first and the last among them, and every link is valid at its own tolerance.
+//! the first and the last among them, and every link is valid at its own tolerance and the gap limit.
 
 use crate::failure::{Failure, Status};
-use crate::line::Line;
+use crate::holes::crossing;
+use crate::line::{Limits, Line, GAP};
 use crate::name::joined;
 use crate::records::{self, Record};
 use crate::source::Source;
@@ -12,10 +13,11 @@ use kovrelna::{judge, Ratio, Tolerance, Verdict};
 use std::ffi::OsString;
 
 pub fn check(arguments: &[OsString]) -> Result<Status, Failure> {
-    let line = Line::parse("check", &[], arguments)?;
+    let line = Line::parse("check", &[GAP], arguments)?;
     if line.arguments.help {
         return output::print(help::CHECK);
     }
+    let gap = line.gap()?;
     let [record, trace] = line.inputs()?[..] else {
         return Err(line.wrong("a record and its trace are wanted"));
     };
@@ -23,7 +25,7 @@ pub fn check(arguments: &[OsString]) -> Result<Status, Failure> {
     let name = source.name.clone();
     let record = records::load(source)?;
     let trace = Text::read(Source::open(Some(trace))?)?.original()?;
-    match fault(&record, &trace)? {
+    match fault(&record, &trace, gap)? {
         None => output::print("yes\n"),
         Some(fault) => {
             output::print(joined(&[&"no: ", &name, &": ", &fault, &"\n"]))?;
@@ -33,25 +35,31 @@ pub fn check(arguments: &[OsString]) -> Result<Status, Failure> {
 }
 
 /// Why the record may not stand for the trace, if it may not.
-fn fault(record: &Record, trace: &Text) -> Result<Option<OsString>, Failure> {
+fn fault(record: &Record, trace: &Text, gap: Option<u32>) -> Result<Option<OsString>, Failure> {
     trace.must_be_a_trace()?;
     let list = match list_of(record, trace) {
         Ok(list) => list,
         Err(fault) => return Ok(Some(fault)),
     };
     let Ratio { p, q } = record.tolerance;
-    let tolerance = Tolerance::Ratio { p, q };
-    let verdict = judge(&trace.ticks, &trace.values, &list, tolerance);
+    let limits = Limits {
+        tolerance: Tolerance::Ratio { p, q },
+        held: record.tolerance,
+        gap,
+    };
+    let verdict = judge(&trace.ticks, &trace.values, &list, limits);
     let Verdict::Outside { link } = verdict.map_err(|refusal| trace.refused(refusal))? else {
         return Ok(None);
     };
     let tick = |sample: u16| trace.ticks[usize::from(sample)];
     let end = |sample| format!("sample {sample} at tick {}", tick(sample));
     let ends = format!("{} to {}", end(list[link]), end(list[link + 1]));
+    let cause = crossing(&trace.ticks, &list[link..], gap);
+    let cause = cause.unwrap_or_else(|| format!("is not within {p}/{q}"));
     Ok(Some(joined(&[
         &format!("link {link}, from {ends} of "),
         &trace.name,
-        &format!(", is not within {p}/{q}"),
+        &format!(", {cause}"),
     ])))
 }
 

@@ -1,14 +1,15 @@
 //! One function for each command. It takes the arguments after the command's name.
 
 use crate::failure::{Failure, Status};
-use crate::line::{each, Kept, Line};
-use crate::line::{ALLOWANCE, BUDGET, LIST, LIST_FILE, METHOD, OUTPUT, TOLERANCE};
+use crate::holes::crossing;
+use crate::line::{each, Kept, Line, METHODS};
+use crate::line::{ALLOWANCE, BUDGET, GAP, LIST, LIST_FILE, METHOD, OUTPUT, TOLERANCE};
 use crate::name::{joined, placed};
 use crate::records;
 use crate::source::Source;
 use crate::text::{self, List, Text};
 use crate::{budget, check, draw, help, near, output, pedestals, probes, report, summary};
-use kovrelna::{Least, Ratio, Refusal, Verdict};
+use kovrelna::{Least, Ratio, Refusal, Tolerance, Verdict, GAP_MAX};
 use std::ffi::{OsStr, OsString};
 use std::fmt::Display;
 
@@ -33,7 +34,8 @@ pub fn find(name: &str) -> Option<Command> {
 }
 
 fn record(arguments: &[OsString]) -> Result<Status, Failure> {
-    let line = Line::parse("record", &[TOLERANCE, METHOD, OUTPUT, BUDGET], arguments)?;
+    let options = [TOLERANCE, GAP, METHOD, OUTPUT, BUDGET];
+    let line = Line::parse("record", &options, arguments)?;
     if line.arguments.help {
         return output::print(help::RECORD);
     }
@@ -48,11 +50,11 @@ fn record(arguments: &[OsString]) -> Result<Status, Failure> {
         let cause = "--tolerance is missing, and there is no line `# tolerance p/q`";
         return Err(line.wrong(placed(&text.name, cause)));
     };
-    let record = records::save(&text.ticks, &text.values, &kept.list, kept.tolerance)
+    let record = records::save(&text.ticks, &text.values, &kept.list, kept.limits)
         .map_err(|refusal| text.refused(refusal))?;
     let status = output::write(output, &record, false)?;
     match budget {
-        true => output::print(budget::text(kept.held)),
+        true => output::print(budget::text(kept.limits.held)),
         false => Ok(status),
     }
 }
@@ -79,11 +81,11 @@ fn show(arguments: &[OsString]) -> Result<Status, Failure> {
 }
 
 fn judge(arguments: &[OsString]) -> Result<Status, Failure> {
-    let line = Line::parse("judge", &[TOLERANCE, LIST, LIST_FILE], arguments)?;
+    let line = Line::parse("judge", &[TOLERANCE, GAP, LIST, LIST_FILE], arguments)?;
     if line.arguments.help {
         return output::print(help::JUDGE);
     }
-    let (tolerance, _) = line.needed_tolerance()?;
+    let limits = line.needed_limits()?;
     let input = line.input()?.unwrap_or(OsStr::new("-"));
     if line.value(LIST_FILE) == Some(OsStr::new("-")) && input == "-" {
         return Err(line.wrong("standard input is wanted twice"));
@@ -94,10 +96,12 @@ fn judge(arguments: &[OsString]) -> Result<Status, Failure> {
         _ => return Err(line.wrong("one of --list and --list-file is wanted")),
     };
     let text = Text::read(Source::open(line.input()?)?)?.original()?;
-    match kovrelna::judge(&text.ticks, &text.values, &list.entries, tolerance) {
+    match kovrelna::judge(&text.ticks, &text.values, &list.entries, limits) {
         Ok(Verdict::Within) => output::print("yes\n"),
         Ok(Verdict::Outside { link }) => {
-            output::print(format!("no at link {link}\n"))?;
+            let cause = crossing(&text.ticks, &list.entries[link..], limits.gap);
+            let cause = cause.map_or(String::new(), |cause| format!(": it {cause}"));
+            output::print(format!("no at link {link}{cause}\n"))?;
             Ok(Status::No)
         }
         Err(Refusal::List(entry)) => Err(list.refused(entry)),
@@ -109,7 +113,7 @@ fn judge(arguments: &[OsString]) -> Result<Status, Failure> {
 const LEAST_SAMPLES: usize = 256;
 
 fn least(arguments: &[OsString]) -> Result<Status, Failure> {
-    let line = Line::parse("least", &[ALLOWANCE], arguments)?;
+    let line = Line::parse("least", &[ALLOWANCE, GAP], arguments)?;
     if line.arguments.help {
         return output::print(help::LEAST);
     }
@@ -118,15 +122,31 @@ fn least(arguments: &[OsString]) -> Result<Status, Failure> {
     };
     let wrong = |cause: &dyn Display| line.wrong(format!("--allowance: {cause}"));
     let allowance: u64 = text::whole("allowance", allowance, 2, 4_096).map_err(|c| wrong(&c))?;
+    let gap = line.gap()?.unwrap_or(GAP_MAX);
     let text = Text::read(Source::open(line.input()?)?)?.original()?;
     let mut list = vec![0; text.ticks.len()];
-    let answer = kovrelna::least(&text.ticks, &text.values, allowance, &mut list);
+    let answer = kovrelna::least(&text.ticks, &text.values, gap, allowance, &mut list);
     let Least { kept, error } = answer.map_err(|refusal| match refusal {
         Refusal::Allowance => wrong(&refusal),
         Refusal::Length => text.too_long(LEAST_SAMPLES),
+        Refusal::Holes => too_many_holes(&text, gap),
         refusal => text.refused(refusal),
     })?;
     let list: Vec<String> = list[..kept].iter().map(u16::to_string).collect();
     let Ratio { p, q } = error;
     output::print(format!("error {p}/{q}\nlist {}\n", list.join(",")))
+}
+
+/// Every list that obeys the gap limit has more samples than the allowance: how many the shortest has.
+fn too_many_holes(text: &Text, gap: u32) -> Failure {
+    // All samples of a trace are within the greatest tolerance of any link.
+    let greatest = Tolerance::Counts(65_535.0);
+    let [_, _, minimum] = METHODS;
+    match minimum.list(text, greatest.with_gap(gap)) {
+        Ok(list) => {
+            let cause = format!("{}: the shortest has {}", Refusal::Holes, list.len());
+            Failure::at(&text.name, cause)
+        }
+        Err(failure) => failure,
+    }
 }

@@ -1,10 +1,24 @@
 //! Curves of straight lines.
 
+use crate::holes::Hole;
+use std::iter::once;
+
 /// A tick and a value.
 pub type Sample = (u32, i16);
 
 /// A tick, and a value or a distance.
 pub type Point = (f64, f64);
+
+/// From one tick to another.
+pub type Stretch = (f64, f64);
+
+/// What is left of a stretch without these holes, which come by rising ticks.
+pub fn parts((from, to): Stretch, holes: &[Hole]) -> Vec<Stretch> {
+    let starts = holes.iter().map(|&(_, after)| from.max(after.into()));
+    let ends = holes.iter().map(|&(before, _)| to.min(before.into()));
+    let parts = once(from).chain(starts).zip(ends.chain(once(to)));
+    parts.filter(|(start, end)| start <= end).collect()
+}
 
 /// Points by rising ticks, and the straight lines between them.
 pub struct Curve {
@@ -30,18 +44,23 @@ impl Curve {
     }
 
     /// The points from one tick to another.
-    pub fn between(&self, (from, to): (f64, f64)) -> &[Point] {
+    pub fn between(&self, (from, to): Stretch) -> &[Point] {
         let start = self.points.partition_point(|&(tick, _)| tick < from);
         let end = self.points.partition_point(|&(tick, _)| tick <= to);
         &self.points[start..end]
     }
 
     /// The curve from one tick to another, which are from the first point to the last.
-    pub fn cut(&self, (from, to): (f64, f64)) -> Curve {
+    pub fn cut(&self, (from, to): Stretch) -> Curve {
         let mut points = vec![(from, self.at(from)), (to, self.at(to))];
         points.splice(1..1, self.between((from, to)).iter().copied());
         points.dedup();
         Curve { points }
+    }
+
+    /// The curve in each of these parts.
+    pub fn cuts(&self, parts: &[Stretch]) -> Vec<Curve> {
+        parts.iter().map(|&part| self.cut(part)).collect()
     }
 
     /// How far this curve is above the other, at each of its points.
@@ -65,6 +84,28 @@ impl Curve {
 #[cfg(test)]
 mod tests {
     use super::*;
+
+    #[test]
+    fn holes() {
+        let holes = [(2, 10), (10, 15), (17, 30)];
+        for (stretch, left) in [
+            (
+                (0.0, 40.0),
+                vec![(0.0, 2.0), (10.0, 10.0), (15.0, 17.0), (30.0, 40.0)],
+            ),
+            (
+                (2.0, 30.0),
+                vec![(2.0, 2.0), (10.0, 10.0), (15.0, 17.0), (30.0, 30.0)],
+            ),
+            ((1.0, 5.0), vec![(1.0, 2.0)]),
+            ((5.0, 16.0), vec![(10.0, 10.0), (15.0, 16.0)]),
+            ((15.0, 16.0), vec![(15.0, 16.0)]),
+            ((3.0, 9.0), vec![]),
+        ] {
+            assert_eq!(parts(stretch, &holes), left);
+        }
+        assert_eq!(parts((3.0, 3.0), &[]), [(3.0, 3.0)]);
+    }
 
     #[test]
     fn curves() {

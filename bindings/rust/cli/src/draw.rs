@@ -2,7 +2,8 @@
 
 use crate::budget::ratio;
 use crate::failure::{Failure, Status};
-use crate::line::{Kept, Line, FROM, METHOD, OUTPUT, TO, TOLERANCE};
+use crate::holes::holes;
+use crate::line::{and_gap, Kept, Line, FROM, GAP, METHOD, OUTPUT, TO, TOLERANCE};
 use crate::name::{placed, shown};
 use crate::source::Source;
 use crate::svg::{self, Picture};
@@ -13,7 +14,8 @@ use std::ffi::OsString;
 use std::path::Path;
 
 pub fn draw(arguments: &[OsString]) -> Result<Status, Failure> {
-    let line = Line::parse("draw", &[TOLERANCE, METHOD, OUTPUT, FROM, TO], arguments)?;
+    let options = [TOLERANCE, GAP, METHOD, OUTPUT, FROM, TO];
+    let line = Line::parse("draw", &options, arguments)?;
     if line.arguments.help {
         return output::print(help::DRAW);
     }
@@ -37,8 +39,8 @@ pub fn draw(arguments: &[OsString]) -> Result<Status, Failure> {
         _ => String::new(),
     };
     let Ratio { p, q } = picture.tolerance;
-    let tolerance = ratio(p, q);
-    let title = format!("{counts}, tolerance {tolerance}{ticks}{name}");
+    let (tolerance, gap) = (ratio(p, q), and_gap(line.gap()?));
+    let title = format!("{counts}, tolerance {tolerance}{gap}{ticks}{name}");
     let svg = svg::draw(&title, &picture);
     output::write(line.value(OUTPUT), svg.as_bytes(), true)
 }
@@ -68,14 +70,17 @@ fn samples(count: usize) -> String {
 
 /// The lines of a record, and how many samples there are in words.
 fn picture_of_record(line: &Line, source: Source) -> Result<(String, Picture), Failure> {
-    if line.value(TOLERANCE).is_some() || line.value(METHOD).is_some() {
-        let cause = "a record, with its own tolerance: --tolerance and --method do not apply";
+    let given = |option| line.value(option).is_some();
+    if [TOLERANCE, GAP, METHOD].into_iter().any(given) {
+        let cause =
+            "a record, with its own tolerance: --tolerance, --gap and --method do not apply";
         return Err(line.wrong(placed(&source.name, cause)));
     }
     let record = records::load(source)?;
     let counts = format!("{} kept", samples(record.ticks.len()));
     let kept: Vec<_> = record.ticks.into_iter().zip(record.values).collect();
-    Ok((counts, Picture::whole(Vec::new(), kept, record.tolerance)))
+    let picture = Picture::whole(Vec::new(), kept, record.tolerance, Vec::new());
+    Ok((counts, picture))
 }
 
 /// A trace and the lines that are kept of it, and how many samples there are in words.
@@ -86,6 +91,7 @@ fn picture_of_trace(line: &Line, source: Source) -> Result<(String, Picture), Fa
         let cause = "--tolerance is missing, and this is no record";
         return Err(line.wrong(placed(&text.name, cause)));
     };
+    let holes = holes(&text.ticks, kept.limits.gap);
     let trace: Vec<_> = text.ticks.into_iter().zip(text.values).collect();
     let counts = match kept.method {
         Some(method) => format!(
@@ -100,5 +106,6 @@ fn picture_of_trace(line: &Line, source: Source) -> Result<(String, Picture), Fa
         Some(_) => trace,
         None => Vec::new(),
     };
-    Ok((counts, Picture::whole(samples, lines, kept.held)))
+    let picture = Picture::whole(samples, lines, kept.limits.held, holes);
+    Ok((counts, picture))
 }

@@ -30,6 +30,9 @@ ticks rise; the last is at most 1,048,575 above the first.
 A tolerance is p/q (2/3), counts (2 or 1.5, in steps of 1/64), or a channel's
 noise and the multiple wanted (3.25x4).
 
+A gap limit (--gap) is from 1 to 1048575 ticks. Two neighbouring samples that
+lie further apart are a hole: no link crosses it but the one between these two.
+
 Without a file, or with -, standard input is read. Errors go to standard error
 as `kovrelna: FILE: cause` or `kovrelna: FILE:LINE: cause`.
 
@@ -43,10 +46,13 @@ pub const RECORD: &str = "\
 Makes a record from a trace: keeps a few samples, so that the straight lines
 between them pass all others within the tolerance.
 
-Usage: kovrelna record -t TOLERANCE [-m METHOD] [-o FILE [-b]] [INPUT]
+Usage: kovrelna record -t TOLERANCE [--gap G] [-m METHOD] [-o FILE [-b]]
+                       [INPUT]
        kovrelna record [-o FILE [-b]] [INPUT]
 
   -t, --tolerance T   p/q, counts, or noise x multiple: 2/3, 1.5, 3.25x4
+      --gap G         a link longer than one step crosses no two neighbouring
+                      samples more than G ticks apart; default: no limit
   -m, --method M      walk (the default; one pass), gallop, or minimum (as few
                       samples as possible)
   -o, --output FILE   write to FILE instead of standard output (-); FILE is
@@ -79,14 +85,17 @@ Exit status: 0 done, 2 error.
 
 pub const JUDGE: &str = "\
 Says whether a list of samples is within a tolerance: prints `yes`, or `no at
-link N` with the first link that some sample is too far from. Samples and links
-are counted from 0; the list begins with 0, rises, and ends with the last one.
-INPUT is the original trace: samples with a line `# tolerance p/q` are refused.
+link N` with the first link that some sample is too far from, or `no at link N:
+it crosses the hole from tick A to tick B`. Samples and links are counted from
+0; the list begins with 0, rises, and ends with the last one. INPUT is the
+original trace: samples with a line `# tolerance p/q` are refused.
 
-Usage: kovrelna judge -t TOLERANCE -l LIST [INPUT]
-       kovrelna judge -t TOLERANCE -f FILE [INPUT]
+Usage: kovrelna judge -t TOLERANCE [--gap G] -l LIST [INPUT]
+       kovrelna judge -t TOLERANCE [--gap G] -f FILE [INPUT]
 
   -t, --tolerance T     p/q, counts, or noise x multiple: 2/3, 1.5, 3.25x4
+      --gap G           a link longer than one step crosses no two neighbouring
+                        samples more than G ticks apart; default: no limit
   -l, --list LIST       samples, with commas between: 0,3,4
   -f, --list-file FILE  a file with the samples, with commas, spaces or line
                         ends between
@@ -97,13 +106,16 @@ Exit status: 0 yes, 1 no, 2 error.
 pub const CHECK: &str = "\
 Says whether a record may stand for a trace, before the trace is erased: its
 samples are samples of the trace, with the same values, the first and the last
-among them, and every link is valid at the record's own tolerance. Prints
-`yes`, or `no: RECORD: cause` with the first sample or link that is wrong.
-Samples and links are counted from 0. TRACE is the original trace as text:
-samples with a line `# tolerance p/q` are refused. One of the two may be - for
-standard input.
+among them, and every link is valid at the record's own tolerance. No record
+has a gap limit: --gap asks for one here. Prints `yes`, or `no: RECORD: cause`
+with the first sample or link that is wrong. Samples and links are counted from
+0. TRACE is the original trace as text: samples with a line `# tolerance p/q`
+are refused. One of the two may be - for standard input.
 
-Usage: kovrelna check RECORD TRACE
+Usage: kovrelna check [--gap G] RECORD TRACE
+
+      --gap G   a link longer than one step crosses no two neighbouring samples
+                more than G ticks apart; default: no limit
 
 Exit status: 0 yes, 1 no, 2 error (the record is faulty, TRACE is no trace, or
 one of them cannot be read).
@@ -114,9 +126,15 @@ Prints the least tolerance that a list of at most so many samples is within, as
 `error p/q`, and the list that minimum keeps at it, as `list 0,3,4`. The trace
 has at most 256 samples; samples with a line `# tolerance p/q` are refused.
 
-Usage: kovrelna least -a ALLOWANCE [INPUT]
+With a gap limit only lists that obey it count. The shortest of them has both
+ends of the trace and the two samples beside each hole; a lesser allowance is
+refused.
+
+Usage: kovrelna least -a ALLOWANCE [--gap G] [INPUT]
 
   -a, --allowance M   at most so many samples are kept, from 2 to 4096
+      --gap G         a link longer than one step crosses no two neighbouring
+                      samples more than G ticks apart; default: no limit
 
 Exit status: 0 done, 2 error.
 ";
@@ -127,12 +145,15 @@ trace, under a heading, its samples, how many of them walk, gallop and minimum
 keep at the tolerance, how many minimum keeps at half of it, and the file; for
 several traces also the total. No list within the tolerance has fewer samples
 than minimum's, and walk and gallop keep at most as many as minimum at half the
-tolerance. Half of p/q is p over 2q; where no denominator so great is allowed,
-`-` stands in its place. Samples with a line `# tolerance p/q` are refused.
+tolerance; with a gap limit this is said of lists that obey it. Half of p/q is
+p over 2q; where no denominator so great is allowed, `-` stands in its place.
+Samples with a line `# tolerance p/q` are refused.
 
-Usage: kovrelna near -t TOLERANCE [FILE..]
+Usage: kovrelna near -t TOLERANCE [--gap G] [FILE..]
 
   -t, --tolerance T   p/q, counts, or noise x multiple: 2/3, 1.5, 3.25x4
+      --gap G         a link longer than one step crosses no two neighbouring
+                      samples more than G ticks apart; default: no limit
 
 After a faulty trace the others are still counted.
 
@@ -151,9 +172,11 @@ s (2 floor(log2(n - 1)) + 1), and at most 2 (n - 1) - s, which is reached
 exactly where no stop advances by more than 2 samples. One sample takes no
 probe. Samples with a line `# tolerance p/q` are refused.
 
-Usage: kovrelna probes -t TOLERANCE [FILE..]
+Usage: kovrelna probes -t TOLERANCE [--gap G] [FILE..]
 
   -t, --tolerance T   p/q, counts, or noise x multiple: 2/3, 1.5, 3.25x4
+      --gap G         a link longer than one step crosses no two neighbouring
+                      samples more than G ticks apart; default: no limit
 
 After a faulty trace the others are still counted.
 
@@ -183,10 +206,13 @@ samples, how many of them walk keeps at the tolerance, the error of what is
 kept, 0 or the number of a refusal, and the file; then the totals, with the
 largest error.
 
-Usage: kovrelna report -t TOLERANCE [--csv] [FILE..]
+Usage: kovrelna report -t TOLERANCE [--gap G] [--csv] [FILE..]
 
   -t, --tolerance T   p/q, counts, or noise x multiple: 2/3, 1.5, 3.25x4
+      --gap G         a link longer than one step crosses no two neighbouring
+                      samples more than G ticks apart; default: no limit
       --csv           print CSV for a spreadsheet, with two columns for a ratio
+                      and, if it is given, a last one for the gap limit
 
 Each of several files is the trace of a channel; channels are counted from 0.
 One file may have all of them, with the channel's number (0 to 4294967295) in a
@@ -240,13 +266,16 @@ Exit status: 0 nothing is listed, 1 a channel is listed, 2 error.
 pub const DRAW: &str = "\
 Draws a trace with the lines that are kept of it and their tolerance band, as
 SVG, and below it how far the trace is above or below the lines, in the same
-band. Of a record, or its text as `kovrelna show` prints it, the lines and the
-band are drawn at its own tolerance.
+band. With a gap limit nothing but a line that is kept goes across a hole. Of a
+record, or its text as `kovrelna show` prints it, the lines and the band are
+drawn at its own tolerance; its holes are not known.
 
-Usage: kovrelna draw -t TOLERANCE [-m METHOD] [OPTION..] [INPUT]
+Usage: kovrelna draw -t TOLERANCE [--gap G] [-m METHOD] [OPTION..] [INPUT]
        kovrelna draw [OPTION..] [RECORD]
 
   -t, --tolerance T   p/q, counts, or noise x multiple: 2/3, 1.5, 3.25x4
+      --gap G         a link longer than one step crosses no two neighbouring
+                      samples more than G ticks apart; default: no limit
   -m, --method M      walk (the default), gallop or minimum
       --from TICK     draw what is kept of the whole trace from this tick on
       --to TICK       draw it up to this tick

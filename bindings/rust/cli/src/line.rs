@@ -1,5 +1,5 @@
-//! What the commands share: their options, their inputs, the reductions by name, and what is kept of a
-//! trace.
+//! What the commands share: their options, their inputs, the limits of links, the reductions by name,
+//! and what is kept of a trace.
 
 use crate::args::{Arguments, Known};
 use crate::failure::{Failure, Status};
@@ -7,10 +7,12 @@ use crate::name::{joined, placed, shown};
 use crate::source::Source;
 use crate::text::{whole, Text};
 use crate::{output, tolerance};
-use kovrelna::{Ratio, Refusal, Tolerance};
+use kovrelna::{judge, Ratio, Refusal, Tolerance, GAP_MAX};
 use std::ffi::{OsStr, OsString};
+use std::fmt::Display;
 
 pub const TOLERANCE: Known = Known::valued("tolerance", Some('t'));
+pub const GAP: Known = Known::valued("gap", None);
 pub const METHOD: Known = Known::valued("method", Some('m'));
 pub const OUTPUT: Known = Known::valued("output", Some('o'));
 pub const LIST: Known = Known::valued("list", Some('l'));
@@ -62,7 +64,7 @@ impl Line {
     }
 
     /// The tolerance, and the ratio it is held as.
-    pub fn tolerance(&self) -> Result<Option<(Tolerance, Ratio)>, Failure> {
+    fn tolerance(&self) -> Result<Option<(Tolerance, Ratio)>, Failure> {
         let Some(text) = self.text(TOLERANCE)? else {
             return Ok(None);
         };
@@ -72,10 +74,37 @@ impl Line {
         }
     }
 
-    /// The tolerance of a command that needs one.
-    pub fn needed_tolerance(&self) -> Result<(Tolerance, Ratio), Failure> {
-        match self.tolerance()? {
-            Some(tolerance) => Ok(tolerance),
+    /// The gap limit, if one is given.
+    pub fn gap(&self) -> Result<Option<u32>, Failure> {
+        let Some(written) = self.text(GAP)? else {
+            return Ok(None);
+        };
+        let wrong = |cause: &dyn Display| self.wrong(format!("--gap: {cause}"));
+        let gap = whole("gap limit", written, 1, GAP_MAX).map_err(|cause| wrong(&cause))?;
+        // Nothing but the gap limit can be refused here.
+        match judge(&[0], &[0], &[0], Tolerance::Counts(0.0).with_gap(gap)) {
+            Ok(_) => Ok(Some(gap)),
+            Err(refusal) => Err(wrong(&refusal)),
+        }
+    }
+
+    /// The tolerance, and the gap limit with it.
+    fn limits(&self) -> Result<Option<Limits>, Failure> {
+        match (self.tolerance()?, self.gap()?) {
+            (None, None) => Ok(None),
+            (None, Some(_)) => Err(self.wrong("--gap needs --tolerance")),
+            (Some((tolerance, held)), gap) => Ok(Some(Limits {
+                tolerance,
+                held,
+                gap,
+            })),
+        }
+    }
+
+    /// The limits of a command that needs a tolerance.
+    pub fn needed_limits(&self) -> Result<Limits, Failure> {
+        match self.limits()? {
+            Some(limits) => Ok(limits),
             None => Err(self.wrong("--tolerance is missing")),
         }
     }
@@ -100,14 +129,12 @@ impl Line {
         }
     }
 
-    /// The method, which is walk if none is given, and the tolerance that it needs.
-    pub fn reduction(&self) -> Result<Option<(Method, Tolerance, Ratio)>, Failure> {
-        match (self.method()?, self.tolerance()?) {
+    /// The method, which is walk if none is given, and the limits that it needs.
+    pub fn reduction(&self) -> Result<Option<(Method, Limits)>, Failure> {
+        match (self.method()?, self.limits()?) {
             (None, None) => Ok(None),
             (Some(_), None) => Err(self.wrong("--method needs --tolerance")),
-            (method, Some((tolerance, held))) => {
-                Ok(Some((method.unwrap_or(METHODS[0]), tolerance, held)))
-            }
+            (method, Some(limits)) => Ok(Some((method.unwrap_or(METHODS[0]), limits))),
         }
     }
 
@@ -158,7 +185,28 @@ pub fn each(
     Ok(status)
 }
 
-type Reduction = fn(&[u32], &[i16], Tolerance, &mut [u16]) -> Result<usize, Refusal>;
+/// What a link is asked to meet.
+#[derive(Clone, Copy)]
+pub struct Limits {
+    pub tolerance: Tolerance,
+    /// The ratio as which the tolerance is held.
+    pub held: Ratio,
+    /// The gap limit, if one is given.
+    pub gap: Option<u32>,
+}
+
+impl From<Limits> for kovrelna::Limits {
+    fn from(Limits { tolerance, gap, .. }: Limits) -> kovrelna::Limits {
+        tolerance.with_gap(gap.unwrap_or(GAP_MAX))
+    }
+}
+
+/// The gap limit after a tolerance, if one is given.
+pub fn and_gap(gap: Option<u32>) -> String {
+    gap.map_or(String::new(), |gap| format!(", gap limit {gap}"))
+}
+
+type Reduction = fn(&[u32], &[i16], kovrelna::Limits, &mut [u16]) -> Result<usize, Refusal>;
 
 /// A reduction.
 #[derive(Clone, Copy)]
@@ -175,8 +223,8 @@ pub const METHODS: [Method; 3] = [
     },
     Method {
         name: "gallop",
-        reduce: |ticks, values, tolerance, out| {
-            kovrelna::gallop(ticks, values, tolerance, out).map(|galloped| galloped.kept)
+        reduce: |ticks, values, limits, out| {
+            kovrelna::gallop(ticks, values, limits, out).map(|galloped| galloped.kept)
         },
     },
     Method {
@@ -187,9 +235,13 @@ pub const METHODS: [Method; 3] = [
 
 impl Method {
     /// The kept list.
-    pub fn list(self, text: &Text, tolerance: Tolerance) -> Result<Vec<u16>, Failure> {
+    pub fn list(
+        self,
+        text: &Text,
+        limits: impl Into<kovrelna::Limits>,
+    ) -> Result<Vec<u16>, Failure> {
         let mut list = vec![0; text.ticks.len()];
-        let kept = (self.reduce)(&text.ticks, &text.values, tolerance, &mut list)
+        let kept = (self.reduce)(&text.ticks, &text.values, limits.into(), &mut list)
             .map_err(|refusal| text.refused(refusal))?;
         list.truncate(kept);
         Ok(list)
@@ -199,9 +251,7 @@ impl Method {
 /// What is kept of a trace.
 pub struct Kept {
     pub list: Vec<u16>,
-    pub tolerance: Tolerance,
-    /// The ratio as which the tolerance is held.
-    pub held: Ratio,
+    pub limits: Limits,
     /// The method's name; none if every sample is kept.
     pub method: Option<&'static str>,
 }
@@ -210,10 +260,7 @@ impl Kept {
     /// By the reduction given; without one every sample, at the tolerance of the trace's own line.
     /// Nothing if there is neither. Samples that were reduced before are not reduced again, as they
     /// are not the samples that the tolerance would be about.
-    pub fn of(
-        text: &Text,
-        reduction: Option<(Method, Tolerance, Ratio)>,
-    ) -> Result<Option<Kept>, Failure> {
+    pub fn of(text: &Text, reduction: Option<(Method, Limits)>) -> Result<Option<Kept>, Failure> {
         Ok(Some(match (reduction, text.tolerance()?) {
             (None, None) => return Ok(None),
             (Some(_), Some((_, Ratio { p, q }))) => {
@@ -221,18 +268,20 @@ impl Kept {
                 let cause = format!("{cause} {p}/{q}: tolerances would add");
                 return Err(text.at_tolerance(&cause));
             }
-            (Some((method, tolerance, held)), None) => Kept {
-                list: method.list(text, tolerance)?,
-                tolerance,
-                held,
+            (Some((method, limits)), None) => Kept {
+                list: method.list(text, limits)?,
+                limits,
                 method: Some(method.name),
             },
             (None, Some((tolerance, held))) => {
                 text.must_be_a_trace()?;
                 Kept {
                     list: text.every_sample(),
-                    tolerance,
-                    held,
+                    limits: Limits {
+                        tolerance,
+                        held,
+                        gap: None,
+                    },
                     method: None,
                 }
             }

@@ -19,6 +19,7 @@
 //! - `curve`: curves of straight lines in them.
 //! - `levels`: pictures of two pedestal runs.
 //! - `line`: what the commands share.
+//! - `holes`: holes of a trace.
 //! - `table`: columns, and fields of CSV.
 //! - `counts`: tables of counts.
 //! - `rounded`: numbers that are rounded in print.
@@ -44,6 +45,7 @@ mod draw;
 mod ending;
 mod failure;
 mod help;
+mod holes;
 mod levels;
 mod line;
 mod name;

@@ -1,31 +1,35 @@
 //! The command `near`: how near the lists of walk and gallop are to the shortest.
 
 use crate::failure::{Failure, Status};
-use crate::line::{Line, Method, METHODS, TOLERANCE};
+use crate::line::{and_gap, Limits, Line, Method, GAP, METHODS, TOLERANCE};
 use crate::{counts, help, output};
 use kovrelna::{hold, Ratio, Tolerance};
 use std::ffi::OsString;
 
 pub fn near(arguments: &[OsString]) -> Result<Status, Failure> {
-    let line = Line::parse("near", &[TOLERANCE], arguments)?;
+    let line = Line::parse("near", &[TOLERANCE, GAP], arguments)?;
     if line.arguments.help {
         return output::print(help::NEAR);
     }
-    let (tolerance, held) = line.needed_tolerance()?;
+    let limits = line.needed_limits()?;
     let inputs = line.inputs()?;
-    let Ratio { p, q } = half(held);
-    let half = Tolerance::Ratio { p, q };
-    let half = hold(half).ok().map(|_| half);
-    output::print(heading(held))?;
+    let Ratio { p, q } = half(limits.held);
+    let tolerance = Tolerance::Ratio { p, q };
+    let half = hold(tolerance).ok().map(|held| Limits {
+        tolerance,
+        held,
+        ..limits
+    });
+    output::print(heading(limits))?;
     let [walk, gallop, minimum] = METHODS;
     let zeros = [Some(0), Some(0), Some(0), Some(0), half.map(|_| 0)];
     let status = counts::print(&inputs, zeros, |text| {
-        let kept = |method: Method, tolerance| Ok(method.list(text, tolerance)?.len());
+        let kept = |method: Method, limits: Limits| Ok(method.list(text, limits)?.len());
         Ok([
             Some(text.ticks.len()),
-            Some(kept(walk, tolerance)?),
-            Some(kept(gallop, tolerance)?),
-            Some(kept(minimum, tolerance)?),
+            Some(kept(walk, limits)?),
+            Some(kept(gallop, limits)?),
+            Some(kept(minimum, limits)?),
             half.map(|half| kept(minimum, half)).transpose()?,
         ])
     })?;
@@ -45,11 +49,11 @@ fn half(Ratio { p, q }: Ratio) -> Ratio {
 }
 
 /// What the columns mean, and their names.
-fn heading(held: Ratio) -> String {
+fn heading(Limits { held, gap, .. }: Limits) -> String {
     let Ratio { p, q } = held;
-    let half = half(held);
+    let (half, gap) = (half(held), and_gap(gap));
     format!(
-        "# samples kept at {p}/{q}; half: by minimum at {}/{}\n\
+        "# samples kept at {p}/{q}{gap}; half: by minimum at {}/{}\n\
          samples    walk  gallop minimum    half  file\n",
         half.p, half.q
     )

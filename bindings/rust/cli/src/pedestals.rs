@@ -21,10 +21,10 @@ pub fn pedestals(arguments: &[OsString]) -> Result<Status, Failure> {
     if line.arguments.help {
         return output::print(help::PEDESTALS);
     }
-    let (tolerance, held) = line.needed_tolerance()?;
+    let needed = line.needed_limits()?;
     let limits = Limits {
-        tolerance,
-        held,
+        tolerance: needed.tolerance,
+        held: needed.held,
         noise: noise(&line)?,
     };
     let (is_csv, is_drawn) = (line.value(CSV).is_some(), line.value(DRAW).is_some());

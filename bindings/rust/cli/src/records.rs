@@ -2,7 +2,7 @@
 
 use crate::failure::Failure;
 use crate::source::Source;
-use kovrelna::{read, write, Ratio, Refusal, Tolerance};
+use kovrelna::{read, write, Limits, Ratio, Refusal};
 
 /// The most bytes of a record.
 const BYTES: usize = 24_589;
@@ -43,10 +43,10 @@ pub fn save(
     ticks: &[u32],
     values: &[i16],
     list: &[u16],
-    tolerance: Tolerance,
+    limits: impl Into<Limits>,
 ) -> Result<Vec<u8>, Refusal> {
     let mut buffer = vec![0; BYTES];
-    let length = write(ticks, values, list, tolerance, &mut buffer, 0)?;
+    let length = write(ticks, values, list, limits, &mut buffer, 0)?;
     buffer.truncate(length);
     Ok(buffer)
 }
@@ -63,6 +63,7 @@ pub fn begins(bytes: &[u8]) -> bool {
 #[cfg(test)]
 mod tests {
     use super::*;
+    use kovrelna::Tolerance;
 
     #[test]
     fn there_and_back() {

@@ -2,30 +2,30 @@
 
 use crate::channels::{in_file, Traces, CHANNELS};
 use crate::failure::{Failure, Status};
-use crate::line::{ratio, Line, CSV, TOLERANCE};
+use crate::line::{and_gap, ratio, Limits, Line, CSV, GAP, TOLERANCE};
 use crate::name::joined;
 use crate::source::Source;
 use crate::table::{self, quoted};
 use crate::text::Text;
 use crate::{help, output};
-use kovrelna::{Ratio, Refusal, Summary, Tolerance};
+use kovrelna::{Ratio, Refusal, Summary};
 use std::ffi::{OsStr, OsString};
 
 pub fn report(arguments: &[OsString]) -> Result<Status, Failure> {
-    let line = Line::parse("report", &[TOLERANCE, CSV], arguments)?;
+    let line = Line::parse("report", &[TOLERANCE, GAP, CSV], arguments)?;
     if line.arguments.help {
         return output::print(help::REPORT);
     }
-    let (tolerance, held) = line.needed_tolerance()?;
+    let limits = line.needed_limits()?;
     let inputs = line.inputs()?;
     let channels = channels(&inputs)?;
-    let rows = rows(&channels, tolerance).map_err(|refusal| match refusal {
+    let rows = rows(&channels, limits).map_err(|refusal| match refusal {
         Refusal::Crate => line.wrong("more than 64 files"),
         refusal => line.wrong(refusal.to_string()),
     })?;
     output::print(match line.value(CSV) {
-        Some(_) => csv(&rows, held),
-        None => aligned(&rows, held),
+        Some(_) => csv(&rows, limits),
+        None => aligned(&rows, limits),
     })
 }
 
@@ -59,14 +59,14 @@ struct Row {
 }
 
 /// The lines of the channels, and that of the total.
-fn rows(channels: &[(u32, Text)], tolerance: Tolerance) -> Result<Vec<Row>, Refusal> {
+fn rows(channels: &[(u32, Text)], limits: Limits) -> Result<Vec<Row>, Refusal> {
     let Traces {
         ticks,
         values,
         lengths,
     } = Traces::of(channels.iter().map(|(_, text)| text));
     let mut summaries = vec![Summary::default(); lengths.len()];
-    let totals = kovrelna::report(&ticks, &values, &lengths, tolerance, &mut summaries)?;
+    let totals = kovrelna::report(&ticks, &values, &lengths, limits, &mut summaries)?;
     let row = |((channel, text), summary): (&(u32, Text), &Summary)| Row {
         channel: channel.to_string(),
         samples: summary.samples,
@@ -94,7 +94,7 @@ fn rows(channels: &[(u32, Text)], tolerance: Tolerance) -> Result<Vec<Row>, Refu
 }
 
 /// The sheet with columns of equal width.
-fn aligned(rows: &[Row], tolerance: Ratio) -> OsString {
+fn aligned(rows: &[Row], Limits { held, gap, .. }: Limits) -> OsString {
     let heading = ["channel", "samples", "kept", "error", "refusal"].map(String::from);
     let mut lines = vec![(heading, OsStr::new("file"))];
     for row in rows {
@@ -113,17 +113,21 @@ fn aligned(rows: &[Row], tolerance: Ratio) -> OsString {
         };
         lines.push((fields, last));
     }
-    let heading = format!("# kept by walk at {}\n", ratio(tolerance));
+    let heading = format!("# kept by walk at {}{}\n", ratio(held), and_gap(gap));
     joined(&[&heading, &table::aligned(&lines)])
 }
 
-/// The sheet for a spreadsheet. A ratio has two columns, as p/q would be taken for a date.
-fn csv(rows: &[Row], tolerance: Ratio) -> OsString {
-    let heading =
-        "channel,samples,kept,error p,error q,tolerance p,tolerance q,refusal,file,cause\n";
-    let mut sheet = OsString::from(heading);
+/// The sheet for a spreadsheet. A ratio has two columns, as p/q would be taken for a date. The gap limit
+/// has the last one, if it is given.
+fn csv(rows: &[Row], Limits { held, gap, .. }: Limits) -> OsString {
+    let heading = "channel,samples,kept,error p,error q,tolerance p,tolerance q,refusal,file,cause";
+    let (name, gap) = match gap {
+        Some(gap) => (",gap limit", format!(",{gap}")),
+        None => ("", String::new()),
+    };
+    let mut sheet = joined(&[&heading, &name, &"\n"]);
     for row in rows {
-        let numbers = [row.error.p, row.error.q, tolerance.p, tolerance.q];
+        let numbers = [row.error.p, row.error.q, held.p, held.q];
         let numbers = numbers.map(|number| number.to_string()).join(",");
         let refusal = row
             .refusal
@@ -131,7 +135,7 @@ fn csv(rows: &[Row], tolerance: Ratio) -> OsString {
         let (channel, samples, kept) = (&row.channel, row.samples, row.kept);
         let fields = format!("{channel},{samples},{kept},{numbers},{refusal},");
         let (file, cause) = (quoted(&row.file), quoted(&row.cause));
-        sheet.push(joined(&[&fields, &file, &",", &cause, &"\n"]));
+        sheet.push(joined(&[&fields, &file, &",", &cause, &gap, &"\n"]));
     }
     sheet
 }

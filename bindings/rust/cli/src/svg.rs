@@ -4,7 +4,8 @@
 use crate::budget::ratio;
 use crate::chart::{self, dots, path, Axis, Mark, Panel};
 use crate::chart::{BAND, KEPT, LEFT, LINE, RIGHT, SAMPLE};
-use crate::curve::{Curve, Point, Sample};
+use crate::curve::{parts, Curve, Point, Sample, Stretch};
+use crate::holes::Hole;
 use kovrelna::Ratio;
 
 /// What is drawn.
@@ -14,19 +15,27 @@ pub struct Picture {
     /// The kept samples, at least one.
     pub kept: Vec<Sample>,
     pub tolerance: Ratio,
+    /// The holes of the trace.
+    pub holes: Vec<Hole>,
     /// The first and the last tick to be drawn; both are from the first kept sample to the last.
     pub stretch: (u32, u32),
 }
 
 impl Picture {
     /// All of it.
-    pub fn whole(samples: Vec<Sample>, kept: Vec<Sample>, tolerance: Ratio) -> Picture {
+    pub fn whole(
+        samples: Vec<Sample>,
+        kept: Vec<Sample>,
+        tolerance: Ratio,
+        holes: Vec<Hole>,
+    ) -> Picture {
         let tick = |sample: Option<&Sample>| sample.map_or(0, |&(tick, _)| tick);
         Picture {
             stretch: (tick(kept.first()), tick(kept.last())),
             samples,
             kept,
             tolerance,
+            holes,
         }
     }
 }
@@ -36,8 +45,9 @@ const TRACE: (f64, f64) = (60.0, 420.0);
 const DISTANCES: (f64, f64) = (440.0, 560.0);
 /// Up to so many samples a line joins them.
 const JOINED: usize = 600;
-/// How the band of one sample alone is drawn.
+/// How the band of one sample is drawn, alone and beside other parts of the band.
 const ALONE: &str = "stroke=\"#54aeff\" stroke-opacity=\".5\" stroke-width=\"12\" ";
+const BESIDE: &str = "stroke=\"#54aeff\" stroke-opacity=\".5\" stroke-width=\"3\" ";
 
 /// What the marks mean; without samples, from the second on.
 const KEY: [(Mark, &str); 4] = [
@@ -98,6 +108,7 @@ fn short(Ratio { p, q }: Ratio) -> String {
 pub fn draw(title: &str, picture: &Picture) -> String {
     let tolerance = picture.tolerance.p as f64 / picture.tolerance.q as f64;
     let stretch = (f64::from(picture.stretch.0), f64::from(picture.stretch.1));
+    let parts = parts(stretch, &picture.holes);
     let (samples, kept) = (Curve::of(&picture.samples), Curve::of(&picture.kept));
     let with_samples = !picture.samples.is_empty();
     let (_, bottom) = if with_samples { DISTANCES } else { TRACE };
@@ -106,52 +117,67 @@ pub fn draw(title: &str, picture: &Picture) -> String {
     let x = Axis::around(stretch, 0.01, (LEFT, RIGHT));
     let panel = trace_panel(&x, kept.cut(stretch).range(), tolerance);
     panel.scales(&mut svg);
-    curves(&panel, &mut svg, &samples, &kept, tolerance, stretch);
+    let lines = [stretch];
+    curves(&panel, &mut svg, &samples, &kept, tolerance, &parts, &lines);
     if with_samples {
         let panel = distances_panel(&x, picture.tolerance, tolerance);
         panel.scales(&mut svg);
         // The lines are at 0.
         let (samples, kept) = (samples.above(&kept), kept.above(&kept));
-        curves(&panel, &mut svg, &samples, &kept, tolerance, stretch);
+        curves(&panel, &mut svg, &samples, &kept, tolerance, &parts, &parts);
     }
     chart::end(&mut svg, &x, bottom, "tick", |tick| tick.to_string());
     svg
 }
 
-/// The band, the samples, the lines and the kept samples, from one tick to another.
+/// The band, the samples and the kept samples in some parts, and the lines in others.
 fn curves(
     panel: &Panel,
     svg: &mut String,
     samples: &Curve,
     kept: &Curve,
     tolerance: f64,
-    stretch: (f64, f64),
+    parts: &[Stretch],
+    lines: &[Stretch],
 ) {
     let places = |points: &[Point], side: f64| -> Vec<String> {
         let place = |&(tick, height): &Point| panel.place((tick, height + side));
         points.iter().map(place).collect()
     };
-    let lines = kept.cut(stretch).points;
-    let (above, mut below) = (places(&lines, tolerance), places(&lines, -tolerance));
-    below.reverse();
-    // The band of one sample has no width: it is drawn as a stroke.
-    let stroke = if lines.len() == 1 { ALONE } else { "" };
-    let around = [above, below].concat().join("L");
-    path(svg, "band", stroke, &format!("M{around}Z"));
+    for Curve { points } in kept.cuts(parts) {
+        let (above, mut below) = (places(&points, tolerance), places(&points, -tolerance));
+        below.reverse();
+        // The band of one sample has no width: it is drawn as a stroke.
+        let stroke = match (points.len(), parts.len()) {
+            (1, 1) => ALONE,
+            (1, _) => BESIDE,
+            _ => "",
+        };
+        let around = [above, below].concat().join("L");
+        path(svg, "band", stroke, &format!("M{around}Z"));
+    }
     let line = |points: &[Point]| format!("M{}", places(points, 0.0).join("L"));
     if !samples.points.is_empty() {
-        let joined = samples.cut(stretch).points;
-        if (2..=JOINED).contains(&joined.len()) {
-            path(svg, "trace", "fill=\"none\" ", &line(&joined));
+        let joined = samples.cuts(parts);
+        let count: usize = joined.iter().map(|curve| curve.points.len()).sum();
+        for Curve { points } in joined {
+            if points.len() > 1 && count <= JOINED {
+                path(svg, "trace", "fill=\"none\" ", &line(&points));
+            }
         }
     }
-    let drawn = samples.between(stretch);
-    dots(svg, "sample", 3.4, &places(drawn, 0.0));
+    let between = |curve: &Curve| -> Vec<Point> {
+        let points = parts.iter().flat_map(|&part| curve.between(part));
+        points.copied().collect()
+    };
+    dots(svg, "sample", 3.4, &places(&between(samples), 0.0));
     let joint = "fill=\"none\" stroke-width=\"1.8\" stroke-linejoin=\"round\" ";
-    path(svg, "line", joint, &line(&lines));
-    let drawn = kept.between(stretch);
+    for Curve { points } in kept.cuts(lines) {
+        path(svg, "line", joint, &line(&points));
+    }
+    let drawn = between(kept);
     let width = if drawn.len() > JOINED { 3.4 } else { 6.0 };
-    dots(svg, "kept", width, &places(drawn, 0.0));
+    dots(svg, "kept", width, &places(&drawn, 0.0));
 }
 
 #[cfg(test)]
@@ -170,9 +196,13 @@ mod tests {
                 1_048_575,
             ),
         ] {
-            for known in [true, false] {
+            for (known, holes) in [
+                (true, vec![]),
+                (false, vec![]),
+                (true, vec![(u32::MAX - 1, u32::MAX)]),
+            ] {
                 let drawn = if known { samples.clone() } else { Vec::new() };
-                let picture = Picture::whole(drawn, samples.clone(), Ratio { p, q });
+                let picture = Picture::whole(drawn, samples.clone(), Ratio { p, q }, holes);
                 let svg = draw("a<b>&\"c\"", &picture);
                 well_formed(&svg);
                 assert_eq!(svg.contains(ALONE), samples.len() == 1);

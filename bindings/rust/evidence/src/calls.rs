@@ -40,7 +40,7 @@ pub const CALLS: [Call; 13] = [
 ];
 
 /// How many rows the table has.
-pub const ROWS: usize = 14;
+pub const ROWS: usize = 16;
 
 /// How often a call was compared: first with an answer, then with each row of the table.
 pub type Counts = [u64; ROWS + 1];
@@ -69,15 +69,15 @@ impl Call {
     pub fn rows(self) -> &'static [u32] {
         match self {
             Call::Hold => &[4],
-            Call::Judge => &[1, 2, 3, 4, 6],
-            Call::Walk | Call::Gallop | Call::Minimum => &[1, 2, 3, 4, 10],
-            Call::Least => &[1, 2, 3, 5, 10],
+            Call::Judge => &[1, 2, 3, 4, 15, 6],
+            Call::Walk | Call::Gallop | Call::Minimum => &[1, 2, 3, 4, 15, 10],
+            Call::Least => &[1, 2, 3, 15, 5, 16, 10],
             Call::Expand => &[1, 10],
             Call::ExpandWith => &[1, 12, 10],
-            Call::Write => &[1, 2, 3, 4, 6, 7, 10],
+            Call::Write => &[1, 2, 3, 4, 15, 6, 7, 10],
             Call::Read => &[8, 10],
             Call::Same => &[8, 9],
-            Call::Report => &[11, 4, 10],
+            Call::Report => &[11, 4, 15, 10],
             Call::Pedestals => &[14, 11, 4, 1, 2, 3, 13, 10],
         }
     }

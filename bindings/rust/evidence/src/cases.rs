@@ -15,12 +15,15 @@ use crate::reductions::{
     any_tolerance, least_list, lists, shortest_lists, size_bounds, tolerances,
 };
 use kovrelna::Tolerance::{self, Counts};
+use kovrelna::GAP_MAX;
 use kovrelna_reference::generate::{
-    any_trace, channels, content, crate_of, damage_crate, damage_trace, damaged, damaged_table,
-    just_below, kept_list, range_table, runs, Random, Runs, Trace,
+    any_limited, any_list, channels, content, crate_of, damage_crate, damage_trace, damaged,
+    damaged_table, gap_limit, just_below, range_table, runs, Random, Runs, Trace,
 };
 use kovrelna_reference::record::{encode, end, first, long, short, tolerance, Content};
-use kovrelna_reference::{held, link_error, list_error, trace_refusal, Fraction, METHODS, TRIED};
+use kovrelna_reference::{
+    beside_holes, held, link_error, list_error, list_obeys, trace_refusal, Fraction, METHODS, TRIED,
+};
 
 /// A sort of case: its name, how often it is drawn, and one case of it.
 pub struct Family {
@@ -86,7 +89,8 @@ pub const FAMILIES: [Family; 20] = [
         weight: 100,
         case: |random| {
             let samples = random.within(1, 40) as usize;
-            round_trip(&any_trace(samples, random), random);
+            let (trace, gap) = any_limited(samples, random);
+            round_trip(&trace, gap, random);
         },
     },
     Family {
@@ -168,10 +172,27 @@ fn error(Trace { ticks, values }: &Trace, link: &[u16]) -> Fraction {
     link_error(ticks, values, link[0].into(), link[1].into())
 }
 
+/// The longest step that a link of more than one step crosses.
+fn longest_crossed(ticks: &[u32], list: &[u16]) -> Option<u32> {
+    let links = list.windows(2).filter(|link| link[1] - link[0] > 1);
+    let steps = links.flat_map(|link| {
+        let ticks = &ticks[usize::from(link[0])..=usize::from(link[1])];
+        ticks.windows(2).map(|step| step[1] - step[0])
+    });
+    steps.max()
+}
+
 /// Judges the list at an arbitrary tolerance, and for one of its links and the worst at the error
-/// itself, one unit of the link's own fraction below it, and just below it. Counts the answers yes
-/// and no.
-pub fn judge_list(trace: &Trace, list: &[u16], random: &mut Random, answers: &mut [usize; 2]) {
+/// itself, one unit of the link's own fraction below it, and just below it, all under the gap limit.
+/// At its error it passes without a gap limit, under its longest step that is crossed, and under the gap
+/// limit if it obeys that; one tick below that step it does not. Counts the answers yes and no.
+pub fn judge_list(
+    trace: &Trace,
+    gap: u32,
+    list: &[u16],
+    random: &mut Random,
+    answers: &mut [usize; 2],
+) {
     let Trace { ticks, values } = trace;
     let mut tolerances = vec![any_tolerance(random)];
     let mut links: Vec<&[u16]> = list.windows(2).collect();
@@ -180,8 +201,15 @@ pub fn judge_list(trace: &Trace, list: &[u16], random: &mut Random, answers: &mu
         (a.p * b.q).cmp(&(b.p * a.q))
     });
     if let Some(&worst) = links.last() {
-        let list_error = error(trace, worst);
-        assert_eq!(judge(ticks, values, list, exactly(list_error)), Ok(None));
+        let at_error = exactly(error(trace, worst));
+        let passes = |gap| judge(ticks, values, list, at_error.with_gap(gap)) == Ok(None);
+        assert!(passes(GAP_MAX), "{list:?} {trace:?}");
+        let obeys = list_obeys(ticks, list, Some(gap));
+        assert_eq!(passes(gap), obeys, "{gap} {list:?} {trace:?}");
+        if let Some(step) = longest_crossed(ticks, list) {
+            assert!(passes(step), "{step} {list:?} {trace:?}");
+            assert!(!passes(step - 1), "{step} {list:?} {trace:?}");
+        }
         for link in [worst, random.choose(&links)] {
             let Fraction { p, q } = error(trace, link);
             tolerances.push(exactly(Fraction { p, q }));
@@ -196,7 +224,7 @@ pub fn judge_list(trace: &Trace, list: &[u16], random: &mut Random, answers: &mu
         }
     }
     for tolerance in tolerances {
-        match judge(ticks, values, list, tolerance) {
+        match judge(ticks, values, list, tolerance.with_gap(gap)) {
             Ok(None) => answers[0] += 1,
             Ok(Some(_)) => answers[1] += 1,
             Err(row) => panic!("refused {row:?}"),
@@ -206,44 +234,51 @@ pub fn judge_list(trace: &Trace, list: &[u16], random: &mut Random, answers: &mu
 
 fn judged(random: &mut Random) {
     let samples = random.within(1, 40) as usize;
-    let trace = any_trace(samples, random);
-    let list = kept_list(samples, random);
-    judge_list(&trace, &list, random, &mut [0; 2]);
+    let (trace, gap) = any_limited(samples, random);
+    let list = any_list(&trace.ticks, gap, random);
+    judge_list(&trace, gap, &list, random, &mut [0; 2]);
 }
 
 fn reduced(most: i64, random: &mut Random) {
     let samples = random.within(1, most) as usize;
-    let trace = any_trace(samples, random);
+    let (trace, gap) = any_limited(samples, random);
     for tolerance in tolerances(&trace, random) {
+        let limits = tolerance.with_gap(gap);
         let room = samples + random.choose(&[0, 0, 1, 7]);
-        size_bounds(&trace, tolerance, &lists(&trace, tolerance, room));
+        size_bounds(&trace, limits, &lists(&trace, limits, room));
     }
 }
 
 fn longest(random: &mut Random) {
     let any = random.within(1_000, 4_096) as usize;
     let samples = random.choose(&[any, 4_095, 4_096]);
-    let trace = any_trace(samples, random);
+    let (trace, gap) = any_limited(samples, random);
     let tolerances = tolerances(&trace, random);
-    lists(&trace, random.choose(&tolerances), samples);
+    lists(&trace, random.choose(&tolerances).with_gap(gap), samples);
 }
 
 /// A trace so short that every kept list can be tried.
 fn shortest(random: &mut Random) {
     let samples = random.within(3, TRIED as i64) as usize;
-    let trace = any_trace(samples, random);
+    let (trace, gap) = any_limited(samples, random);
     for tolerance in tolerances(&trace, random) {
-        let [.., minimum] = lists(&trace, tolerance, samples);
-        shortest_lists(&trace, tolerance, &minimum);
+        let limits = tolerance.with_gap(gap);
+        let [.., minimum] = lists(&trace, limits, samples);
+        shortest_lists(&trace, limits, &minimum);
     }
 }
 
 fn least_error(most: i64, random: &mut Random) {
     let samples = random.within(1, most) as usize;
-    let trace = any_trace(samples, random);
+    let (trace, gap) = any_limited(samples, random);
     let any = random.within(2, samples as i64 + 2) as u64;
-    let allowance = random.choose(&[2, 3, any, any, 4_096]);
-    least_list(&trace, allowance, samples + random.choose(&[0, 0, 1, 7]));
+    let fewest = beside_holes(&trace.ticks, Some(gap)).len().max(2) as u64;
+    let allowance = random.choose(&[2, 3, any, any, fewest, fewest + 1, 4_096]);
+    let room = samples + random.choose(&[0, 0, 1, 7]);
+    least_list(&trace, gap, allowance, room);
+    if fewest > 2 {
+        assert_eq!(least_list(&trace, gap, fewest - 1, room), None);
+    }
 }
 
 /// Range codes, sometimes none or too many, and the entries of an output for them, sometimes too few.
@@ -282,10 +317,11 @@ pub struct Written {
     pub long_steps: usize,
 }
 
-/// Writes a list of the trace at an arbitrary tolerance, at its error and just below that; reads the
-/// record back, and writes what was read.
-pub fn round_trip(Trace { ticks, values }: &Trace, random: &mut Random) -> Written {
-    let list = kept_list(ticks.len(), random);
+/// Writes a list of the trace at an arbitrary tolerance, at its error and just below that, all under the gap
+/// limit; without a gap limit the record is the same. Reads it back, and writes what was read, in which no
+/// link has more than one step.
+pub fn round_trip(Trace { ticks, values }: &Trace, gap: u32, random: &mut Random) -> Written {
+    let list = any_list(ticks, gap, random);
     let error = list_error(ticks, values, &list);
     let mut tolerances = vec![any_tolerance(random), exactly(error)];
     if error.p > 0 {
@@ -295,14 +331,19 @@ pub fn round_trip(Trace { ticks, values }: &Trace, random: &mut Random) -> Writt
     for tolerance in tolerances {
         let place = random.choose(&[0, 0, 1, 30]);
         let size = place + 6 * list.len() + 13 + random.below(3) as usize;
-        let record = match write(ticks, values, &list, tolerance, size, place) {
+        let limits = tolerance.with_gap(gap);
+        let record = match write(ticks, values, &list, limits, size, place) {
             Ok(record) => record,
-            Err((7, _)) => {
+            Err((7, link)) => {
+                let judged = judge(ticks, values, &list, limits);
+                assert_eq!(judged, Ok(Some(link as usize)));
                 seen.refused += 1;
                 continue;
             }
             Err(row) => panic!("refused {row:?}"),
         };
+        let unlimited = write(ticks, values, &list, tolerance, size, place);
+        assert_eq!(unlimited.as_ref(), Ok(&record));
         // A long step has three bytes more than a short one.
         let long = (record.len() - 16) / 3 - list.len();
         seen.records += 1;
@@ -314,8 +355,8 @@ pub fn round_trip(Trace { ticks, values }: &Trace, random: &mut Random) -> Writt
         assert_eq!(Some(content.tolerance), held(form(tolerance)));
         let (ticks, values) = content.trace();
         let all: Vec<u16> = (0..list.len() as u16).collect();
-        let tolerance = exactly(content.tolerance);
-        let again = write(&ticks, &values, &all, tolerance, record.len(), 0);
+        let limits = exactly(content.tolerance).with_gap(1);
+        let again = write(&ticks, &values, &all, limits, record.len(), 0);
         assert_eq!(again, Ok(record));
     }
     seen
@@ -402,40 +443,42 @@ pub fn comparison(random: &mut Random) {
     same(&record, &encode(&other)).unwrap();
 }
 
-/// A trace, a list, a tolerance and an output with none, one or two faults, for every call that takes
-/// a trace.
+/// A trace, a list, a tolerance, a gap limit and an output with none, one or two faults, for every call
+/// that takes a trace.
 pub fn random_faults(random: &mut Random) {
     let samples = random.within(1, 12) as usize;
-    let Trace { mut ticks, values } = any_trace(samples, random);
-    let mut list = kept_list(samples, random);
+    let (Trace { mut ticks, values }, mut gap) = any_limited(samples, random);
+    let mut list = any_list(&ticks, gap, random);
     let mut tolerance = ratio(random.below(10), 1);
     let at = random.below(samples as u64) as usize;
     let mut room = samples + random.below(3) as usize;
     for _ in 0..random.below(3) {
-        match random.below(7) {
+        match random.below(8) {
             0 => drop(ticks.pop()),
             1 => ticks.push(u32::MAX),
             2 => ticks[..=at].rotate_right(1),
             3 => ticks[at..].iter_mut().for_each(|tick| *tick |= 1 << 20),
             4 => list = damaged(&list, samples, random),
             5 => room = at,
+            6 => gap = no_gap(random),
             _ => tolerance = no_tolerance(random),
         }
         if ticks.len() != samples {
             break;
         }
     }
-    let _ = judge(&ticks, &values, &list, tolerance);
+    let limits = tolerance.with_gap(gap);
+    let _ = judge(&ticks, &values, &list, limits);
     for method in METHODS {
-        let _ = reduce(method, &ticks, &values, tolerance, room);
+        let _ = reduce(method, &ticks, &values, limits, room);
     }
-    let _ = write(&ticks, &values, &list, tolerance, 6 * room + 13, at);
+    let _ = write(&ticks, &values, &list, limits, 6 * room + 13, at);
     let allowance = random.choose(&[2, 3, 4, 1, 0, 4_097]);
-    let _ = least(&ticks, &values, allowance, room);
+    let _ = least(&ticks, &values, gap, allowance, room);
 }
 
 /// A crate of so many channels at most, of traces of up to so many samples, with none, one or two faults
-/// that the call refuses: in its lengths, its lists, the tolerance or the output.
+/// that the call refuses: in its lengths, its lists, the tolerance, the gap limit or the output.
 pub fn crates(most: i64, samples: usize, random: &mut Random) {
     let any = random.within(1, most) as usize;
     let count = random.choose(&[1, 2, 3, any, any, most as usize]);
@@ -448,19 +491,26 @@ pub fn crates(most: i64, samples: usize, random: &mut Random) {
         None => vec![any_tolerance(random)],
     };
     let mut tolerance = random.choose(&tolerances);
+    let mut gap = gap_limit(&channels.ticks, random);
     for _ in 0..random.below(6).saturating_sub(3) {
-        match random.below(12) {
+        match random.below(14) {
             0..=7 => damage_crate(&mut channels, random),
             8 | 9 => tolerance = no_tolerance(random),
+            10 | 11 => gap = no_gap(random),
             _ => room = random.below(count as u64) as usize,
         }
     }
-    let _ = report(&channels, tolerance, room);
+    let _ = report(&channels, tolerance.with_gap(gap), room);
 }
 
 /// A tolerance that is not allowed.
 fn no_tolerance(random: &mut Random) -> Tolerance {
     random.choose(&[ratio(1, 0), noise(0.0, -1.0)])
+}
+
+/// A gap limit that is not allowed.
+fn no_gap(random: &mut Random) -> u32 {
+    random.choose(&[0, GAP_MAX + 1, 1 << 31, u32::MAX])
 }
 
 /// Two pedestal runs of so many channels at most, of traces of up to so many samples. Half of them may

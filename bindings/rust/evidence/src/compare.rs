@@ -3,7 +3,7 @@
 //! difference panics, with the input. Each function returns the answer that both gave.
 
 use crate::calls::Call;
-use kovrelna::{Ratio, Refusal, Run, Summary, Tolerance, Totals, Verdict};
+use kovrelna::{Limits, Ratio, Refusal, Run, Summary, Tolerance, Totals, Verdict, GAP_MAX};
 use kovrelna_reference::generate::Channels;
 use kovrelna_reference::pedestals::{self, Pedestals};
 use kovrelna_reference::record::{self, Content};
@@ -32,6 +32,19 @@ pub fn form(tolerance: Tolerance) -> Form {
         Tolerance::Ratio { p, q } => Form::Ratio(p, q),
         Tolerance::Counts(counts) => Form::Counts(counts),
         Tolerance::Noise { noise, multiple } => Form::Noise(noise, multiple),
+    }
+}
+
+/// The reference's word for a gap limit: the largest is none.
+pub fn gap(gap: u32) -> Option<u32> {
+    (gap != GAP_MAX).then_some(gap)
+}
+
+/// The reference's word for limits.
+pub fn asked(limits: Limits) -> kovrelna_reference::Limits<Form> {
+    kovrelna_reference::Limits {
+        tolerance: form(limits.tolerance),
+        gap: gap(limits.gap),
     }
 }
 
@@ -112,22 +125,23 @@ pub fn judge(
     ticks: &[u32],
     values: &[i16],
     list: &[u16],
-    tolerance: Tolerance,
+    limits: impl Into<Limits>,
 ) -> Result<Option<usize>, Row> {
-    let expected = kovrelna_reference::judge(ticks, values, list, form(tolerance));
+    let limits = limits.into();
+    let expected = kovrelna_reference::judge(ticks, values, list, asked(limits));
     Call::Judge.count(&expected);
     for guards in GUARDS {
         let ticks = Guarded::new(ticks, guards.0);
         let values = Guarded::new(values, guards.1);
         let list = Guarded::new(list, guards.2);
-        let answer = match kovrelna::judge(ticks.slice(), values.slice(), list.slice(), tolerance) {
+        let answer = match kovrelna::judge(ticks.slice(), values.slice(), list.slice(), limits) {
             Ok(Verdict::Within) => Ok(None),
             Ok(Verdict::Outside { link }) => Ok(Some(link)),
             Err(refusal) => Err(row(refusal)),
         };
         let input = || {
             let lists = (ticks.slice(), values.slice(), list.slice());
-            format!("judge ticks, values, list: {lists:?}\n{tolerance:?}")
+            format!("judge ticks, values, list: {lists:?}\n{limits:?}")
         };
         assert_eq!(answer, expected, "{}", input());
         assert!(
@@ -146,10 +160,11 @@ pub fn reduce(
     method: Method,
     ticks: &[u32],
     values: &[i16],
-    tolerance: Tolerance,
+    limits: impl Into<Limits>,
     room: usize,
 ) -> Result<Reduced, Row> {
-    let expected = kovrelna_reference::reduce(method, ticks, values, form(tolerance), room);
+    let limits = limits.into();
+    let expected = kovrelna_reference::reduce(method, ticks, values, asked(limits), room);
     call(method).count(&expected);
     for guards in GUARDS {
         let ticks = Guarded::new(ticks, guards.0);
@@ -157,15 +172,14 @@ pub fn reduce(
         let mut out = output(room, guards.2);
         let (t, v) = (ticks.slice(), values.slice());
         let answer = match method {
-            Method::Walk => kovrelna::walk(t, v, tolerance, out.slice_mut()).map(|kept| (kept, 0)),
-            Method::Gallop => kovrelna::gallop(t, v, tolerance, out.slice_mut())
+            Method::Walk => kovrelna::walk(t, v, limits, out.slice_mut()).map(|kept| (kept, 0)),
+            Method::Gallop => kovrelna::gallop(t, v, limits, out.slice_mut())
                 .map(|galloped| (galloped.kept, galloped.probes)),
             Method::Minimum => {
-                kovrelna::minimum(t, v, tolerance, out.slice_mut()).map(|kept| (kept, 0))
+                kovrelna::minimum(t, v, limits, out.slice_mut()).map(|kept| (kept, 0))
             }
         };
-        let input =
-            || format!("{method:?} of ticks, values: {t:?} {v:?}\n{tolerance:?} room {room}");
+        let input = || format!("{method:?} of ticks, values: {t:?} {v:?}\n{limits:?} room {room}");
         match &expected {
             Ok(Reduced { list, probes }) => {
                 assert_eq!(answer, Ok((list.len(), *probes)), "{}", input());
@@ -192,18 +206,26 @@ fn output(room: usize, guard: u16) -> Guarded<u16> {
 /// Calls `least` with an output of `room` entries between two kinds of guard elements, compares with the
 /// reference, sees that the output begins with the list and that no other element changed, and returns
 /// the error and the list, or the refusal's row.
-pub fn least(ticks: &[u32], values: &[i16], allowance: u64, room: usize) -> Result<Least, Row> {
-    let expected = kovrelna_reference::least(ticks, values, allowance, room);
+pub fn least(
+    ticks: &[u32],
+    values: &[i16],
+    gap: u32,
+    allowance: u64,
+    room: usize,
+) -> Result<Least, Row> {
+    let expected = kovrelna_reference::least(ticks, values, self::gap(gap), allowance, room);
     Call::Least.count(&expected);
     for guards in GUARDS {
         let ticks = Guarded::new(ticks, guards.0);
         let values = Guarded::new(values, guards.1);
         let mut out = output(room, guards.2);
         let (t, v) = (ticks.slice(), values.slice());
-        let answer = kovrelna::least(t, v, allowance, out.slice_mut())
+        let answer = kovrelna::least(t, v, gap, allowance, out.slice_mut())
             .map(|least| (least.kept, least.error.p, least.error.q))
             .map_err(row);
-        let input = || format!("least for {allowance} of ticks, values: {t:?} {v:?} room {room}");
+        let input = || {
+            format!("least for {allowance} under {gap} of ticks, values: {t:?} {v:?} room {room}")
+        };
         let known = match &expected {
             Ok(Least { list, error }) => {
                 out.expect(0, list);
@@ -281,11 +303,12 @@ pub fn write(
     ticks: &[u32],
     values: &[i16],
     list: &[u16],
-    tolerance: Tolerance,
+    limits: impl Into<Limits>,
     size: usize,
     place: usize,
 ) -> Result<Vec<u8>, Row> {
-    let expected = record::write(ticks, values, list, form(tolerance), size, place);
+    let limits = limits.into();
+    let expected = record::write(ticks, values, list, asked(limits), size, place);
     Call::Write.count(&expected);
     for guards in GUARDS {
         let ticks = Guarded::new(ticks, guards.0);
@@ -294,11 +317,9 @@ pub fn write(
         let before: Vec<u8> = (0..size).map(|k| k as u8 ^ 0xa5 ^ guards.3).collect();
         let mut buffer = Guarded::new(&before, guards.3);
         let (t, v, l) = (ticks.slice(), values.slice(), list.slice());
-        let answer = kovrelna::write(t, v, l, tolerance, buffer.slice_mut(), place).map_err(row);
+        let answer = kovrelna::write(t, v, l, limits, buffer.slice_mut(), place).map_err(row);
         let input = || {
-            format!(
-                "write ticks, values, list: {t:?} {v:?} {l:?}\n{tolerance:?} at {place} of {size}"
-            )
+            format!("write ticks, values, list: {t:?} {v:?} {l:?}\n{limits:?} at {place} of {size}")
         };
         let written = expected.as_ref().map(Vec::len).map_err(|row| *row);
         assert_eq!(answer, written, "{}", input());
@@ -413,13 +434,14 @@ impl GuardedCrate {
 /// Calls `report` with an output of `room` entries between two kinds of guard elements, compares with the
 /// reference, sees that the output begins with the summaries and that no other element changed, and
 /// returns the report or the refusal's row.
-pub fn report(channels: &Channels, tolerance: Tolerance, room: usize) -> Result<Report, Row> {
+pub fn report(channels: &Channels, limits: impl Into<Limits>, room: usize) -> Result<Report, Row> {
+    let limits = limits.into();
     let Channels {
         ticks,
         values,
         lengths,
     } = channels;
-    let expected = report::report(ticks, values, lengths, form(tolerance), room);
+    let expected = report::report(ticks, values, lengths, asked(limits), room);
     Call::Report.count(&expected);
     for guards in GUARDS {
         let lent = GuardedCrate::new(channels, guards);
@@ -437,8 +459,8 @@ pub fn report(channels: &Channels, tolerance: Tolerance, room: usize) -> Result<
             values,
             lengths,
         } = lent.run();
-        let answer = kovrelna::report(ticks, values, lengths, tolerance, out.slice_mut());
-        let input = || format!("report on {:?}\n{tolerance:?} room {room}", lent.run());
+        let answer = kovrelna::report(ticks, values, lengths, limits, out.slice_mut());
+        let input = || format!("report on {:?}\n{limits:?} room {room}", lent.run());
         let totals = match &expected {
             Ok(report) => {
                 let summaries: Vec<Summary> = report.channels.iter().map(summary).collect();

@@ -1,12 +1,13 @@
 //! What holds of the lists of walk, gallop, minimum and least beyond their definitions, and tolerances
 //! at which they change. A check that fails panics, with its input.
 
-use crate::compare::{exactly, form, judge, least, noise, ratio, reduce};
-use kovrelna::Tolerance;
+use crate::compare::{asked, exactly, judge, least, noise, ratio, reduce};
+use kovrelna::{Limits, Tolerance};
 use kovrelna_reference::generate::{just_below, Random, Trace};
 use kovrelna_reference::Method::{self, Gallop, Minimum, Walk};
 use kovrelna_reference::{
-    fewest, held, kept_lists, link_error, link_valid, list_error, Least, Reduced,
+    beside_holes, fewest, kept_lists, link_error, link_valid, list_error, list_obeys, Least,
+    Reduced, TOLERANCE,
 };
 
 /// The methods whose stops are maximal.
@@ -20,14 +21,14 @@ pub fn stop_probes(r: usize) -> usize {
 /// What holds of gallop's probes, which the reference counts one by one: they are the sum over the
 /// stops, and within both bounds for so many stops, of which the second is reached exactly where no
 /// stop advances by more than 2 samples.
-fn probes_of_stops(trace: &Trace, tolerance: Tolerance, Reduced { list, probes }: &Reduced) {
+fn probes_of_stops(trace: &Trace, limits: Limits, Reduced { list, probes }: &Reduced) {
     let advances: Vec<usize> = list
         .windows(2)
         .map(|link| usize::from(link[1] - link[0]))
         .collect();
     let (stops, last) = (advances.len(), trace.ticks.len() - 1);
     let total: usize = advances.iter().copied().map(stop_probes).sum();
-    let input = || format!("{list:?}\n{trace:?}\n{tolerance:?}");
+    let input = || format!("{list:?}\n{trace:?}\n{limits:?}");
     assert_eq!(*probes, total, "{}", input());
     assert!(
         stops == 0 || total <= stops * stop_probes(last),
@@ -41,50 +42,67 @@ fn probes_of_stops(trace: &Trace, tolerance: Tolerance, Reduced { list, probes }
 
 /// Calls a greedy method and sees what holds of every greedy list: each link is valid; from the same
 /// start, the link to the sample after each stop is invalid; gallop's stops take their probes.
-pub fn greedy(method: Method, trace: &Trace, tolerance: Tolerance, room: usize) -> Reduced {
+pub fn greedy(method: Method, trace: &Trace, limits: impl Into<Limits>, room: usize) -> Reduced {
+    let limits = limits.into();
     let Trace { ticks, values } = trace;
-    let reduced = reduce(method, ticks, values, tolerance, room).unwrap();
-    assert_eq!(judge(ticks, values, &reduced.list, tolerance), Ok(None));
-    let held = held(form(tolerance)).unwrap();
+    let reduced = reduce(method, ticks, values, limits, room).unwrap();
+    assert_eq!(judge(ticks, values, &reduced.list, limits), Ok(None));
+    let held = asked(limits).held().unwrap();
     for link in reduced.list.windows(2) {
         let (i, j) = (usize::from(link[0]), usize::from(link[1]));
         assert!(
             j == ticks.len() - 1 || !link_valid(ticks, values, i, j + 1, held),
-            "{method:?} stops too early at {j}\n{trace:?}\n{tolerance:?}"
+            "{method:?} stops too early at {j}\n{trace:?}\n{limits:?}"
         );
     }
     if method == Gallop {
-        probes_of_stops(trace, tolerance, &reduced);
+        probes_of_stops(trace, limits, &reduced);
     }
     reduced
 }
 
 /// Calls every method and sees what holds of each list and of all: the links of minimum's list are
-/// valid, and no greedy list is shorter. Returns the lists of walk, gallop and minimum.
-pub fn lists(trace: &Trace, tolerance: Tolerance, room: usize) -> [Vec<u16>; 3] {
+/// valid, and no greedy list is shorter; each has the samples beside each hole. Returns the lists of
+/// walk, gallop and minimum.
+pub fn lists(trace: &Trace, limits: impl Into<Limits>, room: usize) -> [Vec<u16>; 3] {
+    let limits = limits.into();
     let Trace { ticks, values } = trace;
-    let [walk, gallop] = GREEDY.map(|method| greedy(method, trace, tolerance, room).list);
-    let minimum = reduce(Minimum, ticks, values, tolerance, room)
-        .unwrap()
-        .list;
-    assert_eq!(judge(ticks, values, &minimum, tolerance), Ok(None));
+    let [walk, gallop] = GREEDY.map(|method| greedy(method, trace, limits, room).list);
+    let minimum = reduce(Minimum, ticks, values, limits, room).unwrap().list;
+    assert_eq!(judge(ticks, values, &minimum, limits), Ok(None));
     assert!(
         minimum.len() <= walk.len() && minimum.len() <= gallop.len(),
-        "{minimum:?} is longer than {walk:?} or {gallop:?}\n{trace:?}\n{tolerance:?}"
+        "{minimum:?} is longer than {walk:?} or {gallop:?}\n{trace:?}\n{limits:?}"
     );
-    [walk, gallop, minimum]
+    let lists = [walk, gallop, minimum];
+    let beside = beside_holes(ticks, Some(limits.gap));
+    assert!(
+        lists.iter().all(|list| has_all(list, &beside)),
+        "{lists:?} not with {beside:?}\n{trace:?}\n{limits:?}"
+    );
+    lists
 }
 
-/// No kept list within the tolerance is shorter than minimum's, and none within half the tolerance
-/// is shorter than a greedy one.
-pub fn size_bounds(trace: &Trace, tolerance: Tolerance, [walk, gallop, minimum]: &[Vec<u16>; 3]) {
-    let tolerance = held(form(tolerance)).unwrap();
-    let fewest = |fraction| fewest(&trace.ticks, &trace.values, fraction);
-    let (whole, half) = (fewest(tolerance), fewest(tolerance.half()));
-    assert_eq!(minimum.len(), whole, "{trace:?}\n{tolerance:?}");
+/// Whether a list has all of these samples; both rise.
+fn has_all(list: &[u16], samples: &[u16]) -> bool {
+    let mut list = list.iter();
+    samples.iter().all(|sample| list.any(|kept| kept == sample))
+}
+
+/// No kept list within the limits is shorter than minimum's, and none within half the tolerance under
+/// the same gap limit is shorter than a greedy one.
+pub fn size_bounds(
+    trace: &Trace,
+    limits: impl Into<Limits>,
+    [walk, gallop, minimum]: &[Vec<u16>; 3],
+) {
+    let limits = asked(limits.into()).held().unwrap();
+    let fewest = |limits| fewest(&trace.ticks, &trace.values, limits);
+    let (whole, half) = (fewest(limits), fewest(limits.half()));
+    assert_eq!(minimum.len(), whole, "{trace:?}\n{limits:?}");
     assert!(
         walk.len() <= half && gallop.len() <= half,
-        "{walk:?} or {gallop:?}, {half} at half the tolerance\n{trace:?}\n{tolerance:?}"
+        "{walk:?} or {gallop:?}, {half} at half the tolerance\n{trace:?}\n{limits:?}"
     );
 }
 
@@ -123,34 +141,51 @@ pub fn tolerances(Trace { ticks, values }: &Trace, random: &mut Random) -> Vec<T
 
 /// Of all kept lists that judge passes and that are as short as minimum's, minimum's is the last in the
 /// order of their samples. Returns all of them; the trace is short.
-pub fn shortest_lists(trace: &Trace, tolerance: Tolerance, minimum: &[u16]) -> Vec<Vec<u16>> {
+pub fn shortest_lists(trace: &Trace, limits: impl Into<Limits>, minimum: &[u16]) -> Vec<Vec<u16>> {
+    let limits = limits.into();
     let Trace { ticks, values } = trace;
-    let passed = |list: &Vec<u16>| judge(ticks, values, list, tolerance) == Ok(None);
+    let passed = |list: &Vec<u16>| judge(ticks, values, list, limits) == Ok(None);
     let shortest: Vec<Vec<u16>> = kept_lists(ticks.len())
         .filter(|list| list.len() == minimum.len() && passed(list))
         .collect();
     assert_eq!(
         shortest.iter().max().map(Vec::as_slice),
         Some(minimum),
-        "{trace:?} {tolerance:?}"
+        "{trace:?} {limits:?}"
     );
     shortest
 }
 
-/// Calls least and sees what holds of its answer: the list has at most so many samples and exactly the
-/// error, it is minimum's there, and just below the error no list is short enough.
-pub fn least_list(trace: &Trace, allowance: u64, room: usize) -> Least {
+/// Calls least and sees what holds of its answer: the list has at most so many samples, obeys the gap limit
+/// and has exactly the error, it is minimum's there, and just below the error no list is short enough.
+/// Nothing is answered exactly if both ends and the samples beside each hole are more than so many, of
+/// which judge passes the links at the greatest tolerance.
+pub fn least_list(trace: &Trace, gap: u32, allowance: u64, room: usize) -> Option<Least> {
     let Trace { ticks, values } = trace;
-    let answer = least(ticks, values, allowance, room).unwrap();
+    let beside = beside_holes(ticks, Some(gap));
+    let greatest = ratio(TOLERANCE as u64, 1).with_gap(gap);
+    assert_eq!(judge(ticks, values, &beside, greatest), Ok(None));
+    let answer = least(ticks, values, gap, allowance, room);
+    let allowance = allowance as usize;
+    if beside.len() > allowance {
+        assert_eq!(answer, Err((16, 0)), "{allowance} {gap}\n{trace:?}");
+        return None;
+    }
+    let answer = answer.unwrap();
     let Least { list, error } = &answer;
-    let (tolerance, allowance) = (exactly(*error), allowance as usize);
-    assert!(list.len() <= allowance, "{allowance} {answer:?}\n{trace:?}");
-    assert_eq!(list_error(ticks, values, list), *error, "{trace:?}");
-    let minimum = reduce(Minimum, ticks, values, tolerance, room);
-    assert_eq!(minimum.unwrap().list, *list, "{trace:?}");
-    assert!(
-        error.p == 0 || fewest(ticks, values, just_below(*error)) > allowance,
-        "{allowance} {answer:?}\n{trace:?}"
-    );
-    answer
+    let input = || format!("{allowance} {gap} {answer:?}\n{trace:?}");
+    assert!(list.len() <= allowance, "{}", input());
+    assert!(list_obeys(ticks, list, Some(gap)), "{}", input());
+    assert_eq!(list_error(ticks, values, list), *error, "{}", input());
+    let limits = exactly(*error).with_gap(gap);
+    let minimum = reduce(Minimum, ticks, values, limits, room);
+    assert_eq!(minimum.unwrap().list, *list, "{}", input());
+    if error.p > 0 {
+        let below = kovrelna_reference::Limits {
+            tolerance: just_below(*error),
+            gap: Some(gap),
+        };
+        assert!(fewest(ticks, values, below) > allowance, "{}", input());
+    }
+    Some(answer)
 }

@@ -5,7 +5,9 @@
 //! - [`Trace`], [`Kind`], [`trace`]: traces within the limits, of several kinds.
 //! - [`Shape`], [`adversarial`]: traces on which a wrong method differs from a right one.
 //! - [`any_trace`]: of either sort.
-//! - [`kept_list`], [`damaged`]: kept lists, and lists with one or more faults.
+//! - [`Holes`], [`with_holes`], [`gap_limit`], [`any_limited`]: traces and gap limits that matter to them.
+//! - [`kept_list`], [`obeying_list`], [`any_list`], [`damaged`]: kept lists, and lists with one or more
+//!   faults.
 //! - [`just_below`]: the tolerance nearest below a link's error.
 //! - [`range_table`], [`damaged_table`]: range tables that are allowed, and others.
 //! - [`content`]: contents of records.
@@ -15,7 +17,7 @@
 
 use crate::pedestals::{Sums, FACTOR};
 use crate::record::Content;
-use crate::{Fraction, DENOMINATOR, SAMPLES, SPAN, TOLERANCE};
+use crate::{beside_holes, Fraction, DENOMINATOR, GAP, SAMPLES, SPAN, TOLERANCE};
 
 /// A generator (splitmix64): the same seed gives the same numbers.
 pub struct Random(u64);
@@ -194,6 +196,12 @@ pub const SHAPES: [Shape; 7] = [
 /// A trace of this shape with 1 to 4,096 samples and ticks as those of `trace`.
 pub fn adversarial(shape: Shape, samples: usize, random: &mut Random) -> Trace {
     let ticks = ticks(samples, random);
+    let values = shaped(shape, &ticks, random);
+    Trace { ticks, values }
+}
+
+fn shaped(shape: Shape, ticks: &[u32], random: &mut Random) -> Vec<i16> {
+    let samples = ticks.len();
     let kind = random.choose(&KINDS);
     let of_kind = values(kind, samples, random);
     let (low, high) = (i64::from(i16::MIN), i64::from(i16::MAX));
@@ -219,17 +227,116 @@ pub fn adversarial(shape: Shape, samples: usize, random: &mut Random) -> Trace {
         };
         value.clamp(low, high) as i16
     });
-    let values = values.collect();
-    Trace { ticks, values }
+    values.collect()
 }
 
 /// A trace of any kind or shape.
 pub fn any_trace(samples: usize, random: &mut Random) -> Trace {
-    if random.below(2) == 0 {
-        trace(random.choose(&KINDS), samples, random)
-    } else {
-        adversarial(random.choose(&SHAPES), samples, random)
+    let ticks = ticks(samples, random);
+    any_on(ticks, random)
+}
+
+/// A trace with these ticks, of any kind or shape.
+fn any_on(ticks: Vec<u32>, random: &mut Random) -> Trace {
+    let values = match random.below(2) {
+        0 => values(random.choose(&KINDS), ticks.len(), random),
+        _ => shaped(random.choose(&SHAPES), &ticks, random),
+    };
+    Trace { ticks, values }
+}
+
+/// Where a trace has holes.
+#[derive(Clone, Copy, Debug, PartialEq)]
+pub enum Holes {
+    Nowhere,
+    /// At the first step.
+    First,
+    /// At the last step.
+    Last,
+    /// At two steps in a row or more, with single samples between them.
+    Row,
+    /// At one step in five, drawn for each.
+    Scattered,
+    Everywhere,
+}
+
+/// Every place of them.
+pub const HOLES: [Holes; 6] = [
+    Holes::Nowhere,
+    Holes::First,
+    Holes::Last,
+    Holes::Row,
+    Holes::Scattered,
+    Holes::Everywhere,
+];
+
+/// A trace of any kind or shape with 1 to 4,096 samples, and a gap limit under which it has holes there
+/// alone, as far as it has so many steps. Holes are one tick longer than the gap limit; in some traces one
+/// of them is longer, up to exactly the greatest span. Most other steps are exactly the gap limit or one
+/// tick shorter.
+pub fn with_holes(holes: Holes, samples: usize, random: &mut Random) -> (Trace, u32) {
+    let steps = samples - 1;
+    let longest = SPAN / (steps as u32).max(1);
+    let any = random.within(1, i64::from(longest) - 1) as u32;
+    let gap = random.choose(&[1, 2, 7, any, longest - 1]);
+    let from = random.below(steps.max(1) as u64) as usize;
+    let row = from..from + random.within(2, 5) as usize;
+    let hole: Vec<bool> = (0..steps)
+        .map(|k| match holes {
+            Holes::Nowhere => false,
+            Holes::First => k == 0,
+            Holes::Last => k == steps - 1,
+            Holes::Row => row.contains(&k),
+            Holes::Scattered => random.below(5) == 0,
+            Holes::Everywhere => true,
+        })
+        .collect();
+    let mut offsets = vec![0];
+    for k in 0..steps {
+        let any = random.within(1, gap.into()) as u32;
+        let shorter = random.choose(&[gap, gap, (gap - 1).max(1), any]);
+        offsets.push(offsets[k] + if hole[k] { gap + 1 } else { shorter });
     }
+    let places: Vec<usize> = (0..steps).filter(|&k| hole[k]).collect();
+    if !places.is_empty() && random.below(3) == 0 {
+        let rest = SPAN - offsets[steps];
+        let any = random.below(u64::from(rest) + 1) as u32;
+        let more = random.choose(&[any, rest]);
+        offsets[random.choose(&places) + 1..]
+            .iter_mut()
+            .for_each(|offset| *offset += more);
+    }
+    let ticks = begun(&offsets, random);
+    (any_on(ticks, random), gap)
+}
+
+/// A gap limit that matters to these ticks, of a trace or of the channels of a crate: where they rise, the
+/// ticks of one of their steps, or one tick more or less; the least and the greatest too.
+pub fn gap_limit(ticks: &[u32], random: &mut Random) -> u32 {
+    let steps = ticks.windows(2).filter(|step| step[0] < step[1]);
+    let mut steps: Vec<u32> = steps.map(|step| step[1] - step[0]).collect();
+    if steps.is_empty() {
+        steps.push(1);
+    }
+    let step = random.choose(&steps).min(GAP);
+    random
+        .choose(&[step, step, step - 1, step - 1, step + 1, 1, GAP])
+        .clamp(1, GAP)
+}
+
+/// A trace of any kind or shape, and a gap limit: none, one that matters to it, or one under which it has
+/// holes in certain places.
+pub fn any_limited(samples: usize, random: &mut Random) -> (Trace, u32) {
+    let kind = random.below(3);
+    if kind == 2 {
+        return with_holes(random.choose(&HOLES), samples, random);
+    }
+    let trace = any_trace(samples, random);
+    let gap = match kind {
+        0 => GAP,
+        _ => gap_limit(&trace.ticks, random),
+    };
+    (trace, gap)
 }
 
 /// A kept list of a trace with so many samples: few, some or most of them.
@@ -238,6 +345,24 @@ pub fn kept_list(samples: usize, random: &mut Random) -> Vec<u16> {
     (0..samples as u16)
         .filter(|&k| k == 0 || usize::from(k) == samples - 1 || random.below(one_in) == 0)
         .collect()
+}
+
+/// A kept list of these ticks that obeys the gap limit: few, some or most of the samples, and those beside
+/// each hole.
+pub fn obeying_list(ticks: &[u32], gap: u32, random: &mut Random) -> Vec<u16> {
+    let mut list = kept_list(ticks.len(), random);
+    list.extend(beside_holes(ticks, Some(gap)));
+    list.sort();
+    list.dedup();
+    list
+}
+
+/// A kept list of these ticks; half of them obey the gap limit.
+pub fn any_list(ticks: &[u32], gap: u32, random: &mut Random) -> Vec<u16> {
+    match random.below(2) {
+        0 => kept_list(ticks.len(), random),
+        _ => obeying_list(ticks, gap, random),
+    }
 }
 
 /// The kept list with one fault or several at places drawn for each. It may still be a kept list
@@ -541,7 +666,7 @@ mod tests {
     use super::*;
     use crate::pedestals::{shift_over, spread_over};
     use crate::record::table_fault;
-    use crate::{link_error, link_valid, list_refusal, trace_refusal};
+    use crate::{link_error, link_valid, list_obeys, list_refusal, trace_refusal};
 
     #[test]
     fn traces_and_lists_are_within_the_limits() {
@@ -557,6 +682,55 @@ mod tests {
                 assert_eq!(trace_refusal(&ticks, &values), None, "{shape:?} {samples}");
             }
         }
+    }
+
+    /// Traces have holes where they should, of one tick and of more, and other steps of exactly the gap
+    /// limit and of one tick less. Gap limits are allowed, and lists obey them.
+    #[test]
+    fn holes_of_every_sort() {
+        let random = &mut Random::new(10);
+        for samples in (1..=40).flat_map(|n| [n; 20]).chain([4_095, 4_096]) {
+            for holes in HOLES {
+                let (Trace { ticks, values }, gap) = with_holes(holes, samples, random);
+                assert_eq!(trace_refusal(&ticks, &values), None, "{holes:?} {samples}");
+                assert!((1..=GAP).contains(&gap));
+                let found: Vec<bool> = ticks.windows(2).map(|k| k[1] - k[0] > gap).collect();
+                let (count, steps) = (found.iter().filter(|&&hole| hole).count(), samples - 1);
+                let as_wanted = steps == 0
+                    || match holes {
+                        Holes::Nowhere => count == 0,
+                        Holes::First => found[0] && count == 1,
+                        Holes::Last => found[steps - 1] && count == 1,
+                        Holes::Row => {
+                            let from = found.iter().position(|&hole| hole).unwrap();
+                            let row = found[from..].iter().take_while(|&&hole| hole).count();
+                            row == count && (count > 1 || from == steps - 1)
+                        }
+                        Holes::Scattered => true,
+                        Holes::Everywhere => count == steps,
+                    };
+                assert!(as_wanted, "{holes:?} {gap} {ticks:?}");
+                let list = obeying_list(&ticks, gap, random);
+                assert_eq!(list_refusal(samples, &list), None);
+                assert!(list_obeys(&ticks, &list, Some(gap)));
+            }
+        }
+        // Steps of one tick less than the gap limit, of exactly it, and of one tick more and of more.
+        let (mut steps, mut limits) = ([0; 4], [0; 2]);
+        for _ in 0..2_000 {
+            let samples = random.within(1, 12) as usize;
+            let (Trace { ticks, .. }, gap) = any_limited(samples, random);
+            assert!((1..=GAP).contains(&gap));
+            limits[0] += u32::from(gap == 1);
+            limits[1] += u32::from(gap == GAP);
+            for step in ticks.windows(2).map(|step| step[1] - step[0]) {
+                if step + 1 >= gap {
+                    steps[(step + 1 - gap).min(3) as usize] += 1;
+                }
+            }
+        }
+        let seen = steps.iter().chain(&limits);
+        assert!(seen.min() > Some(&100), "{steps:?} {limits:?}");
     }
 
     #[test]

@@ -1,16 +1,19 @@
-//! The slow reference: document 01 and the first, third and fourth request of document 02 once more, in
-//! exact whole numbers, clear before fast. It knows nothing of the library that is compared with it.
+//! The slow reference: document 01 and the first, third, fourth and sixth request of document 02 once
+//! more, in exact whole numbers, clear before fast. It knows nothing of the library that is compared with
+//! it.
 //!
 //! - [`Fraction`]: exact fractions, compared by cross multiplication.
-//! - [`deviation`], [`link_error`], [`link_valid`], [`valid_ends`]: links of a trace.
-//! - [`list_error`]: the error of a kept list.
+//! - [`Limits`]: what a link is asked to meet.
+//! - [`deviation`], [`link_error`], [`link_obeys`], [`link_valid`], [`valid_ends`]: links of a trace.
+//! - [`list_error`], [`list_obeys`], [`beside_holes`]: kept lists.
 //! - [`Form`], [`held`]: the three forms of a tolerance.
 //! - [`trace_refusal`], [`list_refusal`]: rows 1 to 3 and row 6 of the table of refusals.
 //! - [`judge`]: the call.
 //! - [`Method`], [`Reduced`], [`reduce`]: the calls walk, gallop and minimum.
 //! - [`Least`], [`least`]: the call.
 //! - [`kept_lists`]: every kept list.
-//! - [`fewest`]: how short a kept list within a fraction can be.
+//! - [`fewest`], [`fewest_obeying`]: how short a kept list of valid links can be, and one that obeys a
+//!   gap limit.
 //! - [`record`]: range codes and records.
 //! - [`report`]: the report on a crate.
 //! - [`pedestals`]: two pedestal runs of a crate, compared.
@@ -34,6 +37,8 @@ pub const SPAN: u32 = 1_048_575;
 pub const DENOMINATOR: i128 = 1_048_575;
 /// The greatest tolerance.
 pub const TOLERANCE: i128 = 65_535;
+/// The greatest gap limit.
+pub const GAP: u32 = 1_048_575;
 
 /// A row of the table of refusals: its number and what is returned with it.
 pub type Row = (u32, u64);
@@ -72,6 +77,54 @@ impl Fraction {
     }
 }
 
+/// What a link is asked to meet: a tolerance, in one of its forms or as a fraction, and a gap limit, if
+/// there is one.
+#[derive(Clone, Copy, Debug)]
+pub struct Limits<T> {
+    pub tolerance: T,
+    pub gap: Option<u32>,
+}
+
+impl<T> From<T> for Limits<T> {
+    /// No gap limit.
+    fn from(tolerance: T) -> Self {
+        Limits {
+            tolerance,
+            gap: None,
+        }
+    }
+}
+
+impl Limits<Fraction> {
+    /// Half the tolerance under the same gap limit.
+    pub fn half(self) -> Self {
+        Limits {
+            tolerance: self.tolerance.half(),
+            gap: self.gap,
+        }
+    }
+}
+
+impl Limits<Form> {
+    /// Row 4 or row 15; or the limits with the tolerance in lowest terms.
+    pub fn held(self) -> Result<Limits<Fraction>, Row> {
+        let tolerance = held(self.tolerance).ok_or((4, 0))?;
+        check_gap(self.gap)?;
+        Ok(Limits {
+            tolerance,
+            gap: self.gap,
+        })
+    }
+}
+
+/// Row 15, if there is a gap limit and it is not allowed.
+fn check_gap(gap: Option<u32>) -> Result<(), Row> {
+    match gap {
+        Some(gap) if !(1..=GAP).contains(&gap) => Err((15, 0)),
+        _ => Ok(()),
+    }
+}
+
 /// The vertical distance from value k to the straight line through samples i and j.
 pub fn deviation(ticks: &[u32], values: &[i16], i: usize, j: usize, k: usize) -> Fraction {
     let t = |sample: usize| i128::from(ticks[sample]);
@@ -106,17 +159,59 @@ pub fn list_error(ticks: &[u32], values: &[i16], list: &[u16]) -> Fraction {
     worst
 }
 
-/// Whether the link's error is at most the tolerance: whether each deviation is.
-pub fn link_valid(ticks: &[u32], values: &[i16], i: usize, j: usize, tolerance: Fraction) -> bool {
-    (i + 1..j).all(|k| deviation(ticks, values, i, j, k).at_most(tolerance))
+/// Whether samples k and k + 1 lie more ticks apart than the gap limit.
+fn is_hole(ticks: &[u32], k: usize, gap: Option<u32>) -> bool {
+    gap.is_some_and(|gap| ticks[k + 1] - ticks[k] > gap)
+}
+
+/// Whether the link goes one step or crosses no hole.
+pub fn link_obeys(ticks: &[u32], i: usize, j: usize, gap: Option<u32>) -> bool {
+    j == i + 1 || (i..j).all(|k| !is_hole(ticks, k, gap))
+}
+
+/// Whether each link of the list obeys the gap limit.
+pub fn list_obeys(ticks: &[u32], list: &[u16], gap: Option<u32>) -> bool {
+    list.windows(2)
+        .all(|link| link_obeys(ticks, link[0].into(), link[1].into(), gap))
+}
+
+/// Both ends of the trace and the two samples beside each hole.
+pub fn beside_holes(ticks: &[u32], gap: Option<u32>) -> Vec<u16> {
+    let last = ticks.len() - 1;
+    let hole = |k: usize| is_hole(ticks, k, gap);
+    (0..=last)
+        .filter(|&k| k == 0 || k == last || hole(k - 1) || hole(k))
+        .map(|k| k as u16)
+        .collect()
+}
+
+/// Whether the link obeys the gap limit and its error is at most the tolerance: whether each deviation
+/// is.
+pub fn link_valid(
+    ticks: &[u32],
+    values: &[i16],
+    i: usize,
+    j: usize,
+    limits: impl Into<Limits<Fraction>>,
+) -> bool {
+    let Limits { tolerance, gap } = limits.into();
+    link_obeys(ticks, i, j, gap)
+        && (i + 1..j).all(|k| deviation(ticks, values, i, j, k).at_most(tolerance))
 }
 
 /// The samples to which a link from i is valid, rising. The line from sample i to sample j passes
 /// sample k within p/q exactly if its slope (vj - vi) / (tj - ti) is at least
 /// (vk - vi - p/q) / (tk - ti) and at most (vk - vi + p/q) / (tk - ti); slopes here are times q. Where
-/// no slope is left, no later link is valid.
-pub fn valid_ends(ticks: &[u32], values: &[i16], i: usize, tolerance: Fraction) -> Vec<usize> {
+/// no slope is left, no later link is valid. Across a hole only a link of one step is.
+pub fn valid_ends(
+    ticks: &[u32],
+    values: &[i16],
+    i: usize,
+    limits: impl Into<Limits<Fraction>>,
+) -> Vec<usize> {
+    let Limits { tolerance, gap } = limits.into();
     let mut ends = Vec::new();
+    let mut crossed = false;
     // No slope is below or above these.
     let whole = |p| Fraction { p, q: 1 };
     let (mut least, mut greatest) = (whole(-(1 << 60)), whole(1 << 60));
@@ -127,7 +222,9 @@ pub fn valid_ends(ticks: &[u32], values: &[i16], i: usize, tolerance: Fraction) 
         let rise = tolerance.q * (i128::from(values[j]) - i128::from(values[i]));
         let run = i128::from(ticks[j]) - i128::from(ticks[i]);
         let slope = |rise| Fraction { p: rise, q: run };
-        if least.at_most(slope(rise)) && slope(rise).at_most(greatest) {
+        crossed |= is_hole(ticks, j - 1, gap);
+        let obeys = j == i + 1 || !crossed;
+        if obeys && least.at_most(slope(rise)) && slope(rise).at_most(greatest) {
             ends.push(j);
         }
         let (low, high) = (slope(rise - tolerance.p), slope(rise + tolerance.p));
@@ -237,12 +334,12 @@ pub fn judge(
     ticks: &[u32],
     values: &[i16],
     list: &[u16],
-    form: Form,
+    limits: impl Into<Limits<Form>>,
 ) -> Result<Option<usize>, Row> {
     if let Some(row) = trace_refusal(ticks, values) {
         return Err(row);
     }
-    let tolerance = held(form).ok_or((4, 0))?;
+    let limits = limits.into().held()?;
     if let Some(row) = list_refusal(ticks.len(), list) {
         return Err(row);
     }
@@ -252,7 +349,7 @@ pub fn judge(
             values,
             usize::from(link[0]),
             usize::from(link[1]),
-            tolerance,
+            limits,
         )
     }))
 }
@@ -283,25 +380,25 @@ pub fn reduce(
     method: Method,
     ticks: &[u32],
     values: &[i16],
-    form: Form,
+    limits: impl Into<Limits<Form>>,
     room: usize,
 ) -> Result<Reduced, Row> {
     if let Some(row) = trace_refusal(ticks, values) {
         return Err(row);
     }
-    let tolerance = held(form).ok_or((4, 0))?;
+    let limits = limits.into().held()?;
     let samples = ticks.len();
     if room < samples {
         return Err((10, samples as u64));
     }
     let last = samples - 1;
-    let valid = |i, j| link_valid(ticks, values, i, j, tolerance);
+    let valid = |i, j| link_valid(ticks, values, i, j, limits);
     let mut probes = 0;
     let list = match method {
         Method::Walk => stops(last, |i| walk_stop(i, last, valid)),
         Method::Gallop => stops(last, |i| gallop_stop(i, last, valid, &mut probes)),
         Method::Minimum if samples <= TRIED => minimum_of_all(samples, valid),
-        Method::Minimum => minimum_by_table(last, |i| valid_ends(ticks, values, i, tolerance)),
+        Method::Minimum => minimum_by_table(last, |i| valid_ends(ticks, values, i, limits)),
     };
     Ok(Reduced { list, probes })
 }
@@ -393,7 +490,8 @@ fn minimum_by_table(last: usize, ends: impl Fn(usize) -> Vec<usize>) -> Vec<u16>
     stops(last, |i| next[i])
 }
 
-/// The least error over kept lists of at most so many samples, and the minimum's list at that error.
+/// The least error over kept lists of at most so many samples that obey the gap limit, and the minimum's
+/// list at that error under the same gap limit.
 #[derive(Clone, Debug, PartialEq, Eq)]
 pub struct Least {
     pub list: Vec<u16>,
@@ -401,7 +499,13 @@ pub struct Least {
 }
 
 /// The first row that fits, or the least error and its list. The output has `room` entries.
-pub fn least(ticks: &[u32], values: &[i16], allowance: u64, room: usize) -> Result<Least, Row> {
+pub fn least(
+    ticks: &[u32],
+    values: &[i16],
+    gap: Option<u32>,
+    allowance: u64,
+    room: usize,
+) -> Result<Least, Row> {
     let samples = ticks.len();
     if samples > LEAST_SAMPLES {
         return Err((1, 0));
@@ -409,19 +513,27 @@ pub fn least(ticks: &[u32], values: &[i16], allowance: u64, room: usize) -> Resu
     if let Some(row) = trace_refusal(ticks, values) {
         return Err(row);
     }
+    check_gap(gap)?;
     if !(2..=SAMPLES as u64).contains(&allowance) {
         return Err((5, 0));
+    }
+    let allowance = allowance as usize;
+    if fewest_obeying(ticks, gap) > allowance {
+        return Err((16, 0));
     }
     if room < samples {
         return Err((10, samples as u64));
     }
-    let allowance = allowance as usize;
     let error = match samples {
-        ..=TRIED => least_of_all(ticks, values, allowance),
-        _ => least_by_table(ticks, values, allowance),
+        ..=TRIED => least_of_all(ticks, values, gap, allowance),
+        _ => least_by_table(ticks, values, gap, allowance),
+    }
+    .expect("some list obeys and is short enough");
+    let limits = Limits {
+        tolerance: Form::Ratio(error.p as u64, error.q as u64),
+        gap,
     };
-    let form = Form::Ratio(error.p as u64, error.q as u64);
-    let Reduced { list, .. } = reduce(Method::Minimum, ticks, values, form, room)?;
+    let Reduced { list, .. } = reduce(Method::Minimum, ticks, values, limits, room)?;
     Ok(Least { list, error })
 }
 
@@ -434,50 +546,76 @@ fn ordered(a: Fraction, b: Fraction) -> (Fraction, Fraction) {
     }
 }
 
-/// The least error of all kept lists of at most so many samples.
-fn least_of_all(ticks: &[u32], values: &[i16], allowance: usize) -> Fraction {
-    kept_lists(ticks.len())
-        .filter(|list| list.len() <= allowance)
-        .map(|list| list_error(ticks, values, &list))
-        .reduce(|a, b| ordered(a, b).0)
-        .expect("the ends alone are a kept list")
+/// The least of these fractions, if there are any.
+fn least_of(fractions: impl Iterator<Item = Fraction>) -> Option<Fraction> {
+    fractions.reduce(|a, b| ordered(a, b).0)
+}
+
+/// The least error of all kept lists of at most so many samples that obey the gap limit, if there are any.
+fn least_of_all(
+    ticks: &[u32],
+    values: &[i16],
+    gap: Option<u32>,
+    allowance: usize,
+) -> Option<Fraction> {
+    let lists = kept_lists(ticks.len())
+        .filter(|list| list.len() <= allowance && list_obeys(ticks, list, gap));
+    least_of(lists.map(|list| list_error(ticks, values, &list)))
 }
 
 /// The same by tables: the least error of a list from sample 0 to each sample, with at most two samples,
 /// three, and so on. The trace has at least two samples.
-fn least_by_table(ticks: &[u32], values: &[i16], allowance: usize) -> Fraction {
+fn least_by_table(
+    ticks: &[u32],
+    values: &[i16],
+    gap: Option<u32>,
+    allowance: usize,
+) -> Option<Fraction> {
     let last = ticks.len() - 1;
-    let errors: Vec<Vec<Fraction>> = (0..=last)
-        .map(|j| (0..j).map(|i| link_error(ticks, values, i, j)).collect())
+    // Nothing where a link does not obey.
+    let error = |i, j| link_obeys(ticks, i, j, gap).then(|| link_error(ticks, values, i, j));
+    let errors: Vec<Vec<Option<Fraction>>> = (0..=last)
+        .map(|j| (0..j).map(|i| error(i, j)).collect())
         .collect();
-    let mut least: Vec<Fraction> = (1..=last).map(|j| errors[j][0]).collect();
-    least.insert(0, Fraction { p: 0, q: 1 });
+    let zero = Some(Fraction { p: 0, q: 1 });
+    let mut least: Vec<Option<Fraction>> = (1..=last).map(|j| errors[j][0]).collect();
+    least.insert(0, zero);
     for _ in 3..=allowance.min(last + 1) {
-        let through = |j: usize, i: usize| ordered(least[i], errors[j][i]).1;
-        let best = |j: usize| (0..j).map(|i| through(j, i)).reduce(|a, b| ordered(a, b).0);
-        least = (0..=last).map(|j| best(j).unwrap_or(least[0])).collect();
+        let through = |j: usize, i: usize| Some(ordered(least[i]?, errors[j][i]?).1);
+        let best = |j: usize| least_of((0..j).filter_map(|i| through(j, i)));
+        least = (0..=last)
+            .map(|j| if j == 0 { zero } else { best(j) })
+            .collect();
     }
     least[last]
 }
 
-/// How many samples the shortest kept list within the fraction has. Tries every link.
-pub fn fewest(ticks: &[u32], values: &[i16], fraction: Fraction) -> usize {
+/// How many samples the shortest kept list of valid links has. Tries every link.
+pub fn fewest(ticks: &[u32], values: &[i16], limits: impl Into<Limits<Fraction>>) -> usize {
+    let limits = limits.into();
+    fewest_of(ticks.len(), |i, j| link_valid(ticks, values, i, j, limits))
+}
+
+/// How many samples the shortest kept list that obeys the gap limit has. Tries every link.
+pub fn fewest_obeying(ticks: &[u32], gap: Option<u32>) -> usize {
+    fewest_of(ticks.len(), |i, j| link_obeys(ticks, i, j, gap))
+}
+
+/// How many samples the shortest kept list of these links has. Those of one step are among them.
+fn fewest_of(samples: usize, link: impl Fn(usize, usize) -> bool) -> usize {
     // The fewest from sample 0 to each sample.
     let mut fewest = vec![1];
-    for j in 1..ticks.len() {
-        let before = (0..j)
-            .filter(|&i| link_valid(ticks, values, i, j, fraction))
-            .map(|i| fewest[i])
-            .min();
-        fewest.push(before.expect("a link between neighbours is valid") + 1);
+    for j in 1..samples {
+        let before = (0..j).filter(|&i| link(i, j)).map(|i| fewest[i]).min();
+        fewest.push(before.expect("a link between neighbours is among them") + 1);
     }
-    fewest[ticks.len() - 1]
+    fewest[samples - 1]
 }
 
 #[cfg(test)]
 mod tests {
     use super::*;
-    use generate::{trace, Random, Trace, KINDS};
+    use generate::{any_limited, any_trace, Random, Trace};
 
     const EVEN: [u32; 5] = [0, 1, 2, 3, 4];
 
@@ -523,6 +661,119 @@ mod tests {
         }
     }
 
+    /// The figures of document 02: six samples, of which the middle two lie 8 ticks apart; and a shorter list
+    /// that does not obey the gap limit.
+    #[test]
+    fn holes() {
+        let (ticks, values) = ([0, 1, 2, 10, 11, 12], [0; 6]);
+        let under = |gap| Limits {
+            tolerance: Form::Ratio(0, 1),
+            gap: Some(gap),
+        };
+        for (gap, list, probes) in [
+            (7, &[0, 2, 3, 5][..], 7),
+            (8, &[0, 5], 5),
+            (GAP, &[0, 5], 5),
+        ] {
+            for method in METHODS {
+                let reduced = reduce(method, &ticks, &values, under(gap), 6).unwrap();
+                assert_eq!(reduced.list, list, "{method:?} {gap}");
+                let counted = if method == Method::Gallop { probes } else { 0 };
+                assert_eq!(reduced.probes, counted, "{method:?} {gap}");
+            }
+            assert_eq!(beside_holes(&ticks, Some(gap)), list, "{gap}");
+        }
+        assert_eq!(least(&ticks, &values, Some(7), 3, 6), Err((16, 0)));
+        let found = least(&ticks, &values, Some(7), 4, 6).unwrap();
+        assert_eq!(
+            (found.error, &found.list[..]),
+            (fraction(0, 1), &[0, 2, 3, 5][..])
+        );
+        // Rows 15 and 16 in their places.
+        for gap in [0, GAP + 1] {
+            assert_eq!(least(&ticks, &values, Some(gap), 1, 0), Err((15, 0)));
+            assert_eq!(judge(&ticks, &values, &[], under(gap)), Err((15, 0)));
+            let row = reduce(Method::Walk, &ticks, &values, under(gap), 0);
+            assert_eq!(row, Err((15, 0)));
+        }
+        assert_eq!(least(&ticks, &values, Some(7), 1, 0), Err((5, 0)));
+        assert_eq!(least(&ticks, &values, Some(7), 3, 0), Err((16, 0)));
+        assert_eq!(least(&ticks, &values, Some(7), 4, 0), Err((10, 6)));
+        // A link of one step is valid, also across a hole.
+        let judged = |list: &[u16], gap| judge(&ticks, &values, list, under(gap));
+        assert_eq!(judged(&[0, 2, 3, 5], 7), Ok(None));
+        assert_eq!(judged(&[0, 2, 5], 7), Ok(Some(1)));
+        assert_eq!(judged(&[0, 3, 5], 7), Ok(Some(0)));
+        assert_eq!(judged(&[0, 3, 5], 8), Ok(None));
+        assert!(link_obeys(&ticks, 2, 3, Some(7)) && !link_obeys(&ticks, 2, 4, Some(7)));
+        let kept = reduce(Method::Walk, &[0, 2, 3], &[0; 3], under(1), 3);
+        assert_eq!(kept.unwrap().list, [0, 1, 2]);
+        assert_eq!(list_error(&[0, 2, 3], &[0; 3], &[0, 2]), fraction(0, 1));
+    }
+
+    /// The shortest list that obeys a gap limit has both ends and the samples beside each hole: the search
+    /// over all links that obey, all kept lists where they can be tried, and that list agree.
+    #[test]
+    fn shortest_that_obeys() {
+        let random = &mut Random::new(12);
+        // Lists of both ends alone, of every sample, and others.
+        let mut seen = [0; 3];
+        for _ in 0..3_000 {
+            let most = random.choose(&[TRIED as i64, 60]);
+            let samples = random.within(1, most) as usize;
+            let (Trace { ticks, .. }, gap) = any_limited(samples, random);
+            let list = beside_holes(&ticks, Some(gap));
+            assert_eq!(list_refusal(samples, &list), None);
+            assert!(list_obeys(&ticks, &list, Some(gap)), "{gap} {ticks:?}");
+            let found = fewest_obeying(&ticks, Some(gap));
+            assert_eq!(found, list.len(), "{gap} {ticks:?}");
+            if samples <= TRIED {
+                let lists = kept_lists(samples).filter(|list| list_obeys(&ticks, list, Some(gap)));
+                let tried = lists.map(|list| list.len()).min();
+                assert_eq!(tried, Some(found), "{gap} {ticks:?}");
+            }
+            match found {
+                kept if kept == samples => seen[0] += 1,
+                2 => seen[1] += 1,
+                _ => seen[2] += 1,
+            }
+        }
+        assert!(seen.iter().all(|&count| count > 200), "{seen:?}");
+    }
+
+    /// The largest gap limit is none.
+    #[test]
+    fn no_gap_limit() {
+        let random = &mut Random::new(13);
+        for _ in 0..1_000 {
+            let samples = random.within(1, 30) as usize;
+            let trace = any_trace(samples, random);
+            let Trace { ticks, values } = &trace;
+            let allowance = random.within(2, samples as i64 + 2) as u64;
+            let under = |gap| least(ticks, values, gap, allowance, samples);
+            assert_eq!(under(Some(GAP)), under(None), "{trace:?}");
+            for tolerance in tolerances(&trace, random) {
+                let form = Form::Ratio(tolerance.p as u64, tolerance.q as u64);
+                let gap = Some(GAP);
+                for method in METHODS {
+                    let under = |gap| {
+                        let limits = Limits {
+                            tolerance: form,
+                            gap,
+                        };
+                        reduce(method, ticks, values, limits, samples)
+                    };
+                    assert_eq!(under(gap), under(None), "{method:?} {trace:?}");
+                }
+                let limits = Limits { tolerance, gap };
+                assert_eq!(
+                    fewest(ticks, values, limits),
+                    fewest(ticks, values, tolerance)
+                );
+            }
+        }
+    }
+
     /// Fractions at which the links of a trace begin to be valid, and others.
     fn tolerances(Trace { ticks, values }: &Trace, random: &mut Random) -> Vec<Fraction> {
         let mut tolerances = vec![fraction(0, 1), fraction(random.within(0, 9).into(), 2)];
@@ -540,15 +791,17 @@ mod tests {
         let random = &mut Random::new(3);
         for _ in 0..4_000 {
             let samples = random.within(1, 40) as usize;
-            let trace = trace(random.choose(&KINDS), samples, random);
+            let (trace, gap) = any_limited(samples, random);
             let Trace { ticks, values } = &trace;
+            let gap = Some(gap);
             for tolerance in tolerances(&trace, random) {
+                let limits = Limits { tolerance, gap };
                 for i in 0..samples {
                     let ends: Vec<usize> = (i + 1..samples)
-                        .filter(|&j| link_valid(ticks, values, i, j, tolerance))
+                        .filter(|&j| link_valid(ticks, values, i, j, limits))
                         .collect();
-                    let found = valid_ends(ticks, values, i, tolerance);
-                    assert_eq!(found, ends, "{i} {trace:?} {tolerance:?}");
+                    let found = valid_ends(ticks, values, i, limits);
+                    assert_eq!(found, ends, "{i} {trace:?} {limits:?}");
                 }
             }
         }
@@ -560,18 +813,20 @@ mod tests {
         let random = &mut Random::new(4);
         for _ in 0..4_000 {
             let samples = random.within(1, TRIED as i64) as usize;
-            let trace = trace(random.choose(&KINDS), samples, random);
+            let (trace, gap) = any_limited(samples, random);
             let Trace { ticks, values } = &trace;
+            let gap = Some(gap);
             for tolerance in tolerances(&trace, random) {
-                let valid = |i, j| link_valid(ticks, values, i, j, tolerance);
+                let limits = Limits { tolerance, gap };
+                let valid = |i, j| link_valid(ticks, values, i, j, limits);
                 let list = minimum_of_all(samples, valid);
                 let ends = |i| (i + 1..samples).filter(|&j| valid(i, j)).collect();
                 let by_table = minimum_by_table(samples - 1, ends);
-                assert_eq!(by_table, list, "{trace:?} {tolerance:?}");
-                let ends = |i| valid_ends(ticks, values, i, tolerance);
+                assert_eq!(by_table, list, "{trace:?} {limits:?}");
+                let ends = |i| valid_ends(ticks, values, i, limits);
                 let by_table = minimum_by_table(samples - 1, ends);
-                assert_eq!(by_table, list, "{trace:?} {tolerance:?}");
-                assert_eq!(fewest(ticks, values, tolerance), list.len());
+                assert_eq!(by_table, list, "{trace:?} {limits:?}");
+                assert_eq!(fewest(ticks, values, limits), list.len());
             }
         }
     }
@@ -586,25 +841,29 @@ mod tests {
             (5, 0, &[0, 1, 2, 3, 4]),
             (4_096, 0, &[0, 1, 2, 3, 4]),
         ] {
-            let least = least(&EVEN, &zigzag, allowance, 5).unwrap();
+            let least = least(&EVEN, &zigzag, None, allowance, 5).unwrap();
             assert_eq!((least.error, &least.list[..]), (fraction(p, 1), list));
         }
-        assert_eq!(least(&EVEN, &zigzag, 1, 5), Err((5, 0)));
-        assert_eq!(least(&[7], &[7], 2, 1).unwrap().list, [0]);
+        assert_eq!(least(&EVEN, &zigzag, None, 1, 5), Err((5, 0)));
+        assert_eq!(least(&[7], &[7], Some(1), 2, 1).unwrap().list, [0]);
     }
 
-    /// Trying every kept list and the tables agree.
+    /// Trying every kept list and the tables agree, also where no list is short enough.
     #[test]
     fn least_by_both() {
         let random = &mut Random::new(7);
+        let mut found = [0; 2];
         for _ in 0..1_000 {
             let samples = random.within(2, 10) as usize;
-            let Trace { ticks, values } = trace(random.choose(&KINDS), samples, random);
+            let (Trace { ticks, values }, gap) = any_limited(samples, random);
             for allowance in 2..=samples + 1 {
-                let error = least_of_all(&ticks, &values, allowance);
-                assert_eq!(least_by_table(&ticks, &values, allowance), error);
+                let error = least_of_all(&ticks, &values, Some(gap), allowance);
+                let by_table = least_by_table(&ticks, &values, Some(gap), allowance);
+                assert_eq!(by_table, error);
+                found[usize::from(error.is_some())] += 1;
             }
         }
+        assert!(found.iter().all(|&count| count > 200), "{found:?}");
     }
 
     #[test]

@@ -5,7 +5,7 @@
 //! - [`tolerance`], [`first`], [`short`], [`long`], [`end`]: the commands.
 //! - [`write()`], [`read`], [`same`]: the calls.
 
-use crate::{held, judge, Form, Fraction, Row, SAMPLES, SPAN};
+use crate::{held, judge, Form, Fraction, Limits, Row, SAMPLES, SPAN};
 
 /// The value of a range code.
 pub fn code_value(code: u8) -> i16 {
@@ -207,16 +207,17 @@ pub fn write(
     ticks: &[u32],
     values: &[i16],
     list: &[u16],
-    form: Form,
+    limits: impl Into<Limits<Form>>,
     size: usize,
     place: usize,
 ) -> Result<Vec<u8>, Row> {
-    if let Some(link) = judge(ticks, values, list, form)? {
+    let limits = limits.into();
+    if let Some(link) = judge(ticks, values, list, limits)? {
         return Err((7, link as u64));
     }
     let kept = |&k: &u16| (ticks[usize::from(k)], values[usize::from(k)]);
     let record = encode(&Content {
-        tolerance: held(form).ok_or((4, 0))?,
+        tolerance: limits.held()?.tolerance,
         samples: list.iter().map(kept).collect(),
     });
     // A place past the end counts as an empty part.
@@ -281,6 +282,18 @@ mod tests {
             samples: vec![(0, 0), (3, 1)],
         };
         assert_eq!(decode(&record), Ok(content));
+        // The gap limit is asked of the links and is not part of the record.
+        let under = |gap, size| {
+            let limits = Limits {
+                tolerance: Form::Ratio(4, 6),
+                gap: Some(gap),
+            };
+            write(&[0, 1, 3], &[0, 1, 1], &[0, 2], limits, size, 0)
+        };
+        assert_eq!(under(2, 22).as_deref(), Ok(&record[..]));
+        assert_eq!(under(2, 21), Err((10, 22)));
+        assert_eq!(under(1, 21), Err((7, 0)));
+        assert_eq!(under(0, 21), Err((15, 0)));
     }
 
     /// What is encoded is decoded again, and of changed bytes those are accepted that encode what they

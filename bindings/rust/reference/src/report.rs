@@ -1,6 +1,6 @@
 //! The report on a crate: the first request of document 02.
 
-use crate::{held, list_error, reduce, Form, Fraction, Method, Row};
+use crate::{list_error, reduce, Form, Fraction, Limits, Method, Row};
 
 /// The most channels of a crate.
 pub const CHANNELS: usize = 64;
@@ -31,13 +31,14 @@ pub fn report(
     ticks: &[u32],
     values: &[i16],
     lengths: &[usize],
-    form: Form,
+    limits: impl Into<Limits<Form>>,
     room: usize,
 ) -> Result<Report, Row> {
     if !is_crate(ticks, values, lengths) {
         return Err((11, 0));
     }
-    held(form).ok_or((4, 0))?;
+    let limits = limits.into();
+    limits.held()?;
     let channels = lengths.len();
     if room < channels {
         return Err((10, channels as u64));
@@ -50,7 +51,7 @@ pub fn report(
     };
     let (mut ticks, mut values) = (ticks, values);
     for &length in lengths {
-        let channel = channel(&ticks[..length], &values[..length], form);
+        let channel = channel(&ticks[..length], &values[..length], limits);
         report.channels.push(channel);
         report.samples += channel.samples;
         report.kept += channel.kept;
@@ -69,10 +70,10 @@ pub fn is_crate(ticks: &[u32], values: &[i16], lengths: &[usize]) -> bool {
     (1..=CHANNELS).contains(&lengths.len()) && adds_up(ticks.len()) && adds_up(values.len())
 }
 
-/// The summary of a channel with this trace, at an allowed tolerance.
-fn channel(ticks: &[u32], values: &[i16], form: Form) -> Channel {
+/// The summary of a channel with this trace, under allowed limits.
+fn channel(ticks: &[u32], values: &[i16], limits: Limits<Form>) -> Channel {
     let samples = ticks.len();
-    match reduce(Method::Walk, ticks, values, form, samples) {
+    match reduce(Method::Walk, ticks, values, limits, samples) {
         Ok(walk) => Channel {
             samples,
             kept: walk.list.len(),
@@ -98,7 +99,9 @@ mod tests {
         let ticks = [0, 1, 2, 3, 4, 5, 5, 7];
         let values = [0, 2, 0, -2, 0, 1, 1, 9];
         let two = Form::Ratio(2, 1);
-        let report = |lengths: &[usize], form, room| report(&ticks, &values, lengths, form, room);
+        let report = |lengths: &[usize], limits: Limits<Form>, room| {
+            report(&ticks, &values, lengths, limits, room)
+        };
         let row = |samples, kept, p, number| Channel {
             samples,
             kept,
@@ -116,11 +119,32 @@ mod tests {
             kept: 4,
             error: Fraction { p: 2, q: 1 },
         };
-        assert_eq!(report(&[5, 0, 2, 1], two, 4), Ok(expected));
-        assert_eq!(report(&[5, 0, 2, 1], two, 3), Err((10, 4)));
-        assert_eq!(report(&[5, 0, 2, 1], Form::Ratio(2, 0), 3), Err((4, 0)));
+        assert_eq!(report(&[5, 0, 2, 1], two.into(), 4), Ok(expected));
+        assert_eq!(report(&[5, 0, 2, 1], two.into(), 3), Err((10, 4)));
+        let none = |tolerance| Limits {
+            tolerance,
+            gap: Some(0),
+        };
+        assert_eq!(report(&[5, 0, 2, 1], none(two), 3), Err((15, 0)));
+        let none = none(Form::Ratio(2, 0));
+        assert_eq!(report(&[5, 0, 2, 1], none, 3), Err((4, 0)));
         for lengths in [&[5, 0, 2][..], &[5, 0, 2, 2], &[], &[usize::MAX, 9]] {
-            assert_eq!(report(lengths, Form::Ratio(2, 0), 0), Err((11, 0)));
+            assert_eq!(report(lengths, none, 0), Err((11, 0)));
+        }
+    }
+
+    /// The same ticks in two channels, of which the second has a longer step.
+    #[test]
+    fn holes() {
+        let (ticks, values) = ([0, 1, 2, 0, 1, 3], [0; 6]);
+        for (gap, kept) in [(1, [2, 3]), (2, [2, 2])] {
+            let limits = Limits {
+                tolerance: Form::Ratio(0, 1),
+                gap: Some(gap),
+            };
+            let report = report(&ticks, &values, &[3, 3], limits, 2).unwrap();
+            let found: Vec<_> = report.channels.iter().map(|row| row.kept).collect();
+            assert_eq!(found, kept, "{gap}");
         }
     }
 

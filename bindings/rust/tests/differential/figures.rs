@@ -1,9 +1,9 @@
-use kovrelna::Tolerance;
+use kovrelna::{Tolerance, GAP_MAX};
 use kovrelna_evidence::compare::{
     expand, expand_with, hold, judge, least, noise, ratio, read, reduce, write,
 };
 use kovrelna_reference::record::{end, first, long, short, tolerance, Content};
-use kovrelna_reference::{Fraction, Method, Reduced};
+use kovrelna_reference::{list_error, Fraction, Method, Reduced, METHODS};
 
 const EVEN: [u32; 5] = [0, 1, 2, 3, 4];
 const ZIGZAG: [i16; 5] = [0, 3, 0, 3, 0];
@@ -94,10 +94,63 @@ fn least_errors() {
         (4, 2, &[0, 3, 4]),
         (5, 0, &[0, 1, 2, 3, 4]),
     ] {
-        let least = least(&EVEN, &ZIGZAG, allowance, 5).unwrap();
+        let least = least(&EVEN, &ZIGZAG, GAP_MAX, allowance, 5).unwrap();
         let error = Fraction { p, q: 1 };
         assert_eq!((least.error, &least.list[..]), (error, list), "{allowance}");
     }
+}
+
+/// The example of document 02, "Dropouts": six samples, of which the middle two lie 8 ticks apart.
+#[test]
+fn holes() {
+    let (ticks, values) = ([0, 1, 2, 10, 11, 12], [0; 6]);
+    for (gap, list, probes) in [(7, &[0, 2, 3, 5][..], 7), (8, &[0, 5], 5)] {
+        for tolerance in [ratio(0, 1), Tolerance::Counts(2.5), noise(1_023.0, 63.0)] {
+            let limits = tolerance.with_gap(gap);
+            for method in METHODS {
+                let probes = if method == Method::Gallop { probes } else { 0 };
+                let list = list.to_vec();
+                assert_eq!(
+                    reduce(method, &ticks, &values, limits, 6),
+                    Ok(Reduced { list, probes }),
+                    "{method:?} {limits:?}"
+                );
+            }
+            assert_eq!(judge(&ticks, &values, list, limits), Ok(None));
+        }
+    }
+    let ends = judge(&ticks, &values, &[0, 5], ratio(0, 1).with_gap(7));
+    assert_eq!(ends, Ok(Some(0)));
+    let least = |gap, allowance| least(&ticks, &values, gap, allowance, 6);
+    assert_eq!(least(7, 2), Err((16, 0)));
+    assert_eq!(least(7, 3), Err((16, 0)));
+    for (gap, allowance, list) in [
+        (7, 4, &[0, 2, 3, 5][..]),
+        (7, 6, &[0, 2, 3, 5]),
+        (8, 2, &[0, 5]),
+    ] {
+        let least = least(gap, allowance).unwrap();
+        let error = Fraction { p: 0, q: 1 };
+        assert_eq!((least.error, &least.list[..]), (error, list), "{gap}");
+    }
+}
+
+/// A list that does not obey the gap limit may be shorter than those of walk and gallop and have a lesser
+/// error than half the tolerance.
+#[test]
+fn a_shorter_list_that_does_not_obey() {
+    let (ticks, values) = ([0, 2, 3], [0; 3]);
+    let limits = ratio(0, 1).with_gap(1);
+    for method in METHODS {
+        let kept = reduce(method, &ticks, &values, limits, 3).unwrap().list;
+        assert_eq!(kept, [0, 1, 2], "{method:?}");
+    }
+    assert_eq!(
+        list_error(&ticks, &values, &[0, 2]),
+        Fraction { p: 0, q: 1 }
+    );
+    assert_eq!(judge(&ticks, &values, &[0, 2], limits), Ok(Some(0)));
+    assert_eq!(judge(&ticks, &values, &[0, 2], ratio(0, 1)), Ok(None));
 }
 
 #[test]

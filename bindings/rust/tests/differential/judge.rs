@@ -1,6 +1,7 @@
+use kovrelna::GAP_MAX;
 use kovrelna_evidence::cases::judge_list;
 use kovrelna_evidence::compare::{judge, ratio};
-use kovrelna_reference::generate::{kept_list, trace, Random, Trace, KINDS};
+use kovrelna_reference::generate::{any_list, gap_limit, trace, Random, Trace, KINDS};
 
 use crate::SMALL_TOLERANCES;
 
@@ -12,8 +13,9 @@ fn random_traces() {
         for _ in 0..4_000 {
             let samples = random.within(1, 40) as usize;
             let trace = trace(kind, samples, random);
-            let list = kept_list(samples, random);
-            judge_list(&trace, &list, random, &mut answers);
+            let gap = gap_limit(&trace.ticks, random);
+            let list = any_list(&trace.ticks, gap, random);
+            judge_list(&trace, gap, &list, random, &mut answers);
         }
         assert!(
             answers.iter().all(|&count| count > 2_000),
@@ -30,10 +32,11 @@ fn long_traces() {
         for kind in KINDS {
             let trace = trace(kind, samples, random);
             let ends = [0, samples as u16 - 1];
-            judge_list(&trace, &ends, random, &mut answers);
+            judge_list(&trace, GAP_MAX, &ends, random, &mut answers);
             for _ in 0..10 {
-                let list = kept_list(samples, random);
-                judge_list(&trace, &list, random, &mut answers);
+                let gap = gap_limit(&trace.ticks, random);
+                let list = any_list(&trace.ticks, gap, random);
+                judge_list(&trace, gap, &list, random, &mut answers);
             }
         }
     }
@@ -48,7 +51,8 @@ fn nothing_between() {
         for samples in [1, 2] {
             let Trace { ticks, values } = trace(kind, samples, random);
             let list: Vec<u16> = (0..samples as u16).collect();
-            assert_eq!(judge(&ticks, &values, &list, ratio(0, 1)), Ok(None));
+            let limits = ratio(0, 1).with_gap(1);
+            assert_eq!(judge(&ticks, &values, &list, limits), Ok(None));
         }
     }
 }

@@ -1,11 +1,12 @@
 //! The library compared with the slow reference.
 //!
-//! - `figures`: document 01's figures.
+//! - `figures`: the figures of documents 01 and 02.
 //! - `refusals`: every row of the table that a call has, its value and its place in the order.
 //! - `hold`: tolerances in all forms.
 //! - `judge`: lists on random and adversarial traces.
 //! - `reduce`: walk, gallop and minimum on random and adversarial traces.
 //! - `least`: least errors on random and adversarial traces.
+//! - `gaps`: gap limits, on traces with holes in every place.
 //! - `codes`: range codes, with their own values and with those of a table.
 //! - `records`: records written, read, damaged and compared.
 //! - `report`: reports on crates.
@@ -13,6 +14,7 @@
 
 mod codes;
 mod figures;
+mod gaps;
 mod hold;
 mod judge;
 mod least;

@@ -1,7 +1,7 @@
 use kovrelna::Tolerance;
 use kovrelna_evidence::cases::{comparison, random_commands, round_trip};
 use kovrelna_evidence::compare::{exactly, read, same, write};
-use kovrelna_reference::generate::{content, trace, Random, KINDS};
+use kovrelna_reference::generate::{content, gap_limit, trace, Random, KINDS};
 use kovrelna_reference::record::{encode, end, first, long, short, tolerance};
 
 /// A record's number of samples, or its fault's byte.
@@ -325,7 +325,8 @@ fn round_trips() {
     for kind in KINDS {
         for _ in 0..3_000 {
             let trace = trace(kind, random.within(1, 40) as usize, random);
-            let written = round_trip(&trace, random);
+            let gap = gap_limit(&trace.ticks, random);
+            let written = round_trip(&trace, gap, random);
             seen[0] += written.records;
             seen[1] += written.refused;
             seen[2] += written.short_steps;

@@ -1,7 +1,7 @@
 //! The table of refusals: every row of every call, alone, together with every set of later rows, and at
 //! its limits.
 
-use kovrelna::{Refusal, Tolerance};
+use kovrelna::{Refusal, Tolerance, GAP_MAX};
 use kovrelna_evidence::calls::Call::{self, *};
 use kovrelna_evidence::calls::CALLS;
 use kovrelna_evidence::cases::random_faults;
@@ -20,6 +20,7 @@ struct Input {
     values: Vec<i16>,
     list: Vec<u16>,
     tolerance: Tolerance,
+    gap: u32,
     allowance: u64,
     codes: Vec<u8>,
     table: Vec<i16>,
@@ -38,8 +39,8 @@ struct Input {
     place: usize,
 }
 
-/// Eight samples, codes or channels, and outputs with exactly enough room: no call refuses it. The
-/// channels of the two runs have three samples each.
+/// Eight samples, codes or channels, and outputs with exactly enough room: no call refuses it. The least
+/// gap limit leaves no hole. The channels of the two runs have three samples each.
 fn accepted() -> Input {
     let run = Channels {
         ticks: (0..24).collect(),
@@ -54,6 +55,7 @@ fn accepted() -> Input {
         values: vec![0; 8],
         list: vec![0, 7],
         tolerance: ratio(0, 1),
+        gap: 1,
         allowance: 2,
         codes: vec![9; 8],
         table: (-100..156).collect(),
@@ -83,17 +85,18 @@ fn refused(call: Call, input: &Input) -> Option<Row> {
         ..
     } = input;
     let (tolerance, (room, second_room)) = (input.tolerance, input.rooms);
-    let reduced = |method| reduce(method, ticks, values, tolerance, room).err();
+    let limits = tolerance.with_gap(input.gap);
+    let reduced = |method| reduce(method, ticks, values, limits, room).err();
     match call {
         Hold => hold(tolerance).err(),
-        Judge => judge(ticks, values, list, tolerance).err(),
+        Judge => judge(ticks, values, list, limits).err(),
         Walk => reduced(Method::Walk),
         Gallop => reduced(Method::Gallop),
         Minimum => reduced(Method::Minimum),
-        Least => least(ticks, values, input.allowance, room).err(),
+        Least => least(ticks, values, input.gap, input.allowance, room).err(),
         Expand => expand(codes, room).err(),
         ExpandWith => expand_with(codes, table, room).err(),
-        Write => write(ticks, values, list, tolerance, input.size, input.place).err(),
+        Write => write(ticks, values, list, limits, input.size, input.place).err(),
         Read => read(record, room, second_room).err(),
         Same => same(record, second).err(),
         Report => {
@@ -102,7 +105,7 @@ fn refused(call: Call, input: &Input) -> Option<Row> {
                 values: values.clone(),
                 lengths: input.lengths.clone(),
             };
-            report(&channels, tolerance, room).err()
+            report(&channels, limits, room).err()
         }
         Pedestals => {
             let Input { today, before, .. } = input;
@@ -111,11 +114,12 @@ fn refused(call: Call, input: &Input) -> Option<Row> {
     }
 }
 
-/// The calls that take a trace, one of up to 4,096 samples, a tolerance, a list, codes; and those with
-/// an output of an entry for each sample, code or channel.
+/// The calls that take a trace, one of up to 4,096 samples, a tolerance, a gap limit, a list, codes; and
+/// those with an output of an entry for each sample, code or channel.
 const TRACES: &[Call] = &[Judge, Walk, Gallop, Minimum, Least, Write];
 const LONG_TRACES: &[Call] = &[Judge, Walk, Gallop, Minimum, Write];
 const TOLERANCES: &[Call] = &[Hold, Judge, Walk, Gallop, Minimum, Write, Report, Pedestals];
+const GAPS: &[Call] = &[Judge, Walk, Gallop, Minimum, Least, Write, Report];
 const LISTS: &[Call] = &[Judge, Write];
 const CODES: &[Call] = &[Expand, ExpandWith];
 const OUTPUTS: &[Call] = &[
@@ -147,6 +151,7 @@ const FAULTS: &[Fault] = &[
     (TOLERANCES, (4, 0), |input| {
         input.tolerance = Tolerance::Counts(f64::NAN)
     }),
+    (GAPS, (15, 0), |input| input.gap = 0),
     // The channels of pedestals' own rows are 1, 2, 3 and 4.
     (&[Pedestals], (1, 1), |input| {
         for run in [&mut input.today, &mut input.before] {
@@ -165,6 +170,10 @@ const FAULTS: &[Fault] = &[
         (input.before.lengths[4], input.before.lengths[5]) = (2, 4)
     }),
     (&[Least], (5, 0), |input| input.allowance = 1),
+    // A hole at the first step.
+    (&[Least], (16, 0), |input| {
+        input.ticks[1..].iter_mut().for_each(|tick| *tick += 1)
+    }),
     (LISTS, (6, 1), |input| input.list = vec![0, 0, 7]),
     (&[Write], (7, 0), |input| input.values[3] = 9),
     (&[Read, Same], (8, 16), |input| input.record.truncate(18)),
@@ -222,7 +231,9 @@ fn limits() {
         tables(),
         ticks(),
         tolerances(),
+        gaps(),
         allowances(),
+        holes(),
         lists(),
         links(),
         records(),
@@ -262,6 +273,7 @@ fn lengths() -> Vec<Entry> {
                     ticks: vec![5; samples],
                     list: Vec::new(),
                     tolerance: ratio(0, 0),
+                    gap: 0,
                     rooms: (0, 0),
                     size: 0,
                     ..input
@@ -362,6 +374,7 @@ fn ticks() -> Vec<Entry> {
             ticks: ticks.to_vec(),
             values: vec![0; 4],
             list: vec![0, 3],
+            gap: GAP_MAX,
             size: 100,
             ..accepted()
         };
@@ -397,6 +410,39 @@ fn tolerances() -> Vec<Entry> {
     cases.map(entry).to_vec()
 }
 
+fn gaps() -> Vec<Entry> {
+    let mut entries: Vec<Entry> = Vec::new();
+    for (gap, allowed) in [
+        (0, false),
+        (1, true),
+        (2, true),
+        (GAP_MAX - 1, true),
+        (GAP_MAX, true),
+        (GAP_MAX + 1, false),
+        (1 << 24 | 1, false),
+        (1 << 31, false),
+        (u32::MAX, false),
+    ] {
+        let row = (!allowed).then_some((15, 0));
+        let input = Input { gap, ..accepted() };
+        entries.push((GAPS, input.clone(), row));
+        if !allowed {
+            // Later rows fail too: the allowance, the list, its links and the room.
+            let mut input = Input {
+                allowance: 0,
+                rooms: (0, 0),
+                size: 0,
+                ..input
+            };
+            input.values[3] = 9;
+            entries.push((GAPS, input.clone(), row));
+            input.list.clear();
+            entries.push((GAPS, input, row));
+        }
+    }
+    entries
+}
+
 /// Allowances, and the lengths of traces for least.
 fn allowances() -> Vec<Entry> {
     let mut entries: Vec<Entry> = Vec::new();
@@ -425,6 +471,66 @@ fn allowances() -> Vec<Entry> {
             ..accepted()
         };
         entries.push((&[Least], input, (!allowed).then_some((1, 0))));
+    }
+    entries
+}
+
+/// Steps, a gap limit, and the fewest samples of a kept list that obeys it: with so many as the allowance
+/// nothing is refused, with one less every list is too long.
+fn holes() -> Vec<Entry> {
+    let longest: &[u32] = &[2; 255];
+    let cases: [(&[u32], u32, u64); 20] = [
+        // None, or a single step.
+        (&[], 1, 2),
+        (&[1], 1, 2),
+        (&[GAP_MAX], 1, 2),
+        (&[GAP_MAX], GAP_MAX - 1, 2),
+        // No hole, and steps that are exactly the gap limit.
+        (&[5, 5, 5, 5], 5, 2),
+        (&[1, 1, 1, 1], GAP_MAX, 2),
+        // One hole: at the first step, at the last and between.
+        (&[6, 5, 5, 5], 5, 3),
+        (&[5, 5, 5, 6], 5, 3),
+        (&[5, 6, 5, 5], 5, 4),
+        (&[6, 5], 5, 3),
+        (&[5, 6], 5, 3),
+        (&[1, 1, 1_048_572, 1], 1_048_571, 4),
+        // Two holes: in a row, with one sample between them, and with two.
+        (&[5, 6, 6, 5], 5, 5),
+        (&[5, 6, 5, 6, 5], 5, 6),
+        (&[5, 6, 5, 5, 6, 5], 5, 6),
+        (&[6, 5, 5, 5, 6], 5, 4),
+        (&[6, 6, 5, 5, 5], 5, 4),
+        // Every step.
+        (&[6, 6], 5, 3),
+        (&[2, 3, 2, 9, 2], 1, 6),
+        (longest, 1, 256),
+    ];
+    let mut entries: Vec<Entry> = Vec::new();
+    for (steps, gap, fewest) in cases {
+        let mut ticks = vec![7];
+        for step in steps {
+            ticks.push(ticks[ticks.len() - 1] + step);
+        }
+        let samples = ticks.len();
+        for allowance in [fewest - 1, fewest, fewest + 1, 4_096] {
+            let enough = allowance >= fewest;
+            // An allowance of 1 is never allowed.
+            let number = if allowance == 1 { 5 } else { 16 };
+            for room in [0, samples] {
+                let short = (room == 0).then_some((10, samples as u64));
+                let input = Input {
+                    ticks: ticks.clone(),
+                    values: (0..samples as i16).map(|k| k % 7).collect(),
+                    gap,
+                    allowance,
+                    rooms: (room, 0),
+                    ..accepted()
+                };
+                let row = if enough { short } else { Some((number, 0)) };
+                entries.push((&[Least], input, row));
+            }
+        }
     }
     entries
 }
@@ -480,11 +586,14 @@ fn lists() -> Vec<Entry> {
         if row.is_some() {
             // Invalid links before the bad entry do not matter, nor does the room.
             let values = vec![0, 9, 0, 8, 1, 9];
-            let input = Input {
+            let mut input = Input {
                 values,
                 size: 0,
                 ..input
             };
+            entries.push((LISTS, input.clone(), row));
+            // Nor do holes.
+            input.ticks.iter_mut().for_each(|tick| *tick *= 2);
             entries.push((LISTS, input, row));
         }
     }
@@ -551,6 +660,27 @@ fn links() -> Vec<Entry> {
             entries.push((&[Write], input, row.or(room)));
         }
     }
+    // Every link crosses a hole, of 2 ticks in the first to 5 in the last.
+    for (gap, link) in [
+        (1, Some(0)),
+        (2, Some(1)),
+        (3, Some(2)),
+        (4, Some(3)),
+        (5, None),
+    ] {
+        let row = link.map(|link| (7, link));
+        for (size, room) in [(31, None), (30, Some((10, 31)))] {
+            let input = Input {
+                ticks: vec![0, 1, 3, 4, 7, 8, 12, 13, 18],
+                values: vec![0; 9],
+                list: vec![0, 2, 4, 6, 8],
+                gap,
+                size,
+                ..accepted()
+            };
+            entries.push((&[Write], input, row.or(room)));
+        }
+    }
     entries
 }
 
@@ -599,6 +729,7 @@ fn crates() -> Vec<Entry> {
             // Later rows fail too.
             let input = Input {
                 tolerance: ratio(0, 0),
+                gap: 0,
                 rooms: (0, 0),
                 ..input
             };
@@ -793,7 +924,9 @@ fn numbers() {
         (Refusal::Tick(21), 2, 21),
         (Refusal::Span(31), 3, 31),
         (Refusal::Tolerance, 4, 0),
+        (Refusal::Gap, 15, 0),
         (Refusal::Allowance, 5, 0),
+        (Refusal::Holes, 16, 0),
         (Refusal::List(61), 6, 61),
         (Refusal::Link(71), 7, 71),
         (Refusal::Record(81), 8, 81),
@@ -817,6 +950,11 @@ fn numbers() {
         );
     }
     for (refusal, part) in [
+        (Refusal::Gap, "the gap limit is below 1 or above 1,048,575"),
+        (
+            Refusal::Holes,
+            "every list that obeys the gap limit has more samples than the allowance",
+        ),
         (Refusal::Table(0), "256 values"),
         (channel(1, 5), "channel 5: no samples"),
         (channel(2, 5), "channel 5: a tick"),

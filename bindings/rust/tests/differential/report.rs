@@ -1,14 +1,16 @@
 //! Reports on crates: random ones, the smallest and the largest, and what holds of each channel.
 
+use kovrelna::GAP_MAX;
 use kovrelna_evidence::calls::Call;
 use kovrelna_evidence::cases::crates;
 use kovrelna_evidence::compare::{exactly, judge, ratio, reduce, report};
 use kovrelna_evidence::reductions::any_tolerance;
 use kovrelna_reference::generate::{
-    channels, crate_of, just_below, trace, Channels, Random, Trace, KINDS,
+    channels, crate_of, gap_limit, just_below, trace, with_holes, Channels, Random, Trace, HOLES,
+    KINDS,
 };
 use kovrelna_reference::report::{Channel, Report, CHANNELS};
-use kovrelna_reference::{Fraction, Method, TOLERANCE};
+use kovrelna_reference::{list_error, Fraction, Method, TOLERANCE};
 
 fn whole(p: i128) -> Fraction {
     Fraction { p, q: 1 }
@@ -57,26 +59,31 @@ fn random_crates() {
 }
 
 /// Each summary is that of a crate of this channel alone. It has the number with which walk refuses the
-/// trace; or walk's kept number, and the least tolerance at which judge passes walk's list. The totals
-/// are those of the summaries.
+/// trace; or walk's kept number, and the least tolerance at which judge passes walk's list, all under the
+/// same gap limit. The totals are those of the summaries.
 #[test]
 fn each_channel() {
     let random = &mut Random::new(32);
     // Summaries with 0 and with each refusal's number; the largest error is that of the first channel,
     // of the last, and of another.
     let (mut numbers, mut largest) = ([0; 4], [0; 3]);
+    // Reports to which the gap limit matters.
+    let mut matters = 0;
     for _ in 0..1_000 {
         let count = random.within(1, 6) as usize;
         let channels = channels(count, 30, random);
-        let tolerance = any_tolerance(random);
-        let report = |channels: &Channels| report(channels, tolerance, count).unwrap();
+        let gap = gap_limit(&channels.ticks, random);
+        let limits = any_tolerance(random).with_gap(random.choose(&[gap, GAP_MAX]));
+        let unlimited = report(&channels, limits.tolerance, count).unwrap();
+        let report = |channels: &Channels| report(channels, limits, count).unwrap();
         let all = report(&channels);
+        matters += usize::from(all != unlimited);
         for (trace, channel) in channels.traces().iter().zip(&all.channels) {
             let alone = report(&crate_of(std::slice::from_ref(trace)));
             assert_eq!(alone.channels, [*channel]);
             numbers[channel.number as usize] += 1;
             let Trace { ticks, values } = trace;
-            let list = match reduce(Method::Walk, ticks, values, tolerance, ticks.len()) {
+            let list = match reduce(Method::Walk, ticks, values, limits, ticks.len()) {
                 Ok(reduced) => reduced.list,
                 Err((number, _)) => {
                     let error = whole(0);
@@ -92,8 +99,10 @@ fn each_channel() {
                 }
             };
             assert_eq!((channel.samples, channel.kept), (ticks.len(), list.len()));
-            let passes =
-                |error| judge(ticks, values, &list, exactly(error)).map(|link| link.is_none());
+            let passes = |error| {
+                let limits = exactly(error).with_gap(limits.gap);
+                judge(ticks, values, &list, limits).map(|link| link.is_none())
+            };
             assert_eq!(passes(channel.error), Ok(true));
             if channel.error.p > 0 {
                 assert_eq!(passes(just_below(channel.error)), Ok(false));
@@ -112,6 +121,28 @@ fn each_channel() {
     }
     assert!(numbers.iter().all(|&seen| seen > 100), "{numbers:?}");
     assert!(largest.iter().all(|&seen| seen > 100), "{largest:?}");
+    assert!(matters > 100, "{matters}");
+}
+
+/// A crate of traces with holes in every place, under each of their gap limits.
+#[test]
+fn holes() {
+    let random = &mut Random::new(36);
+    for _ in 0..100 {
+        let limited = HOLES.map(|holes| {
+            let samples = random.within(1, 40) as usize;
+            with_holes(holes, samples, random)
+        });
+        let channels = crate_of(&limited.each_ref().map(|(trace, _)| trace.clone()));
+        let tolerance = any_tolerance(random);
+        for (channel, (Trace { ticks, values }, gap)) in limited.iter().enumerate() {
+            let limits = tolerance.with_gap(*gap);
+            let row = report(&channels, limits, HOLES.len()).unwrap().channels[channel];
+            let walk = reduce(Method::Walk, ticks, values, limits, ticks.len()).unwrap();
+            assert_eq!((row.samples, row.kept), (ticks.len(), walk.list.len()));
+            assert_eq!(row.error, list_error(ticks, values, &walk.list));
+        }
+    }
 }
 
 /// The largest crates: 64 channels of 4,096 samples of every kind, with the greatest totals at tolerance

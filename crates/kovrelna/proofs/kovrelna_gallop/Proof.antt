@@ -1,13 +1,13 @@
 -- `kovrelna::kovrelna_gallop` meets its contract: it has the outcome of the public call. Assumes nothing.
 use mathlib.Core.Path.{subst}
 use Rattle.engine.specs.Reduce.{GallopOutcome}
-use Rattle.tolerance.specs.declared.Tolerance.{Tolerance}
+use Rattle.engine.specs.declared.Limits.{Limits}
 use borrow.Author.Needs.{needs}
 use Rattle.kovrelna.proofs.kovrelna_gallop.Statement.{statement}
 use Rattle.kovrelna.proofs.kovrelna_gallop.Tie as tie
 
-tolerance-of-requires : tie.Need-tolerance-of-requires
-tolerance-of-requires c κs = search needs
+limits-of-requires : tie.Need-limits-of-requires
+limits-of-requires c κs = search needs
 
 gallop-requires : tie.Need-gallop-requires
 gallop-requires c κs = search needs
@@ -25,10 +25,10 @@ returns c =
     record {
       answer = called .gallop .result;
       is = c .galloped-of .ensures;
-      outcome = subst (λ (x : Tolerance). GallopOutcome (a .ticks .now) (a .values .now) x (a .out .now) (called .gallop .result) (called .gallop .last .1 .1 .1 .0)) (called .before .before .tolerance-of .ensures) (called .gallop .ensures);
+      outcome = subst (λ (x : Limits). GallopOutcome (a .ticks .now) (a .values .now) x (a .out .now) (called .gallop .result) (called .gallop .last .1 .1 .1 .0)) (called .before .before .limits-of .ensures) (called .gallop .ensures);
     }
 
 pub kovrelna-gallop-spec : {M : Type 1} → statement M
 kovrelna-gallop-spec =
     tie.close
-    (tie.spec tolerance-of-requires gallop-requires galloped-of-requires same-length returns)
+    (tie.spec limits-of-requires gallop-requires galloped-of-requires same-length returns)

@@ -37,9 +37,9 @@ use denote.Triple.Table.{entered, cited}
 use denote.Triple.Walked.{says, Stays, stay-none, stay-none-slice, gave-slice, walkOf, goes-none, goes-none-slice, goes-gave-slice, Walks, ends-at, walked, walk-meets}
 use denote.Exit.{yes}
 use denote.Signature.{plain}
-use Rattle.kovrelna.specs.declared.Tolerance.{Tolerance}
-use Rattle.kovrelna.proofs.Tolerance as L
-use Rattle.kovrelna.proofs.Tolerance.Laws as L′
+use Rattle.kovrelna.specs.declared.Limits.{Limits}
+use Rattle.kovrelna.proofs.Limits as L
+use Rattle.kovrelna.proofs.Limits.Laws as L′
 use Rattle.sheet.specs.declared.Summary.{Summary}
 use Rattle.kovrelna.specs.declared.Report.{Report}
 use Rattle.sheet.specs.declared.Sheet.{Sheet}
@@ -58,7 +58,7 @@ use Rattle.kovrelna.proofs.report_of.Symbol as report-of-def
 use Rattle.kovrelna.proofs.report_of.Symbol.{name as #kovrelna·report-of}
 use Rattle.kovrelna.proofs.report_of.Met as report-of-thm
 use Rattle.engine.specs.Report.{ReportOutcome, Surveyed}
-use Rattle.kovrelna.specs.Border.{toleranceOf, reportOf, ReportExport}
+use Rattle.kovrelna.specs.Border.{limitsOf, reportOf, ReportExport}
 use Rattle.kovrelna.proofs.border_sheet as border-sheet
 use Rattle.kovrelna.proofs.border_sheet.Symbol as border-sheet-def
 use Rattle.kovrelna.proofs.border_sheet.Symbol.{name as #kovrelna·border-sheet}
@@ -86,7 +86,7 @@ module _ {M : Type 1} (𝓤 : URA M) (H : Heap 𝓤) (A : Atoms 𝓤) (mem : Mem
   ReportOf = tripleOf 𝓤 H A report-of.signature (report-of.spec 𝓤 H A mem run)
 
 module _ {M : Type 1} (𝓤 : URA M) (H : Heap 𝓤) (A : Atoms 𝓤) (W : Given 𝓤 H A) (mem : Memory → SProp 𝓤) (run : Routine → Fun 𝓤) (κ₀ κ₁ κ₂ κ₃ : Lft) (q₀ q₁ q₂ q₃ : Share)
-    (ts : RefT (List ℕ)) (vs : RefT (List ℤ)) (ls : RefT (List ℕ)) (t : Tolerance) (b o : ℕ) (γ : GName) (ys : List Summary)
+    (ts : RefT (List ℕ)) (vs : RefT (List ℤ)) (ls : RefT (List ℕ)) (t : Limits) (b o : ℕ) (γ : GName) (ys : List Summary)
     (room-t : Room u32 (length (ts .now))) (room-v : Room i16 (length (vs .now))) (room-l : Room usize (length (ls .now))) (is-t : Is L.the-row t (LL.vals L.the-type L′.the-laws t)) (room : Room R (length ys)) where
   abbrev x : RefT (List Summary)
   x = record { ptr = (b, o); name = γ; now = ys }
@@ -124,7 +124,7 @@ module _ {M : Type 1} (𝓤 : URA M) (H : Heap 𝓤) (A : Atoms 𝓤) (W : Given
   tokens = ‵ (flft κ₀ q₀) ⊛ (‵ (flft κ₁ q₁) ⊛ (‵ (flft κ₂ q₂) ⊛ ‵ ftrue))
 
   abbrev Arg : Type 0
-  Arg = RefT (List ℕ) × (RefT (List ℤ) × (RefT (List ℕ) × (Tolerance × (RefT (List Summary) × Unit {0}))))
+  Arg = RefT (List ℕ) × (RefT (List ℤ) × (RefT (List ℕ) × (Limits × (RefT (List Summary) × Unit {0}))))
 
   abbrev a : Arg
   a = (ts, (vs, (ls, (t, (x, tt)))))
@@ -150,7 +150,7 @@ module _ {M : Type 1} (𝓤 : URA M) (H : Heap 𝓤) (A : Atoms 𝓤) (W : Given
 
   -- `border_sheet`
   abbrev Given-args : Type 0
-  Given-args = RefT (List ℕ) × (RefT (List ℤ) × (RefT (List ℕ) × (Tolerance × (ℕ × Unit {0}))))
+  Given-args = RefT (List ℕ) × (RefT (List ℤ) × (RefT (List ℕ) × (Limits × (ℕ × Unit {0}))))
 
   abbrev given : Given-args
   given = (ts, (vs, (ls, (t, (n, tt)))))
@@ -167,14 +167,14 @@ module _ {M : Type 1} (𝓤 : URA M) (H : Heap 𝓤) (A : Atoms 𝓤) (W : Given
   goes-sheet : ent 𝓤 (⋆ 𝓤 H A (tokens ∷ ‵ given-owns ∷ [])) (BorderSheet 𝓤 H A mem run .pre to-sheet)
   goes-sheet = qed W (tokens ∷ ‵ given-owns ∷ []) ∵ join ! $ frame ! $ done !
 
-  sheet-is : (h : Sheet) → ent 𝓤 (ensured 𝓤 H A border-sheet.ended (border-sheet.clauses 𝓤 H A mem run) (κ₀, (κ₁, (κ₂, tt))) given tt h) (fact 𝓤 (Surveyed (ts .now) (vs .now) (ls .now) (toleranceOf t) n h))
-  sheet-is h = exE 𝓤 _ (λ ws. snd∗ 𝓤 (sem 𝓤 H A (lasts border-sheet.ended (κ₀, (κ₁, (κ₂, tt))) given ws)) (fact 𝓤 (Surveyed (ts .now) (vs .now) (ls .now) (toleranceOf t) n h)))
+  sheet-is : (h : Sheet) → ent 𝓤 (ensured 𝓤 H A border-sheet.ended (border-sheet.clauses 𝓤 H A mem run) (κ₀, (κ₁, (κ₂, tt))) given tt h) (fact 𝓤 (Surveyed (ts .now) (vs .now) (ls .now) (limitsOf t) n h))
+  sheet-is h = exE 𝓤 _ (λ ws. snd∗ 𝓤 (sem 𝓤 H A (lasts border-sheet.ended (κ₀, (κ₁, (κ₂, tt))) given ws)) (fact 𝓤 (Surveyed (ts .now) (vs .now) (ls .now) (limitsOf t) n h)))
 
   -- `fill`, at the sheet h with the machine value w
   abbrev to-fill : Sheet → Val → Fill 𝓤 H A mem run .Ghost
   to-fill h w = (((κ₃, tt), (q₃, tt), tt, (x, (h, tt)), (s ∷ [], (w ∷ [], tt))), tt)
 
-  goes-fill : (h : Sheet) (w : Val) → Is S.the-row h (w ∷ []) → Surveyed (ts .now) (vs .now) (ls .now) (toleranceOf t) n h → ent 𝓤 (sep 𝓤 (sep 𝓤 (A .lft κ₃ q₃) (sem 𝓤 H A ftrue)) (sem 𝓤 H A (MutSlice (named 3) κ₃ R .own x (s ∷ [])))) (Fill 𝓤 H A mem run .pre (to-fill h w))
+  goes-fill : (h : Sheet) (w : Val) → Is S.the-row h (w ∷ []) → Surveyed (ts .now) (vs .now) (ls .now) (limitsOf t) n h → ent 𝓤 (sep 𝓤 (sep 𝓤 (A .lft κ₃ q₃) (sem 𝓤 H A ftrue)) (sem 𝓤 H A (MutSlice (named 3) κ₃ R .own x (s ∷ [])))) (Fill 𝓤 H A mem run .pre (to-fill h w))
   goes-fill h w is sv =
       qed W ((‵ (flft κ₃ q₃) ⊛ ‵ ftrue) ∷ ‵ (MutSlice (named 3) κ₃ R .own x (s ∷ [])) ∷ []) ∵ says ! (sv .fits) $ frame ! $
       nothing ! $ owned ! S.the-row (Is S.the-row) ((LL.makes S.the-type S′.the-plain) 𝓤 H A) h _ is $ fjoin ! $ move ! (1 ∷ 0 ∷ []) $ fjoin ! $ done !
@@ -190,8 +190,8 @@ module _ {M : Type 1} (𝓤 : URA M) (H : Heap 𝓤) (A : Atoms 𝓤) (W : Given
   answer-is h r = exE 𝓤 _ (λ ws. snd∗ 𝓤 (sem 𝓤 H A (lasts report-of.ended tt (h, tt) ws)) (fact 𝓤 (r ≡ reportOf (h .answer))))
 
   -- the contract, from what the callees ensure
-  outcome : {h : Sheet} {r : Report} {zs : List Summary} → Surveyed (ts .now) (vs .now) (ls .now) (toleranceOf t) n h → zs ≡ filled h ys → r ≡ reportOf (h .answer) → Outcome r zs
-  outcome {h} {r} {zs} sv e d = record { answer = h .answer; is = d; outcome = subst (λ (l : List Summary). ReportOutcome (ts .now) (vs .now) (ls .now) (toleranceOf t) ys (h .answer) l) (sym e) (sv .outcome ys refl) }
+  outcome : {h : Sheet} {r : Report} {zs : List Summary} → Surveyed (ts .now) (vs .now) (ls .now) (limitsOf t) n h → zs ≡ filled h ys → r ≡ reportOf (h .answer) → Outcome r zs
+  outcome {h} {r} {zs} sv e d = record { answer = h .answer; is = d; outcome = subst (λ (l : List Summary). ReportOutcome (ts .now) (vs .now) (ls .now) (limitsOf t) ys (h .answer) l) (sym e) (sv .outcome ys refl) }
 
   module _ (C : Calls 𝓤 H) (Λ : Loops 𝓤 H) (fm : FmC 𝓤 H (W .laws) C) (known-sheet : Triple 𝓤 (C #kovrelna·border-sheet) (BorderSheet 𝓤 H A mem run)) (known-fill : Triple 𝓤 (C #sheet·fill) (Fill 𝓤 H A mem run)) (known-answer : Triple 𝓤 (C #kovrelna·report-of) (ReportOf 𝓤 H A mem run)) where
     walk : ent 𝓤 (onEntry 𝓤 H A f.signature (κ₀, (κ₁, (κ₂, (κ₃, tt)))) (q₀, (q₁, (q₂, (q₃, tt)))) a vals) (WpFn 𝓤 H C Λ code.function (s-t ∷ s-v ∷ s-l ∷ m-t ∷ s ∷ []) Post)
@@ -217,7 +217,7 @@ module _ {M : Type 1} (𝓤 : URA M) (H : Heap 𝓤) (A : Atoms 𝓤) (W : Given
         -- [what it asks; κ₃'s token; the list; lengths; values; ticks; _10; …]
         calls-at ! fm (BorderSheet 𝓤 H A mem run) known-sheet to-sheet (and-then ! (load ! (from ! (stop !)) (look ! 24 refl)) (and-then ! (load ! (from ! (stop !)) (look ! 22 refl)) (and-then ! (load ! (from ! (stop !)) (look ! 20 refl)) (and-then ! (load ! (from ! (stop !)) (look ! 18 refl)) (and-then ! (load ! (from ! (stop !)) (look ! 12 refl)) (no-more !)))))) (λ w.
         use1 W (later (some (λ (h : Sheet). (tokens ⊛ ‵ (S.the-row .own h (w ∷ []))) ⊛ raw (ensured 𝓤 H A border-sheet.ended (border-sheet.clauses 𝓤 H A mem run) (κ₀, (κ₁, (κ₂, tt))) given tt h)))) (id⊢ 𝓤 _) $ await ! tt $ pick ! (λ h.
-        split ! $ move ! (1 ∷ []) $ use1 W (raw (fact 𝓤 (Surveyed (ts .now) (vs .now) (ls .now) (toleranceOf t) n h))) (sheet-is h) $ heard ! (Surveyed (ts .now) (vs .now) (ls .now) (toleranceOf t) n h) (λ sv. split ! $ move ! (1 ∷ []) $ peeks ! S.the-row (Is S.the-row) (shows 𝓤 H A S.the-row) h (w ∷ []) (λ is.
+        split ! $ move ! (1 ∷ []) $ use1 W (raw (fact 𝓤 (Surveyed (ts .now) (vs .now) (ls .now) (limitsOf t) n h))) (sheet-is h) $ heard ! (Surveyed (ts .now) (vs .now) (ls .now) (limitsOf t) n h) (λ sv. split ! $ move ! (1 ∷ []) $ peeks ! S.the-row (Is S.the-row) (shows 𝓤 H A S.the-row) h (w ∷ []) (λ is.
         -- [what the sheet owns; the tokens; κ₃'s; the list; lengths; values; ticks; _10; …]
         land ! (from ! (stop !)) (init ! 15 refl (LL.lawful S.the-type S′.the-laws 𝓤 H A W .typed h _ is .0)) $
         assigns ! (addr ! (from ! (fld ! refl (hop ! (look-in ! 17 (sub ! 0 refl (whole !))) (stop !))))) (from ! (stop !)) (init ! 9 refl (tt, tt)) $

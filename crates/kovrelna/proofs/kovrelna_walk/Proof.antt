@@ -1,13 +1,13 @@
 -- `kovrelna::kovrelna_walk` meets its contract: it has the outcome of the public call. Assumes nothing.
 use mathlib.Core.Path.{subst}
 use Rattle.engine.specs.Reduce.{WalkOutcome}
-use Rattle.tolerance.specs.declared.Tolerance.{Tolerance}
+use Rattle.engine.specs.declared.Limits.{Limits}
 use borrow.Author.Needs.{needs}
 use Rattle.kovrelna.proofs.kovrelna_walk.Statement.{statement}
 use Rattle.kovrelna.proofs.kovrelna_walk.Tie as tie
 
-tolerance-of-requires : tie.Need-tolerance-of-requires
-tolerance-of-requires c κs = search needs
+limits-of-requires : tie.Need-limits-of-requires
+limits-of-requires c κs = search needs
 
 walk-requires : tie.Need-walk-requires
 walk-requires c κs = search needs
@@ -25,9 +25,9 @@ returns c =
     record {
       answer = called .walk .result;
       is = c .kept-of .ensures;
-      outcome = subst (λ (x : Tolerance). WalkOutcome (a .ticks .now) (a .values .now) x (a .out .now) (called .walk .result) (called .walk .last .1 .1 .1 .0)) (called .before .before .tolerance-of .ensures) (called .walk .ensures);
+      outcome = subst (λ (x : Limits). WalkOutcome (a .ticks .now) (a .values .now) x (a .out .now) (called .walk .result) (called .walk .last .1 .1 .1 .0)) (called .before .before .limits-of .ensures) (called .walk .ensures);
     }
 
 pub kovrelna-walk-spec : {M : Type 1} → statement M
 kovrelna-walk-spec =
-    tie.close (tie.spec tolerance-of-requires walk-requires kept-of-requires same-length returns)
+    tie.close (tie.spec limits-of-requires walk-requires kept-of-requires same-length returns)

@@ -1,13 +1,13 @@
 -- `kovrelna::kovrelna_write` meets its contract: it has the outcome of the public call. Assumes nothing.
 use mathlib.Core.Path.{subst}
 use Rattle.engine.specs.Write.{WriteOutcome}
-use Rattle.tolerance.specs.declared.Tolerance.{Tolerance}
+use Rattle.engine.specs.declared.Limits.{Limits}
 use borrow.Author.Needs.{needs}
 use Rattle.kovrelna.proofs.kovrelna_write.Statement.{statement}
 use Rattle.kovrelna.proofs.kovrelna_write.Tie as tie
 
-tolerance-of-requires : tie.Need-tolerance-of-requires
-tolerance-of-requires c κs = search needs
+limits-of-requires : tie.Need-limits-of-requires
+limits-of-requires c κs = search needs
 
 write-requires : tie.Need-write-requires
 write-requires c κs = search needs
@@ -26,10 +26,10 @@ returns c =
     record {
       answer = called .write .result;
       is = c .written-of .ensures;
-      outcome = subst (λ (x : Tolerance). WriteOutcome (a .ticks .now) (a .values .now) (a .list .now) x (a .buffer .now) (a .place) (called .write .result) (called .write .last .1 .1 .1 .1 .0)) (k .tolerance-of .ensures) (called .write .ensures);
+      outcome = subst (λ (x : Limits). WriteOutcome (a .ticks .now) (a .values .now) (a .list .now) x (a .buffer .now) (a .place) (called .write .result) (called .write .last .1 .1 .1 .1 .0)) (k .limits-of .ensures) (called .write .ensures);
     }
 
 pub kovrelna-write-spec : {M : Type 1} → statement M
 kovrelna-write-spec =
     tie.close
-    (tie.spec tolerance-of-requires write-requires written-of-requires same-length returns)
+    (tie.spec limits-of-requires write-requires written-of-requires same-length returns)

@@ -6,18 +6,15 @@ use native.Mathlib.Omega.{arith}
 use lib.ListN.{getD}
 use borrow.Author.Needs.{needs}
 use borrow.Author.Tests.{not-true}
-use Rattle.shortest.proofs.ShortestLaws.{Scanning, scanning-none, edge-requires, end-tilt, end-slope, end-room, scanning-first, scanning-valid, scanning-invalid, scanned-all, scanned-empty}
+use Rattle.shortest.proofs.ShortestLaws.{Scanning, first-end, scanning-none, edge-requires, end-tilt, end-slope, end-room, scanning-first, scanning-valid, scanning-invalid, scanned-all, scanned-empty}
 use Rattle.shortest.proofs.next_stop.Statement.{statement}
 use Rattle.shortest.proofs.next_stop.Tie as tie
 
 abbrev Inv-loop : tie.InvT-loop
-Inv-loop ticks values c links i last from first cone₀ b₀ j₀ cone b j = Scanning ticks values c i cone (b .sample) j × (b .links ≡ getD links (b .sample) 0)
+Inv-loop ticks values c links i limit from first cone₀ b₀ j₀ cone b j = Scanning ticks values c i cone (b .sample) j × (b .links ≡ getD links (b .sample) 0)
 
 abbrev μ-loop : tie.MeasureT-loop
-μ-loop ticks values c links i last from first cone₀ b₀ j₀ cone b j = last + 1 - j
-
-sub-last : tie.Need-sub-last Inv-loop μ-loop
-sub-last c = search needs
+μ-loop ticks values c links i limit from first cone₀ b₀ j₀ cone b j = limit + 1 - j
 
 start-at-requires : tie.Need-start-at-requires Inv-loop μ-loop
 start-at-requires c κs = search needs
@@ -28,16 +25,16 @@ add-first c = search needs
 edge-to-requires : tie.Need-edge-to-requires Inv-loop μ-loop
 edge-to-requires c κs =
     let pre = c .before .before .before .pre in
-    edge-requires pre (scanning-none pre (c .start-at .ensures)) (search needs) (c .start-at .ensures)
+    edge-requires pre (scanning-none pre (c .start-at .ensures)) (first-end pre) (c .start-at .ensures)
 
 cone-of-requires : tie.Need-cone-of-requires Inv-loop μ-loop
 cone-of-requires c κs =
     let s = c .before in
     let pre = s .before .before .before .pre in
-    end-tilt pre (scanning-none pre (s .start-at .ensures)) (search needs) (s .start-at .ensures) (c .edge-to .ensures)
+    end-tilt pre (scanning-none pre (s .start-at .ensures)) (first-end pre) (s .start-at .ensures) (c .edge-to .ensures)
 
-mul-t13 : tie.Need-mul-t13 Inv-loop μ-loop
-mul-t13 c = search needs
+mul-t14 : tie.Need-mul-t14 Inv-loop μ-loop
+mul-t14 c = search needs
 
 shared-slice-read-t16 : tie.Need-shared-slice-read-t16 Inv-loop μ-loop
 shared-slice-read-t16 c = let pre = c .before .before .before .before .before .before .pre in omega (arith, pre .inside, pre .counted .links-room)
@@ -124,12 +121,11 @@ next-stop-spec =
     (tie.spec
     Inv-loop
     μ-loop
-    sub-last
     start-at-requires
     add-first
     edge-to-requires
     cone-of-requires
-    mul-t13
+    mul-t14
     shared-slice-read-t16
     add-j
     loop-holds

@@ -2,6 +2,7 @@
 
 use super::{done, fails, folder, path, run, shipped, told, written, WAVE};
 use kovrelna_reference::generate::{any_trace, Random, Trace};
+use kovrelna_reference::{Form, Limits};
 use std::fs;
 
 /// The numbers of a line, and its name; -1 for `-`.
@@ -18,18 +19,24 @@ pub fn row(line: &str) -> (Vec<i64>, String) {
     (fields.into_iter().map(number).collect(), name)
 }
 
-/// The command prints these counts of random traces at a tolerance p/q, and their sums.
-pub fn compare(command: &str, seed: u64, counts: impl Fn(&Trace, u64, u64) -> Vec<usize>) {
+/// The command prints these counts of random traces under limits, and their sums.
+pub fn compare(command: &str, seed: u64, counts: impl Fn(&Trace, Limits<Form>) -> Vec<usize>) {
     let folder = folder(&format!("{command}_as_the_reference"));
     let mut random = Random::new(seed);
-    for (p, q) in [
-        (0, 1),
-        (5, 1),
-        (3, 2),
-        (2, 1_048_575),
-        (100, 7),
-        (1, 524_287),
+    for (p, q, gap) in [
+        (0, 1, None),
+        (5, 1, None),
+        (3, 2, None),
+        (2, 1_048_575, None),
+        (100, 7, None),
+        (1, 524_287, None),
+        (5, 1, Some(3)),
+        (100, 7, Some(1)),
     ] {
+        let limits = Limits {
+            tolerance: Form::Ratio(p, q),
+            gap,
+        };
         let traces: Vec<Trace> = (0..6)
             .map(|_| {
                 let samples = random.within(1, 90) as usize;
@@ -37,6 +44,8 @@ pub fn compare(command: &str, seed: u64, counts: impl Fn(&Trace, u64, u64) -> Ve
             })
             .collect();
         let mut arguments = vec![command.to_string(), format!("-t{p}/{q}")];
+        arguments.extend(gap.map(|gap| format!("--gap={gap}")));
+        let options = arguments.len();
         for (k, trace) in traces.iter().enumerate() {
             let file = folder.join(k.to_string());
             fs::write(&file, written(trace)).unwrap();
@@ -46,8 +55,8 @@ pub fn compare(command: &str, seed: u64, counts: impl Fn(&Trace, u64, u64) -> Ve
         let printed = String::from_utf8(done(&line, "")).unwrap();
         let mut lines = printed.lines().skip(2);
         let mut total = Vec::new();
-        for (trace, file) in traces.iter().zip(&line[2..]) {
-            let expected: Vec<i64> = counts(trace, p, q).iter().map(|&n| n as i64).collect();
+        for (trace, file) in traces.iter().zip(&line[options..]) {
+            let expected: Vec<i64> = counts(trace, limits).iter().map(|&n| n as i64).collect();
             total.resize(expected.len(), 0);
             total = total.iter().zip(&expected).map(|(a, b)| a + b).collect();
             assert_eq!(row(lines.next().unwrap()), (expected, file.to_string()));

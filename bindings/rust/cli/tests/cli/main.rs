@@ -4,6 +4,7 @@
 //! - `check`: whether a record may stand for a trace.
 //! - `counts`: tables of counts.
 //! - `draw`: pictures.
+//! - `gap`: gap limits.
 //! - `names`: names of files that are not UTF-8.
 //! - `near`: how near lists are to the shortest.
 //! - `pedestals`: two runs of a crate.
@@ -15,6 +16,7 @@ mod budget;
 mod check;
 mod counts;
 mod draw;
+mod gap;
 mod names;
 mod near;
 mod pedestals;

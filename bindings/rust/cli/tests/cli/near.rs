@@ -3,18 +3,16 @@
 use super::counts::{self, compare, row};
 use super::{done, path, shipped, WAVE};
 use kovrelna_reference::generate::Trace;
-use kovrelna_reference::{fewest, reduce, Form, Fraction, METHODS};
+use kovrelna_reference::{fewest, reduce, METHODS};
 
 #[test]
 fn as_the_reference() {
-    compare("near", 6, |Trace { ticks, values }, p, q| {
-        let form = Form::Ratio(p, q);
+    compare("near", 6, |Trace { ticks, values }, limits| {
         let kept = |method| {
-            let reduced = reduce(method, ticks, values, form, ticks.len());
+            let reduced = reduce(method, ticks, values, limits, ticks.len());
             reduced.unwrap().list.len()
         };
-        let (p, q) = (i128::from(p), i128::from(q));
-        let half = fewest(ticks, values, Fraction { p, q }.half());
+        let half = fewest(ticks, values, limits.held().unwrap().half());
         let [walk, gallop, minimum] = METHODS.map(kept);
         vec![ticks.len(), walk, gallop, minimum, half]
     });

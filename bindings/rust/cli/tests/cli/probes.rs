@@ -3,14 +3,13 @@
 use super::counts::{self, compare};
 use super::{done, path, shipped, WAVE};
 use kovrelna_reference::generate::Trace;
-use kovrelna_reference::{reduce, Form, Method, Reduced};
+use kovrelna_reference::{reduce, Method, Reduced};
 
 #[test]
 fn as_the_reference() {
-    compare("probes", 12, |Trace { ticks, values }, p, q| {
-        let form = Form::Ratio(p, q);
+    compare("probes", 12, |Trace { ticks, values }, limits| {
         let Reduced { list, probes } =
-            reduce(Method::Gallop, ticks, values, form, ticks.len()).unwrap();
+            reduce(Method::Gallop, ticks, values, limits, ticks.len()).unwrap();
         vec![ticks.len(), list.len() - 1, probes]
     });
 }

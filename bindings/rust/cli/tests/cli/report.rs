@@ -3,7 +3,7 @@
 use super::{done, fails, files, folder, path, run, run_in, told, written, TOOL, WAVE};
 use kovrelna_reference::generate::{channels, Channels, Random};
 use kovrelna_reference::report::{report, Report};
-use kovrelna_reference::Form;
+use kovrelna_reference::{Form, Limits};
 use std::fs;
 use std::path::Path;
 use std::process::Command;
@@ -93,13 +93,14 @@ fn expected(report: &Report, channels: &[i128]) -> Vec<[i128; 6]> {
 fn files_as_the_reference() {
     let folder = folder("report_files");
     let random = &mut Random::new(8);
-    for count in [2, 3, 17, 64] {
+    for (count, gap) in [(2, None), (3, None), (17, None), (64, None), (64, Some(3))] {
         let made = channels(count, 60, random);
         let mut arguments = vec![
             "report".to_string(),
             "-t7/2".to_string(),
             "--csv".to_string(),
         ];
+        arguments.extend(gap.map(|gap| format!("--gap={gap}")));
         for (channel, trace) in made.traces().iter().enumerate() {
             let file = folder.join(format!("channel {channel}"));
             fs::write(&file, written(trace)).unwrap();
@@ -112,7 +113,11 @@ fn files_as_the_reference() {
             values,
             lengths,
         } = &made;
-        let report = report(ticks, values, lengths, Form::Ratio(7, 2), count).unwrap();
+        let limits = Limits {
+            tolerance: Form::Ratio(7, 2),
+            gap,
+        };
+        let report = report(ticks, values, lengths, limits, count).unwrap();
         let numbered: Vec<i128> = (0..count as i128).collect();
         assert_eq!(numbers(&sheet), expected(&report, &numbered), "{count}");
     }

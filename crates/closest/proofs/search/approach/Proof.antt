@@ -8,10 +8,10 @@ use Rattle.closest.proofs.search.approach.Statement.{statement}
 use Rattle.closest.proofs.search.approach.Tie as tie
 
 abbrev Inv-loop : tie.InvT-loop
-Inv-loop ticks values m low₀ high₀ turn₀ low high turn = Narrowed ticks values m high₀ (record { low = low; high = high })
+Inv-loop ticks values gap m low₀ high₀ turn₀ low high turn = Narrowed ticks values gap m high₀ (record { low = low; high = high })
 
 abbrev μ-loop : tie.MeasureT-loop
-μ-loop ticks values m low₀ high₀ turn₀ low high turn = 24 - turn
+μ-loop ticks values gap m low₀ high₀ turn₀ low high turn = 24 - turn
 
 loop-holds : tie.Need-loop-holds Inv-loop μ-loop
 loop-holds c = narrowed-none (record { positive = omega arith; q-bound = omega arith; p-bound = omega arith }) (c .before .pre .1)

@@ -8,10 +8,10 @@ use Rattle.closest.proofs.search.descend.Statement.{statement}
 use Rattle.closest.proofs.search.descend.Tie as tie
 
 abbrev Inv-loop : tie.InvT-loop
-Inv-loop ticks values m low₀ high₀ low high = Bounded (criterion low) × Reached ticks values m high
+Inv-loop ticks values gap m low₀ high₀ low high = Bounded (criterion low) × Reached ticks values gap m high
 
 abbrev μ-loop : tie.MeasureT-loop
-μ-loop ticks values m low₀ high₀ low high = parts high
+μ-loop ticks values gap m low₀ high₀ low high = parts high
 
 loop-holds : tie.Need-loop-holds Inv-loop μ-loop
 loop-holds c = let pre = c .before .before .before .pre in (pre .1, pre .2)

@@ -9,11 +9,11 @@ trial-requires c κs = search needs
 returns : tie.Need-returns
 returns c = c .before .before .trial .ensures .fit (c .before .if1 .taken) .0
 
-ends-error-requires : tie.Need-ends-error-requires
-ends-error-requires c κs = search needs
+obeying-error-requires : tie.Need-obeying-error-requires
+obeying-error-requires c κs = search needs
 
 returns-2 : tie.Need-returns-2
 returns-2 c = search needs
 
 pub first-error-spec : {M : Type 1} → statement M
-first-error-spec = tie.close (tie.spec trial-requires returns ends-error-requires returns-2)
+first-error-spec = tie.close (tie.spec trial-requires returns obeying-error-requires returns-2)

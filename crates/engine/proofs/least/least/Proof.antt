@@ -10,7 +10,7 @@ use Rattle.engine.proofs.least.least.Tie as tie
 
 -- the checks pass
 passed : (c : tie.After-enum-told) → let a = c .before .before .before .before .before .args in
-    leastRows (a .ticks .now) (a .values .now) (a .m) (length (a .out .now)) ≡ Fine
+    leastRows (a .ticks .now) (a .values .now) (a .gap) (a .m) (length (a .out .now)) ≡ Fine
 passed c = sym (c .before .before .check .ensures) ∙ c .enum-told .given .1
 
 check-requires : tie.Need-check-requires
@@ -22,7 +22,7 @@ enum-told c = search needs
 least-requires : tie.Need-least-requires
 least-requires c κs =
     let a = c .before .before .before .before .before .before .args in
-    least-task (a .ticks .now) (a .values .now) (a .m) (length (a .out .now)) (passed (c .before))
+    least-task (a .ticks .now) (a .values .now) (a .gap) (a .m) (length (a .out .now)) (passed (c .before))
 
 enum-known-checked : tie.Need-enum-known-checked
 enum-known-checked c = search needs

@@ -1,7 +1,7 @@
 -- `engine::prepare::criterion` meets its contract. Assumes nothing.
 use mathlib.Core.Path.{sym, _∙_}
-use Rattle.engine.proofs.PrepareLaws.{exact-sets}
 use borrow.Author.Needs.{needs}
+use Rattle.engine.proofs.PrepareLaws.{exact-allowed}
 use Rattle.engine.proofs.prepare.criterion.Statement.{statement}
 use Rattle.engine.proofs.prepare.criterion.Tie as tie
 
@@ -11,14 +11,21 @@ meaning-of-requires c κs = search needs
 enum-known-m : tie.Need-enum-known-m
 enum-known-m c = search needs
 
+under-requires : tie.Need-under-requires
+under-requires c κs = search needs
+
 enum-told : tie.Need-enum-told
 enum-told c = search needs
 
 returns : tie.Need-returns
-returns c = exact-sets (c .before .before .before .before .args .t) (sym (c .before .before .before .meaning-of .ensures) ∙ c .before .m .given .1)
+returns c =
+    let k = c .before .before in
+    exact-allowed (k .before .before .before .args .t) (c .under .result) (sym (k .before .before .meaning-of .ensures) ∙ k .m .given .1) (c .under .ensures)
 
 returns-2 : tie.Need-returns-2
 returns-2 c = search needs
 
 pub criterion-spec : {M : Type 1} → statement M
-criterion-spec = tie.close (tie.spec meaning-of-requires enum-known-m enum-told returns returns-2)
+criterion-spec =
+    tie.close
+    (tie.spec meaning-of-requires enum-known-m under-requires enum-told returns returns-2)

@@ -2,7 +2,7 @@
 use mathlib.Core.Path.{subst}
 use Rattle.channels.proofs.ChannelLaws.{crate-divided}
 use Rattle.engine.specs.Prepare.{Sets, Allowed}
-use Rattle.engine.proofs.ReportLaws.{sheet-refused, tolerance-refused, room-refused, sheet-counted}
+use Rattle.engine.proofs.ReportLaws.{sheet-refused, limits-refused, room-refused, sheet-counted}
 use borrow.Author.Needs.{needs}
 use Rattle.engine.proofs.report.allowed_sheet.Statement.{statement}
 use Rattle.engine.proofs.report.allowed_sheet.Tie as tie
@@ -48,7 +48,7 @@ returns-3 : tie.Need-returns-3
 returns-3 c =
     let s = c .before .before .before .before .before .before .before in
     let a = s .args in
-    sheet-refused (a .ticks .now) (a .values .now) (a .lengths .now) (a .t) (a .room) (tolerance-refused (a .ticks .now) (a .values .now) (a .lengths .now) (a .t) (a .room) (s .pre) (subst (Allowed (a .t)) (c .before .before .ready2 .given .1) (c .before .before .before .before .criterion .ensures))) (c .refuse2 .ensures)
+    sheet-refused (a .ticks .now) (a .values .now) (a .lengths .now) (a .t) (a .room) (limits-refused (a .ticks .now) (a .values .now) (a .lengths .now) (a .t) (a .room) (s .pre) (subst (Allowed (a .t)) (c .before .before .ready2 .given .1) (c .before .before .before .before .criterion .ensures))) (c .refuse2 .ensures)
 
 pub allowed-sheet-spec : {M : Type 1} → statement M
 allowed-sheet-spec =

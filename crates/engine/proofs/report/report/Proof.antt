@@ -38,9 +38,6 @@ use denote.Triple.Table.{entered, cited}
 use denote.Triple.Walked.{says, Stays, stay-none, stay-none-slice, gave-slice, walkOf, goes-none, goes-none-slice, goes-gave-slice, Walks, ends-at, walked, walk-meets}
 use denote.Exit.{yes}
 use denote.Signature.{plain}
-use Rattle.tolerance.specs.declared.Tolerance.{Tolerance}
-use Rattle.tolerance.proofs.Tolerance as L
-use Rattle.tolerance.proofs.Tolerance.Laws as L′
 use Rattle.sheet.specs.declared.Summary.{Summary}
 use Rattle.sheet.specs.declared.Reported.{Reported}
 use Rattle.sheet.specs.declared.Sheet.{Sheet}
@@ -58,6 +55,9 @@ use Rattle.sheet.proofs.answer_of as answer-of
 use Rattle.sheet.proofs.answer_of.Symbol as answer-of-def
 use Rattle.sheet.proofs.answer_of.Symbol.{name as #sheet·answer-of}
 use Rattle.sheet.proofs.answer_of.Met as answer-of-thm
+use Rattle.engine.specs.declared.Limits.{Limits}
+use Rattle.engine.proofs.Limits as L
+use Rattle.engine.proofs.Limits.Laws as L′
 use Rattle.engine.specs.Report.{ReportOutcome, Surveyed}
 use Rattle.engine.proofs.report.sheet_of as sheet-of
 use Rattle.engine.proofs.report.sheet_of.Symbol as sheet-of-def
@@ -86,8 +86,8 @@ module _ {M : Type 1} (𝓤 : URA M) (H : Heap 𝓤) (A : Atoms 𝓤) (mem : Mem
   AnswerOf = tripleOf 𝓤 H A answer-of.signature (answer-of.spec 𝓤 H A mem run)
 
 module _ {M : Type 1} (𝓤 : URA M) (H : Heap 𝓤) (A : Atoms 𝓤) (W : Given 𝓤 H A) (mem : Memory → SProp 𝓤) (run : Routine → Fun 𝓤) (κ₀ κ₁ κ₂ κ₃ : Lft) (q₀ q₁ q₂ q₃ : Share)
-    (ts : RefT (List ℕ)) (vs : RefT (List ℤ)) (ls : RefT (List ℕ)) (t : Tolerance) (b o : ℕ) (γ : GName) (ys : List Summary)
-    (room-t : Room u32 (length (ts .now))) (room-v : Room i16 (length (vs .now))) (room-l : Room usize (length (ls .now))) (is-t : Is L.the-row t (EL.vals L.the-type L′.the-laws t)) (room : Room R (length ys)) where
+    (ts : RefT (List ℕ)) (vs : RefT (List ℤ)) (ls : RefT (List ℕ)) (t : Limits) (b o : ℕ) (γ : GName) (ys : List Summary)
+    (room-t : Room u32 (length (ts .now))) (room-v : Room i16 (length (vs .now))) (room-l : Room usize (length (ls .now))) (is-t : Is L.the-row t (LL.vals L.the-type L′.the-laws t)) (room : Room R (length ys)) where
   abbrev x : RefT (List Summary)
   x = record { ptr = (b, o); name = γ; now = ys }
 
@@ -102,7 +102,7 @@ module _ {M : Type 1} (𝓤 : URA M) (H : Heap 𝓤) (A : Atoms 𝓤) (W : Given
   s-l = sliceVal (ls .ptr) (length (ls .now))
 
   abbrev m-t : Val
-  m-t = EL.val L.the-type L′.the-laws t
+  m-t = LL.val L.the-type L′.the-laws t
 
   abbrev s : Val
   s = sliceVal (b, o) (length ys)
@@ -124,7 +124,7 @@ module _ {M : Type 1} (𝓤 : URA M) (H : Heap 𝓤) (A : Atoms 𝓤) (W : Given
   tokens = ‵ (flft κ₀ q₀) ⊛ (‵ (flft κ₁ q₁) ⊛ (‵ (flft κ₂ q₂) ⊛ ‵ ftrue))
 
   abbrev Arg : Type 0
-  Arg = RefT (List ℕ) × (RefT (List ℤ) × (RefT (List ℕ) × (Tolerance × (RefT (List Summary) × Unit {0}))))
+  Arg = RefT (List ℕ) × (RefT (List ℤ) × (RefT (List ℕ) × (Limits × (RefT (List Summary) × Unit {0}))))
 
   abbrev a : Arg
   a = (ts, (vs, (ls, (t, (x, tt)))))
@@ -145,12 +145,12 @@ module _ {M : Type 1} (𝓤 : URA M) (H : Heap 𝓤) (A : Atoms 𝓤) (W : Given
       suffices ! _ (ends-at 𝓤 H A f.ended stayed (f.clauses 𝓤 H A mem run) W (((κ₀, (κ₁, (κ₂, (κ₃, tt)))), (q₀, (q₁, (q₂, (q₃, tt)))), tt, a, vals), tt) w r (tt, (tt, (tt, (tt, (zs, tt))))) (tt, (tt, (tt, (tt, (l, tt)))))) $ says ! e $
       split ! $ move ! (1 ∷ []) $ split ! $ move ! (1 ∷ []) $ split ! $ move ! (0 ∷ 4 ∷ []) $ join ! $ move ! (2 ∷ 0 ∷ []) $ join ! $ move ! (2 ∷ 0 ∷ []) $ join ! $ frame ! $
       -- [true; the shared slices; the last list; the answer]
-      move ! (4 ∷ 0 ∷ []) $ fjoin ! $ owned ! L.the-row (Is L.the-row) ((EL.makes L.the-type L′.the-plain) 𝓤 H A) t _ is-t $ fjoin ! $
+      move ! (4 ∷ 0 ∷ []) $ fjoin ! $ owned ! L.the-row (Is L.the-row) ((LL.makes L.the-type L′.the-plain) 𝓤 H A) t _ is-t $ fjoin ! $
       move ! (3 ∷ 0 ∷ []) $ fjoin ! $ move ! (2 ∷ 0 ∷ []) $ fjoin ! $ move ! (1 ∷ 0 ∷ []) $ fjoin ! $ done !
 
   -- `sheet_of`
   abbrev Given-args : Type 0
-  Given-args = RefT (List ℕ) × (RefT (List ℤ) × (RefT (List ℕ) × (Tolerance × (ℕ × Unit {0}))))
+  Given-args = RefT (List ℕ) × (RefT (List ℤ) × (RefT (List ℕ) × (Limits × (ℕ × Unit {0}))))
 
   abbrev given : Given-args
   given = (ts, (vs, (ls, (t, (n, tt)))))
@@ -199,7 +199,7 @@ module _ {M : Type 1} (𝓤 : URA M) (H : Heap 𝓤) (A : Atoms 𝓤) (W : Given
         qed W ((‵ (flft κ₀ q₀) ⊛ (‵ (flft κ₁ q₁) ⊛ (‵ (flft κ₂ q₂) ⊛ (‵ (flft κ₃ q₃) ⊛ ‵ ftrue)))) ∷ ‵ (owns (ShrSlice (named 0) κ₀ u32 ∷ ShrSlice (named 1) κ₁ i16 ∷ ShrSlice (named 2) κ₂ usize ∷ L.the-row ∷ MutSlice (named 3) κ₃ R ∷ []) a vals) ∷ []) ∵ enter ! C Λ code.function (s-t ∷ s-v ∷ s-l ∷ m-t ∷ s ∷ []) _ $
         alloc1 ! (λ l₀. alloc1 ! (λ l₁. alloc1 ! (λ l₂. alloc1 ! (λ l₃. alloc1 ! (λ l₄. alloc1 ! (λ l₅. alloc1 ! (λ l₆. alloc1 ! (λ l₇. alloc1 ! (λ l₈. alloc1 ! (λ l₉. alloc1 ! (λ l₁₀. alloc0 ! $ params1 ! $
         pass1 ! (init ! 18 refl (tt, (tt, (record { fits = room-t .0 }, tt)))) $ pass1 ! (init ! 16 refl (tt, (tt, (record { fits = room-v .0 }, tt)))) $ pass1 ! (init ! 14 refl (tt, (tt, (record { fits = room-l .0 }, tt)))) $
-        pass1 ! (init ! 12 refl (EL.lawful L.the-type L′.the-laws 𝓤 H A W tt .typed t _ is-t .0)) $ pass1 ! (init ! 10 refl (tt, (tt, (record { fits = room .0 }, tt)))) $ pass0 ! $
+        pass1 ! (init ! 12 refl (LL.lawful L.the-type L′.the-laws 𝓤 H A W .typed t _ is-t .0)) $ pass1 ! (init ! 10 refl (tt, (tt, (record { fits = room .0 }, tt)))) $ pass0 ! $
         -- [_10; …; _0; …; the tokens; what the parameters own]
         assigns ! (of-opd ! (load ! (from ! (fld ! refl (stop !))) (look-in ! 10 (sub ! 1 refl (whole !))))) (from ! (stop !)) (init ! 6 refl (tt, record { fits = room .0 })) $
         -- the shared slices twice, the list, and the tokens
@@ -210,7 +210,7 @@ module _ {M : Type 1} (𝓤 : URA M) (H : Heap 𝓤) (A : Atoms 𝓤) (W : Given
         move ! (29 ∷ []) $ split ! $ move ! (1 ∷ []) $ split ! $ move ! (1 ∷ []) $ split ! $
         -- [κ₂'s token; κ₃'s and true; κ₁'s; κ₀'s; the list; lengths twice; values twice; ticks twice; _10; …]
         nothing ! $ move ! (1 ∷ 0 ∷ []) $ join ! $ move ! (2 ∷ 0 ∷ []) $ join ! $ move ! (2 ∷ 0 ∷ []) $ join ! $
-        nothing ! $ owned ! usize (Is usize) (uint-makes 𝓤 H A W w64) n _ (refl, room .0) $ fjoin ! $ owned ! L.the-row (Is L.the-row) ((EL.makes L.the-type L′.the-plain) 𝓤 H A) t _ is-t $ fjoin ! $
+        nothing ! $ owned ! usize (Is usize) (uint-makes 𝓤 H A W w64) n _ (refl, room .0) $ fjoin ! $ owned ! L.the-row (Is L.the-row) ((LL.makes L.the-type L′.the-plain) 𝓤 H A) t _ is-t $ fjoin ! $
         move ! (4 ∷ 0 ∷ []) $ fjoin ! $ move ! (5 ∷ 0 ∷ []) $ fjoin ! $ move ! (6 ∷ 0 ∷ []) $ fjoin ! $
         -- `sheet_of`
         move ! (1 ∷ 0 ∷ []) $ use2 W (raw (SheetOf 𝓤 H A mem run .pre to-sheet)) goes-sheet $
@@ -247,8 +247,8 @@ module _ {M : Type 1} (𝓤 : URA M) (H : Heap 𝓤) (A : Atoms 𝓤) (W : Given
   report-walks : (C : Calls 𝓤 H) (Λ : Loops 𝓤 H) → FmC 𝓤 H (W .laws) C → Triple 𝓤 (C #engine·report·sheet-of) (SheetOf 𝓤 H A mem run) → Triple 𝓤 (C #sheet·fill) (Fill 𝓤 H A mem run) → Triple 𝓤 (C #sheet·answer-of) (AnswerOf 𝓤 H A mem run)
       → Walks 𝓤 H A f.ended stayed (WpFn 𝓤 H C Λ code.function) (f.clauses 𝓤 H A mem run)
   report-walks C Λ fm k₁ k₂ k₃ = walked 𝓤 H A f.ended stayed (f.clauses 𝓤 H A mem run) (WpFn 𝓤 H C Λ code.function)
-      (λ κs. (slice-vals, (slice-vals, (slice-vals, (EL.vals L.the-type L′.the-laws, (slice-vals, tt))))))
-      (λ κs. (shr-slice-tells (named 0) (κs .0) u32, (shr-slice-tells (named 1) (κs .1 .0) i16, (shr-slice-tells (named 2) (κs .1 .1 .0) usize, (EL.tells L.the-type L′.the-laws, (mut-slice-tells (named 3) (κs .1 .1 .1 .0) R, tt))))))
+      (λ κs. (slice-vals, (slice-vals, (slice-vals, (LL.vals L.the-type L′.the-laws, (slice-vals, tt))))))
+      (λ κs. (shr-slice-tells (named 0) (κs .0) u32, (shr-slice-tells (named 1) (κs .1 .0) i16, (shr-slice-tells (named 2) (κs .1 .1 .0) usize, (LL.tells L.the-type L′.the-laws, (mut-slice-tells (named 3) (κs .1 .1 .1 .0) R, tt))))))
       (λ κs qs bounds a g are. via 𝓤 _ (fst∗ 𝓤 _ (emp 𝓤))
       (walk 𝓤 H A W mem run (κs .0) (κs .1 .0) (κs .1 .1 .0) (κs .1 .1 .1 .0) (qs .0) (qs .1 .0) (qs .1 .1 .0) (qs .1 .1 .1 .0) (a .0) (a .1 .0) (a .1 .1 .0) (a .1 .1 .1 .0) (a .1 .1 .1 .1 .0 .ptr .0) (a .1 .1 .1 .1 .0 .ptr .1) (a .1 .1 .1 .1 .0 .name) (a .1 .1 .1 .1 .0 .now)
       (are .0 .0 .1) (are .1 .0 .0 .1) (are .1 .1 .0 .0 .1) (are .1 .1 .1 .0) (are .1 .1 .1 .1 .0 .0 .1) C Λ fm k₁ k₂ k₃))

@@ -4,7 +4,7 @@ use native.Mathlib.Omega.{arith}
 use Rattle.writer.specs.declared.Answer as W
 use Rattle.writer.specs.Writing.{selected}
 use Rattle.writer.specs.Writing as Writing
-use Rattle.engine.specs.Write.{ratioOf}
+use Rattle.trace.specs.Link.{ratioOf}
 use Rattle.engine.proofs.JudgeLaws.{invalid-bound}
 use Rattle.engine.proofs.WriteLaws.{kept-at, link-declines, recorded, declined}
 use borrow.Author.Needs.{needs}

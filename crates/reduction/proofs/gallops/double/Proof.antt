@@ -8,10 +8,10 @@ use Rattle.reduction.proofs.gallops.double.Statement.{statement}
 use Rattle.reduction.proofs.gallops.double.Tie as tie
 
 abbrev Inv-loop : tie.InvT-loop
-Inv-loop ticks values c i s₀ s = Raising ticks values c i s
+Inv-loop ticks values c i limit s₀ s = Raising ticks values c i s
 
 abbrev μ-loop : tie.MeasureT-loop
-μ-loop ticks values c i s₀ s = length ticks - s .low
+μ-loop ticks values c i limit s₀ s = length ticks - s .low
 
 links-past-requires : tie.Need-links-past-requires Inv-loop μ-loop
 links-past-requires c κs = search needs

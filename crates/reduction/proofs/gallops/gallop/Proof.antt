@@ -3,16 +3,17 @@ use Prim.Native.Nat.{_-_}
 use native.Mathlib.Omega.{arith}
 use borrow.Author.Needs.{needs}
 use Rattle.kept.proofs.Filling.{Galloping, galloping-none, galloping-more, galloping-ends}
-use Rattle.trace.specs.Link.{valid}
+use Rattle.trace.specs.Link.{valid, EndKnown}
+use Rattle.trace.proofs.Holes.{end-none, end-more}
 use Rattle.trace.proofs.Validity.{steps-valid}
 use Rattle.reduction.proofs.gallops.gallop.Statement.{statement}
 use Rattle.reduction.proofs.gallops.gallop.Tie as tie
 
 abbrev Inv-loop : tie.InvT-loop
-Inv-loop ticks values c out₀ last count₀ i₀ probes₀ out count i probes = Galloping (valid ticks values c) last out₀ out count i probes
+Inv-loop ticks values c out₀ last count₀ i₀ probes₀ limit₀ out count i probes limit = Galloping (valid ticks values c) last out₀ out count i probes × EndKnown ticks (c .gap) i limit
 
 abbrev μ-loop : tie.MeasureT-loop
-μ-loop ticks values c out₀ last count₀ i₀ probes₀ out count i probes = last - i
+μ-loop ticks values c out₀ last count₀ i₀ probes₀ limit₀ out count i probes limit = last - i
 
 sub-last : tie.Need-sub-last Inv-loop μ-loop
 sub-last c = search needs
@@ -23,7 +24,10 @@ store-requires c κs = search needs
 loop-holds : tie.Need-loop-holds Inv-loop μ-loop
 loop-holds c =
     let s = c .before .before .before .before .before .before in
-    galloping-none _ _ (s .args .out .now) (c .before .before .store .ensures) (omega (arith, s .pre))
+    (galloping-none _ _ (s .args .out .now) (c .before .before .store .ensures) (omega (arith, s .pre)), end-none)
+
+end-from-requires : tie.Need-end-from-requires Inv-loop μ-loop
+end-from-requires c κs = search needs
 
 search-requires : tie.Need-search-requires Inv-loop μ-loop
 search-requires c κs = search needs
@@ -45,15 +49,20 @@ loop-less c = search needs
 
 loop-again : tie.Need-loop-again Inv-loop μ-loop
 loop-again c =
-    let at = c .before .before .before .before .before .before .before in
-    rw (c .before .before .store2 .ensures) (galloping-more (at .before .loop .inv) (steps-valid _ _ _) (at .loop-test .taken) _ (c .before .before .before .before .before .before .search .ensures .0))
+    let s = c .before .before .before .before .before .before in
+    let e = s .before in
+    let at = e .before in
+    let b = s .search .ensures .1 in (
+      rw (c .before .before .store2 .ensures) (galloping-more (at .before .loop .inv .0) (steps-valid _ _ _) (at .loop-test .taken) _ (s .search .ensures .0)),
+      end-more (omega (arith, at .loop-test .taken)) (e .end-from .ensures) (omega arith) (b .1),
+    )
 
 same-length : tie.Need-same-length Inv-loop μ-loop
-same-length c = omega (arith, c .before .loop .inv .filling .same, c .before .before .before .before .store .kept)
+same-length c = omega (arith, c .before .loop .inv .0 .filling .same, c .before .before .before .before .store .kept)
 
 returns : tie.Need-returns Inv-loop μ-loop
 returns c =
-    let f = galloping-ends (c .before .loop .inv) (c .before .before .before .before .before .before .before .before .args .out .now) (c .before .before .before .before .store .ensures) (c .loop-test .left) in
+    let f = galloping-ends (c .before .loop .inv .0) (c .before .before .before .before .before .before .before .before .args .out .now) (c .before .before .before .before .store .ensures) (c .loop-test .left) in
     record { wrote = f .0; probes = f .1 }
 
 pub gallop-spec : {M : Type 1} → statement M
@@ -65,6 +74,7 @@ gallop-spec =
     sub-last
     store-requires
     loop-holds
+    end-from-requires
     search-requires
     add-i
     add-probes

@@ -16,7 +16,7 @@ returns : tie.Need-returns
 returns c =
     let y = c .before .double .ensures .0 .0 in
     let d = c .before .double .ensures .1 in
-    (searched y d (c .bisect .ensures), searched-bounds y d (c .bisect .ensures) (c .before .before .before .pre .2))
+    (searched y d (c .bisect .ensures), searched-bounds y d (c .bisect .ensures) (c .before .before .before .pre .2) (c .before .before .before .pre .3))
 
 pub search-spec : {M : Type 1} → statement M
 search-spec = tie.close (tie.spec double-requires bisect-requires returns)

@@ -20,7 +20,7 @@ loop-holds c = (c .before .pre .0 .taken, omega arith, c .before .pre .1)
 taken-requires : tie.Need-taken-requires Inv-loop μ-loop
 taken-requires c κs =
     let pre = c .before .before .before .pre in
-    next-at (c .before .loop .inv .0) (pre .0 .trace) (pre .0 .bounded) (omega arith) (omega arith)
+    next-at (c .before .loop .inv .0) (pre .0 .trace) (pre .0 .bounded) (omega arith) (omega (arith, pre .0 .taken .limit)) (omega arith)
 
 add-k : tie.Need-add-k Inv-loop μ-loop
 add-k c = search needs

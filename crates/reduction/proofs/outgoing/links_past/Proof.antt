@@ -25,7 +25,7 @@ cone-of-requires c κs =
 returns : tie.Need-returns
 returns c =
     let pre = c .before .before .before .before .pre in
-    taken-first (pre .0) (pre .1) (pre .2) (c .before .before .start-at .ensures) (c .before .edge-to .ensures) (c .cone-of .ensures .0) (c .cone-of .ensures .1)
+    taken-first (pre .0) (pre .1) (pre .2) (c .before .before .start-at .ensures) (c .before .edge-to .ensures) (c .cone-of .ensures .0) (c .cone-of .ensures .1) (pre .3)
 
 pub links-past-spec : {M : Type 1} → statement M
 links-past-spec =

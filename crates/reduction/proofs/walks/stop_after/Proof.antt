@@ -8,13 +8,10 @@ use Rattle.reduction.proofs.walks.stop_after.Statement.{statement}
 use Rattle.reduction.proofs.walks.stop_after.Tie as tie
 
 abbrev Inv-loop : tie.InvT-loop
-Inv-loop ticks values c i last links₀ at₀ links at = WalkedTo ticks values c i at links
+Inv-loop ticks values c i limit links₀ at₀ links at = WalkedTo ticks values c i at links
 
 abbrev μ-loop : tie.MeasureT-loop
-μ-loop ticks values c i last links₀ at₀ links at = last - at
-
-sub-last : tie.Need-sub-last Inv-loop μ-loop
-sub-last c = search needs
+μ-loop ticks values c i limit links₀ at₀ links at = limit - at
 
 links-past-requires : tie.Need-links-past-requires Inv-loop μ-loop
 links-past-requires c κs = search needs
@@ -31,20 +28,21 @@ add-next c = search needs
 reaches-requires : tie.Need-reaches-requires Inv-loop μ-loop
 reaches-requires c κs =
     let pre = c .before .before .before .before .pre in
-    walked-next (c .before .loop .inv) (c .loop-test .taken) (pre .0) (pre .1)
+    walked-next (c .before .loop .inv) (pre .3) (c .loop-test .taken) (pre .0) (pre .1)
 
 returns : tie.Need-returns Inv-loop μ-loop
 returns c =
-    let at = c .before .before in (
-      walked-invalid (at .before .loop .inv) (at .loop-test .taken) (not-true _ (c .if1 .taken)) (c .before .reaches .ensures),
-      walked-bounds (at .before .loop .inv) (omega (arith, at .loop-test .taken)),
+    let at = c .before .before in
+    let pre = at .before .before .before .before .pre in (
+      walked-invalid (at .before .loop .inv) (pre .3) (at .loop-test .taken) (not-true _ (c .if1 .taken)) (c .before .reaches .ensures),
+      walked-bounds (at .before .loop .inv) (pre .3),
     )
 
 taken-requires : tie.Need-taken-requires Inv-loop μ-loop
 taken-requires c κs =
     let at = c .before .before in
     let pre = at .before .before .before .before .pre in
-    walked-next (at .before .loop .inv) (at .loop-test .taken) (pre .0) (pre .1)
+    walked-next (at .before .loop .inv) (pre .3) (at .loop-test .taken) (pre .0) (pre .1)
 
 loop-less : tie.Need-loop-less Inv-loop μ-loop
 loop-less c = search needs
@@ -52,10 +50,12 @@ loop-less c = search needs
 loop-again : tie.Need-loop-again Inv-loop μ-loop
 loop-again c =
     let at = c .before .before .before in
-    walked-valid (at .before .loop .inv) (at .loop-test .taken) (not-false _ (c .before .if1 .left)) (c .before .before .reaches .ensures) (c .taken .ensures)
+    walked-valid (at .before .loop .inv) (at .before .before .before .before .pre .3) (at .loop-test .taken) (not-false _ (c .before .if1 .left)) (c .before .before .reaches .ensures) (c .taken .ensures)
 
 returns-2 : tie.Need-returns-2 Inv-loop μ-loop
-returns-2 c = (walked-last (c .before .loop .inv) (c .loop-test .left), walked-bounds (c .before .loop .inv) (omega (arith, c .before .before .before .before .pre .2)))
+returns-2 c =
+    let pre = c .before .before .before .before .pre in
+    (walked-last (c .before .loop .inv) (pre .3) (c .loop-test .left), walked-bounds (c .before .loop .inv) (pre .3))
 
 pub stop-after-spec : {M : Type 1} → statement M
 stop-after-spec =
@@ -63,7 +63,6 @@ stop-after-spec =
     (tie.spec
     Inv-loop
     μ-loop
-    sub-last
     links-past-requires
     add-at
     loop-holds
