@@ -205,9 +205,9 @@ module _ (ts : List ℕ) (g : ℕ) where
   beside-marked k h = elim (decLt 0 k) [
     | no z ↦ inl (omega arith)
     | yes z ↦ ⊎-elim
-      (λ e. ⊎-elim (λ e. inl (eqb-true k 0 e)) (λ e. inr (inl (eqb-true k last e))) (or-cases (eqb k 0) _ e))
-      (λ e. inr (inr (⊎-elim inl (λ e. inr (z, e)) (or-cases (hole ts g k) _ e))))
-      (or-cases (eqb k 0 || eqb k last) _ h)
+        (λ e. ⊎-elim (λ e. inl (eqb-true k 0 e)) (λ e. inr (inl (eqb-true k last e))) (or-cases (eqb k 0) _ e))
+        (λ e. inr (inr (⊎-elim inl (λ e. inr (z, e)) (or-cases (hole ts g k) _ e))))
+        (or-cases (eqb k 0 || eqb k last) _ h)
   ]
 
   module _ (some : 1 ≤ length ts) where

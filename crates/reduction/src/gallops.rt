@@ -17,7 +17,7 @@ use crate::outgoing::reaches;
 use crate::outgoing::taken;
 use kept::Search;
 use trace::Criterion;
-use trace::gaps::end_from;
+use trace::gaps::links_end;
 
 // The links with the samples from a on and before b taken in too.
 fn taken_to(ticks: &[u32], values: &[i16], c: Criterion, links: Links, a: usize, b: usize) -> Links
@@ -121,20 +121,27 @@ pub fn gallop(ticks: &[u32], values: &[i16], c: Criterion, out: &mut [u16]) -> G
 {
     let last = ticks.len() - 1;
     store(out, 0, 0);
+    if last == 0 {
+        return Galloped { kept: 1, probes: 0 };
+    }
     let mut count: usize = 1;
     let mut i: usize = 0;
     let mut probes: usize = 0;
-    let mut limit: usize = 0;
-    while i < last {
-        limit = end_from(ticks, values, c.gap, i, limit);
+    let mut limit = links_end(ticks, values, c.gap, 0);
+    loop {
         let s = search(ticks, values, c, i, limit);
         i += s.low;
         probes += s.probes;
         store(out, count, i);
         count += 1;
-    }
-    Galloped {
-        kept: count,
-        probes,
+        if limit <= i {
+            if last <= i {
+                return Galloped {
+                    kept: count,
+                    probes,
+                };
+            }
+            limit = links_end(ticks, values, c.gap, i);
+        }
     }
 }

@@ -12,7 +12,7 @@ use crate::outgoing::links_past;
 use crate::outgoing::reaches;
 use crate::outgoing::taken;
 use trace::Criterion;
-use trace::gaps::end_from;
+use trace::gaps::links_end;
 
 // The stop from sample i: the sample before the first invalid link, or the last sample. Links past `limit` do not obey the gap limit.
 fn stop_after(ticks: &[u32], values: &[i16], c: Criterion, i: usize, limit: usize) -> usize
@@ -40,14 +40,21 @@ pub fn walk(ticks: &[u32], values: &[i16], c: Criterion, out: &mut [u16]) -> usi
 {
     let last = ticks.len() - 1;
     store(out, 0, 0);
+    if last == 0 {
+        return 1;
+    }
     let mut count: usize = 1;
     let mut i: usize = 0;
-    let mut limit: usize = 0;
-    while i < last {
-        limit = end_from(ticks, values, c.gap, i, limit);
+    let mut limit = links_end(ticks, values, c.gap, 0);
+    loop {
         i = stop_after(ticks, values, c, i, limit);
         store(out, count, i);
         count += 1;
+        if limit <= i {
+            if last <= i {
+                return count;
+            }
+            limit = links_end(ticks, values, c.gap, i);
+        }
     }
-    count
 }

@@ -18,7 +18,7 @@ use Rattle.lists.proofs.Tests.{or-first, or-second, is-false, tests-equal}
 use Rattle.lists.proofs.FirstLaws.{clear-none, clear-more, first-found, first-at, first-skip}
 use Rattle.kept.specs.Kept.{StepsValid, Halves}
 use Rattle.trace.specs.Trace.{tick, Rising, Trace}
-use Rattle.trace.specs.Link.{allFrom, hole, Obeys, obeys, linksEnd, EndKnown}
+use Rattle.trace.specs.Link.{allFrom, hole, Obeys, obeys, linksEnd}
 use Rattle.trace.proofs.Ticks.{span-bound}
 use Rattle.trace.proofs.Between.{all-from-true, all-from-at}
 
@@ -101,13 +101,13 @@ module _ (ts : List ℕ) (g : ℕ) where
     unfolding linksEnd
     links-end-inside = omega (arith, first-found (hole ts g) i (length ts - 1) (omega arith) .to)
 
+    pub run-bounds : {e : ℕ} → e ≡ first (hole ts g) i (length ts - 1) → (i ≤ e) × (e < length ts)
+    run-bounds h = let f = first-found (hole ts g) i (length ts - 1) (omega arith) in (omega (arith, f .from), omega (arith, f .to))
+
     -- by the first hole e
     pub links-end-is : {e r : ℕ} → e ≡ first (hole ts g) i (length ts - 1) → r ≡ max (suc i) e → r ≡ linksEnd ts g i
     unfolding linksEnd
     links-end-is f h = rw (← f) h
-
-    pub run-bounds : {e : ℕ} → e ≡ first (hole ts g) i (length ts - 1) → (i ≤ e) × (e < length ts)
-    run-bounds h = let f = first-found (hole ts g) i (length ts - 1) (omega arith) in (omega (arith, f .from), omega (arith, f .to))
 
     -- the links that obey the limit are those up to the end
     pub obeys-to : (j : ℕ) → j ≤ linksEnd ts g i → obeys ts g i j ≡ true
@@ -124,7 +124,7 @@ module _ (ts : List ℕ) (g : ℕ) where
         is-false _ (λ o. absurd (omega (arith, some-hole e (f .here (omega arith)), true-obeys i j o .near (omega arith) e (f .from) (omega arith))))
 
     -- the samples before the end have the same one
-    pub links-end-same : (k : ℕ) → i ≤ k → k < linksEnd ts g i → linksEnd ts g k ≡ linksEnd ts g i
+    links-end-same : (k : ℕ) → i ≤ k → k < linksEnd ts g i → linksEnd ts g k ≡ linksEnd ts g i
     unfolding linksEnd
     links-end-same k l u =
         let f = first-found (hole ts g) i (length ts - 1) (omega arith) in
@@ -133,16 +133,13 @@ module _ (ts : List ℕ) (g : ℕ) where
           | no q ↦ let s : k ≡ i = omega arith in rw s
         ]
 
+-- so they are not the last sample, and where links from one of them end need not be searched again
+pub end-same : (ts : List ℕ) (g : ℕ) {i end k : ℕ} → i + 1 < length ts → end ≡ linksEnd ts g i → i ≤ k → k < end → (k < length ts - 1) × (end ≡ linksEnd ts g k)
+end-same ts g {i} {end} {k} inside e l u = (omega (arith, links-end-inside ts g i inside), e ∙ sym (links-end-same ts g i inside k l (omega arith)))
+
 -- a larger limit cuts no more links
 pub obeys-wider : (ts : List ℕ) (g f : ℕ) → g ≤ f → (i j : ℕ) → obeys ts g i j ≡ true → obeys ts f i j ≡ true
 obeys-wider ts g f h i j o = obeys-true ts f i j (record { near = λ long k l u. omega (arith, true-obeys ts g i j o .near long k l u) })
-
--- sample 0 is reached from itself, and a stop from where the links end is known
-pub end-none : {ts : List ℕ} {g : ℕ} → EndKnown ts g 0 0
-end-none = record { reached = omega arith; is = λ lt. absurd (omega arith) }
-
-pub end-more : {ts : List ℕ} {g i end k : ℕ} → i + 1 < length ts → end ≡ linksEnd ts g i → i ≤ k → k ≤ end → EndKnown ts g k end
-end-more {ts} {g} {i} {end} {k} inside e l u = record { reached = u; is = λ lt. e ∙ sym (links-end-same ts g i inside k l (omega arith)) }
 
 -- no two samples of a trace lie further apart than the largest limit
 widest-near : {ts : List ℕ} {vs : List ℤ} → Trace ts vs → (k : ℕ) → tick ts (suc k) - tick ts k ≤ 1048575

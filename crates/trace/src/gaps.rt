@@ -5,7 +5,7 @@ ghost use lib.ListN.{length};
 ghost use mathlib.Core.Bool.{false};
 ghost use Rattle.lists.specs.First.{first, Clear};
 ghost use Rattle.trace.specs.Trace.{Rising, Trace};
-ghost use Rattle.trace.specs.Link.{hole, linksEnd, EndKnown};
+ghost use Rattle.trace.specs.Link.{hole, linksEnd};
 
 // Whether sample k + 1 lies more than `gap` ticks after sample k.
 pub fn hole_after(ticks: &[u32], gap: u32, k: usize) -> bool
@@ -91,15 +91,4 @@ pub fn links_end(ticks: &[u32], values: &[i16], gap: u32, i: usize) -> usize
     ensures { λ r. ⌜ r ≡ linksEnd (now (ticks .entry)) gap i ⌝ }
 {
     end_of(i, first_hole(ticks, values, gap, i, ticks.len() - 1))
-}
-
-// The same, where `end` is that sample for links from i, or i itself.
-pub fn end_from(ticks: &[u32], values: &[i16], gap: u32, i: usize, end: usize) -> usize
-    requires { ⌜ Trace (now ticks) (now values) × (i + 1 < length (now ticks)) × EndKnown (now ticks) gap i end ⌝ }
-    ensures { λ r. ⌜ r ≡ linksEnd (now (ticks .entry)) gap i ⌝ }
-{
-    if i < end {
-        return end;
-    }
-    links_end(ticks, values, gap, i)
 }

@@ -1,17 +1,18 @@
--- `reduction::walks::walk` meets its contract. The loop's invariant: the list so far and the stops to come are walk's list. Assumes nothing.
-use Prim.Native.Nat.{_-_}
+-- `reduction::walks::walk` meets its contract. The loop's invariant: the list so far and the stops to come are walk's list; sample i is not the last, and `limit` is where links from it end. Assumes nothing.
+use mathlib.Core.Path.{_≡_}
+use Prim.Native.Nat.{_-_, _<_}
 use native.Mathlib.Omega.{arith}
 use borrow.Author.Needs.{needs}
 use Rattle.kept.specs.Walk.{walkStop}
 use Rattle.kept.proofs.Filling.{Filling, filling-none, filling-more, walk-bounds, walk-filled}
-use Rattle.trace.specs.Link.{valid, EndKnown}
-use Rattle.trace.proofs.Holes.{end-none, end-more}
+use Rattle.trace.specs.Link.{valid, linksEnd}
+use Rattle.trace.proofs.Holes.{end-same}
 use Rattle.trace.proofs.Validity.{steps-valid}
 use Rattle.reduction.proofs.walks.walk.Statement.{statement}
 use Rattle.reduction.proofs.walks.walk.Tie as tie
 
 abbrev Inv-loop : tie.InvT-loop
-Inv-loop ticks values c out₀ last count₀ i₀ limit₀ out count i limit = Filling (walkStop (valid ticks values c) last) last out₀ out count i × EndKnown ticks (c .gap) i limit
+Inv-loop ticks values c out₀ last count₀ i₀ limit₀ out count i limit = Filling (walkStop (valid ticks values c) last) last out₀ out count i × (i < last) × (limit ≡ linksEnd ticks (c .gap) i)
 
 abbrev μ-loop : tie.MeasureT-loop
 μ-loop ticks values c out₀ last count₀ i₀ limit₀ out count i limit = last - i
@@ -22,16 +23,27 @@ sub-last c = search needs
 store-requires : tie.Need-store-requires Inv-loop μ-loop
 store-requires c κs = search needs
 
+same-length : tie.Need-same-length Inv-loop μ-loop
+same-length c = search needs
+
+returns : tie.Need-returns Inv-loop μ-loop
+returns c =
+    let s = c .before .before .before .before .before .before .before in
+    walk-filled _ _ (filling-none _ _ (s .args .out .now) (c .before .before .before .store .ensures) (omega (arith, s .pre))) (s .args .out .now) (c .before .before .before .store .ensures) (omega (arith, c .if1 .taken))
+
+links-end-requires : tie.Need-links-end-requires Inv-loop μ-loop
+links-end-requires c κs = search needs
+
 loop-holds : tie.Need-loop-holds Inv-loop μ-loop
 loop-holds c =
-    let s = c .before .before .before .before .before .before in
-    (filling-none _ _ (s .args .out .now) (c .before .before .store .ensures) (omega (arith, s .pre)), end-none)
-
-end-from-requires : tie.Need-end-from-requires Inv-loop μ-loop
-end-from-requires c κs = search needs
+    let s = c .before .before .before .before .before .before .before .before in
+    (filling-none _ _ (s .args .out .now) (c .before .before .before .before .store .ensures) (omega (arith, s .pre)), omega (arith, c .before .if1 .left), c .links-end .ensures)
 
 stop-after-requires : tie.Need-stop-after-requires Inv-loop μ-loop
-stop-after-requires c κs = search needs
+stop-after-requires c κs =
+    let inv = c .loop .inv in
+    let pre = c .before .before .before .before .before .before .before .before .before .pre in
+    (pre .0, pre .1, omega (arith, inv .1), inv .2)
 
 store-requires-2 : tie.Need-store-requires-2 Inv-loop μ-loop
 store-requires-2 c κs = search needs
@@ -39,24 +51,38 @@ store-requires-2 c κs = search needs
 add-count : tie.Need-add-count Inv-loop μ-loop
 add-count c = search needs
 
+same-length-2 : tie.Need-same-length-2 Inv-loop μ-loop
+same-length-2 c = omega (arith, c .before .before .before .before .before .before .before .loop .inv .0 .same)
+
+returns-2 : tie.Need-returns-2 Inv-loop μ-loop
+returns-2 c =
+    let s = c .before .before .before .before .before .before in
+    let l = s .before in
+    let inv = l .loop .inv in
+    rw (c .before .before .before .before .store2 .ensures) (walk-filled _ _ (filling-more (inv .0) (walk-bounds _ _ (steps-valid _ _ _)) (inv .1) (s .stop-after .ensures .0)) (l .before .before .before .before .before .before .before .before .before .args .out .now) (l .before .before .before .before .before .store .ensures) (c .if3 .taken))
+
+links-end-requires-2 : tie.Need-links-end-requires-2 Inv-loop μ-loop
+links-end-requires-2 c κs = let pre = c .before .before .before .before .before .before .before .before .before .before .before .before .before .before .before .before .pre in (pre .0, omega (arith, c .if3 .left, pre .0 .some))
+
 loop-less : tie.Need-loop-less Inv-loop μ-loop
 loop-less c = search needs
 
 loop-again : tie.Need-loop-again Inv-loop μ-loop
 loop-again c =
-    let s = c .before .before .before .before in
-    let e = s .before in
-    let at = e .before in
-    let b = s .stop-after .ensures .1 in (
-      rw (c .before .before .store2 .ensures) (filling-more (at .before .loop .inv .0) (walk-bounds _ _ (steps-valid _ _ _)) (at .loop-test .taken) (s .stop-after .ensures .0)),
-      end-more (omega (arith, at .loop-test .taken)) (e .end-from .ensures) (omega arith) (b .1),
-    )
+    let s = c .before .before .before .before .before .before .before in
+    let inv = s .before .loop .inv in
+    (rw (c .before .before .before .before .before .store2 .ensures) (filling-more (inv .0) (walk-bounds _ _ (steps-valid _ _ _)) (inv .1) (s .stop-after .ensures .0)), omega (arith, c .before .if3 .left), c .links-end2 .ensures)
 
-same-length : tie.Need-same-length Inv-loop μ-loop
-same-length c = omega (arith, c .before .loop .inv .0 .same, c .before .before .before .before .store .kept)
+loop-less-2 : tie.Need-loop-less-2 Inv-loop μ-loop
+loop-less-2 c = search needs
 
-returns : tie.Need-returns Inv-loop μ-loop
-returns c = walk-filled _ _ (c .before .loop .inv .0) (c .before .before .before .before .before .before .before .before .args .out .now) (c .before .before .before .before .store .ensures) (c .loop-test .left)
+loop-again-2 : tie.Need-loop-again-2 Inv-loop μ-loop
+loop-again-2 c =
+    let s = c .before .before .before .before .before in
+    let inv = s .before .loop .inv in
+    let b = s .stop-after .ensures .1 in
+    let e = end-same _ _ {k = s .stop-after .result} (omega (arith, inv .1)) (inv .2) (omega (arith, b .0)) (omega (arith, c .if2 .left)) in
+    (rw (c .before .before .before .store2 .ensures) (filling-more (inv .0) (walk-bounds _ _ (steps-valid _ _ _)) (inv .1) (s .stop-after .ensures .0)), e .0, e .1)
 
 pub walk-spec : {M : Type 1} → statement M
 walk-spec =
@@ -66,12 +92,17 @@ walk-spec =
     μ-loop
     sub-last
     store-requires
+    same-length
+    returns
+    links-end-requires
     loop-holds
-    end-from-requires
     stop-after-requires
     store-requires-2
     add-count
+    same-length-2
+    returns-2
+    links-end-requires-2
     loop-less
     loop-again
-    same-length
-    returns)
+    loop-less-2
+    loop-again-2)
