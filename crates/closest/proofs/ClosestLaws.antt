@@ -2,17 +2,16 @@
 -- Assumes nothing.
 use mathlib.Core.Path.{_≡_, refl, sym}
 use mathlib.Core.Bool.{true, false}
-use mathlib.Core.List.{List, [], _∷_}
+use mathlib.Core.List.{List}
 use mathlib.Core.Logic.{_↔_}
 use Prim.Native.Nat.{ℕ, suc, _+_, _-_, _*_, _/_, _≤_, _<_}
-use native.Mathlib.Nat.{mul-pos, mul-le-mul-right, le-of-mul-le-mul-left, le-of-mul-le-mul-right, le-div-iff-mul-le, div-mul-le-self, pos-of-ne-zero}
+use native.Mathlib.Nat.{mul-pos, mul-le-mul-right, le-of-mul-le-mul-left, le-of-mul-le-mul-right, le-div-iff-mul-le, div-mul-le-self}
 use native.Mathlib.Omega.{arith}
-use borrow.Author.Tests.{le-leb}
 use lib.IntN.{ℤ}
 use lib.ListN.{length, take}
 use Rattle.ratio.specs.declared.Ratio.{Ratio}
 use Rattle.ratio.specs.declared.Neighbours.{Neighbours}
-use Rattle.ratio.specs.Order.{over, AtMost, Below, greater}
+use Rattle.ratio.specs.Order.{over, AtMost, Below}
 use Rattle.ratio.specs.Farey.{Searched, Surrounds}
 use Rattle.ratio.proofs.OrderLaws.{at-most-trans, at-most-below, common-product}
 use Rattle.ratio.proofs.FareyLaws.{nearest-below}
@@ -25,7 +24,7 @@ use Rattle.kept.proofs.KeptLaws.{greedy-size}
 use Rattle.kept.proofs.StopsLaws.{list-greedy}
 use Rattle.kept.proofs.LeastLaws.{found-least}
 use Rattle.trace.specs.Trace.{Trace}
-use Rattle.trace.specs.Link.{obeys, linksEnd, linkError, listError, limited, criterion, Bounded}
+use Rattle.trace.specs.Link.{obeys, linksEnd, listError, limited, criterion, Bounded}
 use Rattle.trace.proofs.Holes.{links-end-after, links-end-inside, obeys-to, obeys-past, obeys-inside}
 use Rattle.trace.proofs.Errors.{allowed-small, trace-measures, list-error-small, within-error}
 use Rattle.shortest.specs.Shortest.{minimumList}

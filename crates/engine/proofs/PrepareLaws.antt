@@ -9,11 +9,11 @@ use lib.ListN.{length}
 use borrow.Author.Tests.{le-leb, lt-leb}
 use Rattle.ratio.specs.declared.Ratio.{Ratio}
 use Rattle.refusal.specs.declared.Refusal.{Refusal}
-use Rattle.refusal.specs.declared.Refusal.the-variants.{Room, Tolerance, Gap}
+use Rattle.refusal.specs.declared.Refusal.the-variants.{Room, Gap}
 use Rattle.refusal.specs.declared.Checked.the-variants.{Fine, Refused}
 use Rattle.refusal.proofs.TableLaws.{then-fine}
 use Rattle.engine.specs.declared.Limits.{Limits}
-use Rattle.tolerance.specs.declared.Meaning.the-variants.{Exact, NotAllowed}
+use Rattle.tolerance.specs.declared.Meaning.the-variants.{Exact}
 use Rattle.tolerance.specs.Meaning.{meaning}
 use Rattle.tolerance.proofs.Meanings.{exact-held}
 use Rattle.trace.specs.declared.Criterion.{Criterion}
@@ -44,9 +44,6 @@ exact-sets t {r} e fine =
 pub exact-allowed : (t : Limits) {r : Ratio} (x : Ready) → meaning (t .tolerance) ≡ Exact r → Under r (t .gap) x → Allowed t x
 exact-allowed t (At c) e u = rw (u .1) (exact-sets t e (u .0))
 exact-allowed t (Declined x) e u = rw e u
-
-pub not-exact : (t : Limits) → meaning (t .tolerance) ≡ NotAllowed → Allowed t (Declined Tolerance)
-not-exact t e = rw e
 
 pub common-trace : (ts : List ℕ) (vs : List ℤ) (t : Limits) → commonRows ts vs t ≡ Fine → Trace ts vs
 unfolding commonRows

@@ -1,10 +1,10 @@
 -- The outcome of `judge` (document 01, "The four reductions" and "When the engine declines").
---   judgeRows      the first row that applies, in rising number: 1, 2, 3, 4, 6
+--   judgeRows      the first row that applies, in the order 1, 2, 3, 4, 15, 6
 --   listVerdict    yes, or no at the first invalid link
 --   declineOr      a refusal, or else the verdict
 --   judgeOf        what `judge` answers
 --   JudgeOutcome   its contract
---   judgedAt       the answer where the checks 1 to 4 pass
+--   judgedAt       the answer where the checks 1 to 4 and 15 pass
 -- Assumes nothing.
 use mathlib.Core.Path.{_≡_}
 use mathlib.Core.Logic.{_↔_}
@@ -40,7 +40,7 @@ declineOr (Refused x) v = Declined x
 unfoldable pub judgeOf : List ℕ → List ℤ → List ℕ → Limits → Verdict
 judgeOf ts vs l t = declineOr (judgeRows ts vs l t) (listVerdict ts vs l (criterionOf t))
 
--- A list that row 6 does not refuse is a kept list, and it is passed exactly if each of its links is within the tolerance (demand 2).
+-- A list that row 6 does not refuse is a kept list, and it is passed exactly if each of its links is valid (demand 2).
 pub record JudgeOutcome (ts : List ℕ) (vs : List ℤ) (l : List ℕ) (t : Limits) (r : Verdict) : Type 0 where
   pub is : r ≡ judgeOf ts vs l t
   pub passed : r ≡ Yes ↔ (judgeRows ts vs l t ≡ Fine) × KeptList (length ts - 1) l × AllValid (valid ts vs (criterionOf t)) l

@@ -1,5 +1,5 @@
 -- The checks of a trace and its limits, a tolerance and a gap limit, which several calls have in common (document 01, "When the engine declines";
--- document 02, wish 6).
+-- document 02, "Dropouts").
 --   unlimited                     the limits of a tolerance alone: the gap limit is at its largest
 --   gapRow, limitRows             row 15; the first of the rows 4, 15 that applies
 --   commonRows                    the first of the rows 1, 2, 3, 4, 15 that applies

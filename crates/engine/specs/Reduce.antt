@@ -1,5 +1,5 @@
 -- The outcomes of the greedy reductions, walk and gallop (document 01, "The four reductions", and demands 1, 2 and 3).
---   okOf                         the link test of a trace at a tolerance
+--   okOf                         the link test of a trace under limits
 --   GreedyList                   a kept list of valid links with maximal stops, and demand 3 of it
 --   WalkKept, GallopKept         what holds where walk, gallop kept a list
 --   WalkOutcome, GallopOutcome   the contracts: by cases on the answer
@@ -32,7 +32,7 @@ pub record GreedyList (ts : List ℕ) (vs : List ℤ) (t : Limits) (l : List ℕ
   pub kept : KeptList (length ts - 1) l
   pub within : AllValid (okOf ts vs t) l
   pub maximal : MaximalStops (okOf ts vs t) (length ts - 1) l
-  -- demand 3: every kept list of this trace within half the tolerance, p over 2q, has at least as many samples
+  -- demand 3: every kept list of this trace that obeys the gap limit and is within half the tolerance, p over 2q, has at least as many samples
   pub size : NoLonger ts vs (criterionOf t) (length l)
 
 -- walk kept n samples, and the lent list o became o′

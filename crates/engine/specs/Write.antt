@@ -1,10 +1,10 @@
 -- The outcome of write (document 01, "The record" and "When the engine declines").
---   writeRows      the first row that applies, in rising number: 1, 2, 3, 4, 15, 6, 7, 10
+--   writeRows      the first row that applies, in the order 1, 2, 3, 4, 15, 6, 7, 10
 --   linkRow        row 7: an invalid link
 --   contentOf      what is written: the held tolerance and the samples that the list keeps
 --   Recorded       what holds where a record was written
 --   WriteOutcome   the contract: by cases on the answer
---   ListReady      what the checks 1 to 4 and 6 give
+--   ListReady      what the checks 1 to 4, 15 and 6 give
 -- A refused call leaves the event buffer as it was. Otherwise the record's bytes stand from the place on, and the others stay.
 -- Assumes nothing.
 use mathlib.Core.Path.{_≡_}
@@ -51,7 +51,7 @@ abbrev pub WriteOutcome : List ℕ → List ℤ → List ℕ → Limits → List
 WriteOutcome ts vs l t o place (Count n) o′ = Recorded ts vs l t o place n o′
 WriteOutcome ts vs l t o place (Declined x) o′ = (writeRows ts vs l t (length o) place ≡ Refused x) × (o′ ≡ o)
 
--- the checks 1 to 4 and 6 pass
+-- the checks 1 to 4, 15 and 6 pass
 pub record ListReady (ts : List ℕ) (vs : List ℤ) (l : List ℕ) (t : Limits) (c : Criterion) : Type 0 where
   pub ready : ReadyAt ts vs t c
   pub list : listRow (length ts) l ≡ Fine

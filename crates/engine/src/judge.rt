@@ -1,4 +1,4 @@
-// The public call `judge`: whether each link of a proposed list is within a tolerance.
+// The public call `judge`: whether each link of a proposed list is valid.
 ghost use mathlib.Core.Path.{_≡_};
 ghost use Prim.Native.Nat.{_-_};
 ghost use lib.ListN.{length};
@@ -25,7 +25,7 @@ fn verdict(ticks: &[u32], values: &[i16], list: &[u16], c: Criterion) -> Verdict
     Verdict::No(k)
 }
 
-// The answer where the checks 1 to 4 pass.
+// The answer where the checks 1 to 4 and 15 pass.
 fn judge_at(ticks: &[u32], values: &[i16], list: &[u16], c: Criterion) -> Verdict
     requires { ⌜ Trace (now ticks) (now values) × Bounded c ⌝ }
     ensures { λ r. ⌜ r ≡ judgedAt (now (ticks .entry)) (now (values .entry)) (now (list .entry)) c ⌝ }
@@ -37,7 +37,7 @@ fn judge_at(ticks: &[u32], values: &[i16], list: &[u16], c: Criterion) -> Verdic
     }
 }
 
-// Whether each link of the list is within the tolerance; if not, the first link that is not.
+// Whether each link of the list is valid; if not, the first that is not.
 pub fn judge(ticks: &[u32], values: &[i16], list: &[u16], t: Limits) -> Verdict
     ensures { λ r. ⌜ JudgeOutcome (now (ticks .entry)) (now (values .entry)) (now (list .entry)) t r ⌝ }
 {

@@ -24,7 +24,7 @@ enum Ready {
     Refused(Refusal),
 }
 
-// What `judge` answers: every link is within the tolerance; or not, with the position of the first that is not; or a refusal.
+// What `judge` answers: every link is valid; or not, with the position of the first that is not; or a refusal.
 pub enum Verdict {
     Yes,
     No(usize),

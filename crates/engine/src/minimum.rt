@@ -1,4 +1,4 @@
-// The public call `minimum`: the shortest kept list of a trace within a tolerance.
+// The public call `minimum`: the shortest kept list of a trace whose links are valid.
 ghost use Rattle.engine.specs.Minimum.{MinimumOutcome};
 use crate::Limits;
 use crate::Ready;

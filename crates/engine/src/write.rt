@@ -36,7 +36,7 @@ fn write_list(
     }
 }
 
-// Check 6 and what follows, where the checks 1 to 4 pass.
+// Check 6 and what follows, where the checks 1 to 4 and 15 pass.
 fn write_at(
     ticks: &[u32],
     values: &[i16],

@@ -350,7 +350,7 @@ pub extern "C" fn kovrelna_hold(t: Tolerance) -> Held
     held_of(engine::hold::hold(tolerance_of(t)))
 }
 
-// Whether each link of the list is within the tolerance.
+// Whether each link of the list is valid.
 #[no_mangle]
 pub extern "C" fn kovrelna_judge(ticks: &[u32], values: &[i16], list: &[u16], t: Limits) -> Verdict
     ensures { λ r. ⌜ JudgeExport (now (ticks .entry)) (now (values .entry)) (now (list .entry)) t r ⌝ }

@@ -2,7 +2,7 @@
 --   lists-as-before, rows-as-before   with the gap limit at its largest, every list and every answer is as without one
 --   shortest-obeying                  the shortest kept list that obeys a gap limit has both ends and the samples on either side of each hole
 -- Assumes nothing.
-use mathlib.Core.Path.{_≡_, refl, ap, fun-ext, _∙_}
+use mathlib.Core.Path.{_≡_, refl, ap, fun-ext}
 use mathlib.Core.Logic.{_⊎_, inl, inr, ⊎-elim, _↔_}
 use mathlib.Core.Bool.{true, _||_}
 use mathlib.Core.List.{List, [], _∷_, List·Memᴰ, List·Memᴰ·head, List·Memᴰ·tail, List·Memᴰ·cases-cons, List·Memᴰ·eq-of-singleton}
@@ -18,7 +18,6 @@ use Rattle.lists.specs.First.{first}
 use Rattle.lists.proofs.Tests.{true-false, and-first, or-first, or-second, or-cases}
 use Rattle.lists.proofs.FirstLaws.{first-found}
 use Rattle.ratio.specs.declared.Ratio.{Ratio}
-use Rattle.refusal.specs.declared.Refusal.the-variants.{Holes}
 use Rattle.refusal.specs.declared.Checked.{Checked}
 use Rattle.refusal.specs.declared.Checked.the-variants.{Fine, Refused}
 use Rattle.refusal.specs.Table.{roomRow, _thenCheck_}
@@ -33,18 +32,16 @@ use Rattle.kept.specs.Least.{obeyingError, leastOf}
 use Rattle.tolerance.specs.declared.Tolerance.{Tolerance}
 use Rattle.tolerance.specs.Meaning.{meaning}
 use Rattle.trace.specs.Trace.{Trace, traceRows}
-use Rattle.trace.specs.Link.{hole, obeys, linksEnd, criterion, linkError}
+use Rattle.trace.specs.Link.{hole, obeys, linksEnd, linkError}
 use Rattle.trace.proofs.TraceLaws.{rows-trace}
 use Rattle.trace.proofs.Holes.{widest-obeys}
 use Rattle.trace.proofs.Validity.{widest-valid}
 use Rattle.closest.specs.Closest.{obeyingList, fewestSamples}
 use Rattle.closest.proofs.ClosestLaws.{obeying-kept, obeying-obeys, obeying-fewest}
-use Rattle.channels.specs.Channels.{crateRow}
 use Rattle.engine.specs.Hold.{toleranceRow}
-use Rattle.engine.specs.Prepare.{unlimited, commonRows, outputRows}
+use Rattle.engine.specs.Prepare.{commonRows, outputRows}
 use Rattle.engine.specs.Least.{allowanceRow, holesRow, allowedRows, leastRows}
 use Rattle.engine.specs.Report.{crateRows}
-use Rattle.engine.proofs.LeastLaws.{holes-exact}
 use Rattle.promises.specs.Pedestals.{Exactly}
 use Rattle.promises.specs.Dropouts.{ListsAsBefore, RowsAsBefore, besideHole, ShortestObeying}
 

@@ -1,6 +1,6 @@
--- Gallop's probe total for a readout budget, from the contract alone: for every trace and tolerance, unless the call is refused.
+-- Gallop's probe total for a readout budget, from the contract alone: for every trace and all limits, unless the call is refused.
 --   probe-budget    the total is the sum over the list written, and bounded by the stops and the samples
---   probes-alone    two calls that write the same list return the same total, whatever their traces and tolerances
+--   probes-alone    two calls that write the same list return the same total, whatever their traces and limits
 -- Assumes nothing.
 use mathlib.Core.Path.{_≡_, refl, sym, _∙_, ap}
 use mathlib.Core.List.{List}

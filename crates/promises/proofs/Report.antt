@@ -52,7 +52,7 @@ module _ {ts : List ℕ} {vs : List ℤ} {ls : List ℕ} {t : Limits} {o o′ : 
   pub report-within : (i : ℕ) → i < length ls → AtMost (rowError (getD o′ i zeros)) (ratioOf (criterionOf t))
   report-within i h = rw (report-row i h) (row-within (criterionOf t) (ofChannel ls i ts) (ofChannel ls i vs))
 
-  -- what holds of the row of any trace at the tolerance holds of each row
+  -- what holds of the row of any trace under the limits holds of each row
   each-row : (P : Summary → Type 0) → ((us : List ℕ) (ws : List ℤ) → P (rowOf (criterionOf t) us ws)) → (i : ℕ) → i < length (reportRows ts vs ls t) → P (getD (reportRows ts vs ls t) i zeros)
   each-row P h i u = rw (rows-own (criterionOf t) ts vs ls i (omega (arith, count, u))) (h _ _)
 

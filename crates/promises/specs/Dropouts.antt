@@ -1,4 +1,4 @@
--- Gap limits (document 02, wish 6): what is as without one where it is at its largest, and what 16 means.
+-- Gap limits (document 02, "Dropouts"): what is as without one where it is at its largest, and what 16 means.
 --   ListsAsBefore     the lists, the probes and the least error are document 01's, over its link test `allWithin` and over every kept list
 --   RowsAsBefore      the rows of the table that apply are document 01's
 --   besideHole        an end of the trace, or a sample on either side of a hole

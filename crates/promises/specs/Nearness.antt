@@ -1,4 +1,4 @@
--- How near a list is to the shortest and to the closest: demand 3, whole (document 01, "The trace and its links"; document 02, wish 6).
+-- How near a list is to the shortest and to the closest: demand 3, whole (document 01, "The trace and its links"; document 02, "Dropouts").
 --   NearShortest    a kept list of valid links, and no kept list of links that are valid at half the tolerance under the same gap limit has fewer samples
 --   Nearest         a kept list of at most m samples that obeys the gap limit, and no such list has a lesser error
 -- The theorems are in proofs/Nearness. Assumes nothing.

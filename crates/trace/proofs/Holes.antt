@@ -1,24 +1,23 @@
 -- Laws of the gap limit: `obeys` computes `Obeys`; links inside a link that obeys it do so too; from one sample the links that obey it
 -- are those up to `linksEnd`; and at its largest it cuts no link of a trace.
 -- Assumes nothing.
-use mathlib.Core.Path.{_≡_, refl, sym, ap, subst, _∙_}
-use mathlib.Core.Logic.{⊎-elim}
+use mathlib.Core.Path.{_≡_, sym, ap, _∙_}
 use mathlib.Core.Bool.{true, false, not}
 use mathlib.Core.List.{List}
 use Prim.Native.Nat.{ℕ, suc, _+_, _-_, _≤_, _<_, max}
 use native.Mathlib.Decide.{decLe, decLt}
 use native.Mathlib.Numerals.{add-one}
 use native.Mathlib.Omega.{arith}
-use lib.Dec.{leb, ltb, eqb}
+use lib.Dec.{leb, ltb}
 use lib.IntN.{ℤ}
 use lib.ListN.{length, List·getD-eq-default}
-use borrow.Author.Tests.{le-leb, lt-leb, leb-true, leb-false, ltb-true, ltb-false, lt-ltb, le-ltb, not-true, eq-eqb, eqb-true}
+use borrow.Author.Tests.{le-leb, lt-leb, ltb-true, ltb-false, le-ltb, not-true}
 use Rattle.lists.specs.First.{first, Clear}
-use Rattle.lists.proofs.Tests.{or-first, or-second, is-false, tests-equal}
+use Rattle.lists.proofs.Tests.{or-first, or-second, is-false}
 use Rattle.lists.proofs.FirstLaws.{clear-none, clear-more, first-found, first-at, first-skip}
-use Rattle.kept.specs.Kept.{StepsValid, Halves}
-use Rattle.trace.specs.Trace.{tick, Rising, Trace}
-use Rattle.trace.specs.Link.{allFrom, hole, Obeys, obeys, linksEnd}
+use Rattle.kept.specs.Kept.{Halves}
+use Rattle.trace.specs.Trace.{tick, Trace}
+use Rattle.trace.specs.Link.{hole, Obeys, obeys, linksEnd}
 use Rattle.trace.proofs.Ticks.{span-bound}
 use Rattle.trace.proofs.Between.{all-from-true, all-from-at}
 
@@ -32,10 +31,6 @@ module _ (ts : List ℕ) (g : ℕ) where
   unfolding hole
   hole-none k h = le-ltb _ _ h
 
-  pub hole-some : (k : ℕ) → g < tick ts (suc k) - tick ts k → hole ts g k ≡ true
-  unfolding hole
-  hole-some k h = lt-ltb _ _ h
-
   pub none-hole : (k : ℕ) → hole ts g k ≡ false → tick ts (suc k) - tick ts k ≤ g
   unfolding hole
   none-hole k h = ltb-false _ _ h
@@ -45,11 +40,6 @@ module _ (ts : List ℕ) (g : ℕ) where
   some-hole k h = ltb-true _ _ h
 
   module _ (i j : ℕ) where
-    -- a link over one step obeys every limit
-    pub obeys-step : j ≤ suc i → obeys ts g i j ≡ true
-    unfolding obeys
-    obeys-step h = or-first _ _ (le-leb j (suc i) h)
-
     pub obeys-true : Obeys ts g i j → obeys ts g i j ≡ true
     unfolding obeys
     obeys-true h = elim (decLe j (suc i)) [
@@ -63,19 +53,17 @@ module _ (ts : List ℕ) (g : ℕ) where
       near = λ long k l u. none-hole k (not-true _ (all-from-at (λ k. not (hole ts g k)) (j - i) i (rw (lt-leb j (suc i) long) at e) k l (omega arith)));
     }
 
-  -- the code's test of a link over more than one step, by its first hole
-  pub obeys-first : (i j : ℕ) {e : ℕ} → i < j → (j ≡ i + 1 → ⊥) → e ≡ first (hole ts g) i j → eqb e j ≡ obeys ts g i j
-  obeys-first i j {e} lt long h =
-      let f = first-found (hole ts g) i j (omega arith) in
-      tests-equal _ _
-      (λ q. let s : e ≡ j = eqb-true e j q in obeys-true i j (record { near = λ _ k l u. none-hole k (f .clear .none k l (omega arith)) }))
-      (λ o. eq-eqb e j (elim (decLt e j) [
-        | yes q ↦ absurd (omega (arith, some-hole e (rw (← h) at (f .here (omega arith))), true-obeys i j o .near (omega arith) e (omega (arith, f .from)) q))
-        | no q ↦ omega (arith, f .to)
-      ]))
+  -- a link over more than one step, by its first hole
+  module _ (i j : ℕ) {e : ℕ} (lt : i < j) (h : e ≡ first (hole ts g) i j) where
+    pub first-obeys : j ≤ e → obeys ts g i j ≡ true
+    first-obeys le =
+        let f = first-found (hole ts g) i j (omega arith) in
+        obeys-true i j (record { near = λ _ k l u. none-hole k (f .clear .none k l (omega arith)) })
 
-  pub steps-obey : StepsValid (obeys ts g)
-  steps-obey i = obeys-step i (suc i) (omega arith)
+    pub first-cuts : (j ≡ i + 1 → ⊥) → e < j → obeys ts g i j ≡ false
+    first-cuts long q =
+        let f = first-found (hole ts g) i j (omega arith) in
+        is-false _ (λ o. absurd (omega (arith, some-hole e (rw (← h) at (f .here (omega arith))), true-obeys i j o .near (omega arith) e (omega (arith, f .from)) q)))
 
   -- links inside a link that obeys the limit do so too
   pub obeys-inside : (last : ℕ) → Halves (obeys ts g) (obeys ts g) last
@@ -128,10 +116,7 @@ module _ (ts : List ℕ) (g : ℕ) where
     unfolding linksEnd
     links-end-same k l u =
         let f = first-found (hole ts g) i (length ts - 1) (omega arith) in
-        elim (decLt i k) [
-          | yes q ↦ omega (arith, first-skip (hole ts g) i k (length ts - 1) l (omega (arith, f .to)) (record { none = λ n a b. f .clear .none n a (omega arith) }))
-          | no q ↦ let s : k ≡ i = omega arith in rw s
-        ]
+        omega (arith, first-skip (hole ts g) i k (length ts - 1) l (omega (arith, f .to)) (record { none = λ n a b. f .clear .none n a (omega arith) }))
 
 -- so they are not the last sample, and where links from one of them end need not be searched again
 pub end-same : (ts : List ℕ) (g : ℕ) {i end k : ℕ} → i + 1 < length ts → end ≡ linksEnd ts g i → i ≤ k → k < end → (k < length ts - 1) × (end ≡ linksEnd ts g k)

@@ -1,6 +1,6 @@
 -- `closest::tries::obeying` meets its contract: each turn writes one stop more, and the stops from i on complete the list. Assumes nothing.
 use mathlib.Core.Path.{refl}
-use Prim.Native.Nat.{_-_, _≤_, _<_}
+use Prim.Native.Nat.{_-_, _<_}
 use native.Mathlib.Omega.{arith}
 use lib.ListN.{length, length-set}
 use borrow.Author.Needs.{needs}

@@ -1,6 +1,5 @@
 -- `reduction::walks::stop_after` meets its contract. The loop's invariant: `at` is reached by valid links. Assumes nothing.
 use Prim.Native.Nat.{_-_}
-use native.Mathlib.Omega.{arith}
 use borrow.Author.Needs.{needs}
 use borrow.Author.Tests.{not-true, not-false}
 use Rattle.reduction.proofs.WalkingLaws.{WalkedTo, walked-first, walked-next, walked-valid, walked-invalid, walked-last, walked-bounds}

@@ -1,8 +1,7 @@
 -- `trace::gaps::first_hole` meets its contract: under the largest limit there is no hole; otherwise the loop has found none before k. Assumes nothing.
-use Prim.Native.Nat.{_-_, _+_}
+use Prim.Native.Nat.{_-_}
 use mathlib.Core.Path.{sym, _∙_}
 use native.Mathlib.Omega.{arith}
-use lib.ListN.{length}
 use borrow.Author.Needs.{needs}
 use Rattle.lists.proofs.FirstLaws.{clear-join, first-none, first-skip, Searching, searching-none}
 use Rattle.trace.specs.Link.{hole}

@@ -1,6 +1,6 @@
 -- `trace::gaps::some_hole` meets its contract: while `some` is false there is no hole before k. Assumes nothing.
-use mathlib.Core.Path.{sym, subst, ap}
-use mathlib.Core.Bool.{Bool, not, _||_}
+use mathlib.Core.Path.{ap}
+use mathlib.Core.Bool.{not}
 use Prim.Native.Nat.{_-_}
 use native.Mathlib.Omega.{arith}
 use borrow.Author.Needs.{needs}
