@@ -1,6 +1,7 @@
 -- Gap limits, from the definitions that the contracts name:
 --   lists-as-before, rows-as-before   with the gap limit at its largest, every list and every answer is as without one
 --   shortest-obeying                  the shortest kept list that obeys a gap limit has both ends and the samples on either side of each hole
+--   beside-kept                       every kept list that obeys it has these samples
 -- Assumes nothing.
 use mathlib.Core.Path.{_≡_, refl, ap, fun-ext}
 use mathlib.Core.Logic.{_⊎_, inl, inr, ⊎-elim, _↔_}
@@ -22,7 +23,7 @@ use Rattle.refusal.specs.declared.Checked.{Checked}
 use Rattle.refusal.specs.declared.Checked.the-variants.{Fine, Refused}
 use Rattle.refusal.specs.Table.{roomRow, _thenCheck_}
 use Rattle.refusal.proofs.TableLaws.{row-fine}
-use Rattle.kept.specs.Kept.{KeptList, LinksFrom, final}
+use Rattle.kept.specs.Kept.{KeptList, AllValid, LinksFrom, final}
 use Rattle.kept.proofs.KeptLaws.{links-at, rise-le}
 use Rattle.kept.specs.Stops.{stops}
 use Rattle.kept.specs.Walk.{walkOf}
@@ -34,7 +35,7 @@ use Rattle.tolerance.specs.Meaning.{meaning}
 use Rattle.trace.specs.Trace.{Trace, traceRows}
 use Rattle.trace.specs.Link.{hole, obeys, linksEnd, linkError}
 use Rattle.trace.proofs.TraceLaws.{rows-trace}
-use Rattle.trace.proofs.Holes.{widest-obeys}
+use Rattle.trace.proofs.Holes.{some-hole, true-obeys, widest-obeys}
 use Rattle.trace.proofs.Validity.{widest-valid}
 use Rattle.closest.specs.Closest.{obeyingList, fewestSamples}
 use Rattle.closest.proofs.ClosestLaws.{obeying-kept, obeying-obeys, obeying-fewest}
@@ -223,3 +224,23 @@ module _ (ts : List ℕ) (g : ℕ) where
 
     pub shortest-obeying : ShortestObeying ts g (obeyingList ts g)
     shortest-obeying = record { kept = obeying-kept ts g; obeying = obeying-obeys ts g; fewest = obeying-fewest ts g; entries = entries }
+
+  -- ---- every list that obeys a gap limit
+
+  from-kept : (s : List ℕ) (i : ℕ) → LinksFrom (λ i j. obeys ts g i j ≡ true) i s → (k : ℕ) → i ≤ k → k < final i s → hole ts g k ≡ true
+      → List·Memᴰ k (i ∷ s) × List·Memᴰ (suc k) (i ∷ s)
+  from-kept [] i o k l u h = absurd (omega arith)
+  from-kept (j ∷ s) i o k l u h = elim (decLt k j) [
+    | yes q ↦ elim (decLt (suc i) j) [
+      | yes long ↦ absurd (omega (arith, some-hole ts g k h, true-obeys ts g i j (o .0) .near long k l q))
+      | no one ↦ (List·Memᴰ·head {x = i} (omega arith), List·Memᴰ·tail {xs = j ∷ s} (List·Memᴰ·head {x = j} (omega arith)))
+    ]
+    | no q ↦
+        let m = from-kept s j (o .1) k (omega arith) u h in
+        (List·Memᴰ·tail {xs = j ∷ s} (m .0), List·Memᴰ·tail {xs = j ∷ s} (m .1))
+  ]
+
+  -- it has the samples on either side of each hole
+  pub beside-kept : (l : List ℕ) → KeptList last l → AllValid (obeys ts g) l → (k : ℕ) → k < last → hole ts g k ≡ true → List·Memᴰ k l × List·Memᴰ (suc k) l
+  beside-kept [] kept o k u h = absurd (kept .spans)
+  beside-kept (i ∷ s) kept o k u h = from-kept s i o k (omega (arith, kept .spans .0)) (omega (arith, kept .spans .1)) h

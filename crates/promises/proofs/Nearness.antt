@@ -4,7 +4,7 @@
 --   least-near     least's list obeys the gap limit and has at most m samples and exactly the error returned, and no such list has a lesser one
 -- Each follows from the call's contract alone, and speaks of what the call returned: the kept number, the error, the entries written.
 -- Assumes nothing.
-use mathlib.Core.Path.{_≡_}
+use mathlib.Core.Path.{_≡_, refl}
 use mathlib.Core.List.{List}
 use Prim.Native.Nat.{ℕ}
 use native.Mathlib.Omega.{arith}
@@ -14,9 +14,12 @@ use Rattle.lists.specs.Overwrite.{Wrote}
 use Rattle.lists.proofs.OverwriteLaws.{wrote-read}
 use Rattle.refusal.specs.declared.Checked.the-variants.{Fine}
 use Rattle.refusal.proofs.TableLaws.{then-fine}
+use Rattle.tolerance.specs.declared.Meaning.{Meaning}
+use Rattle.tolerance.specs.declared.Meaning.the-variants.{Exact, NotAllowed}
+use Rattle.tolerance.specs.Meaning.{meaning}
 use Rattle.engine.specs.declared.Limits.{Limits}
 use Rattle.kept.proofs.KeptLaws.{each-map}
-use Rattle.trace.specs.Link.{limited, ratioOf}
+use Rattle.trace.specs.Link.{half, limited, ratioOf}
 use Rattle.trace.proofs.Validity.{valid-obeys}
 use Rattle.trace.proofs.Errors.{within-error}
 use Rattle.shortest.specs.Shortest.{minimumList}
@@ -25,22 +28,33 @@ use Rattle.closest.specs.declared.Found.{Found}
 use Rattle.engine.specs.declared.Reduced.the-variants.{Kept}
 use Rattle.engine.specs.declared.Probed.the-variants.{Kept as KeptBy}
 use Rattle.engine.specs.declared.Closest.the-variants.{Kept as KeptAt}
-use Rattle.engine.specs.Prepare.{commonRows, criterionOf, outputRows}
+use Rattle.engine.specs.Prepare.{commonRows, criterionIn, criterionOf, outputRows}
 use Rattle.engine.specs.Reduce.{GreedyList, WalkOutcome, GallopOutcome}
 use Rattle.engine.proofs.PrepareLaws.{common-trace}
 use Rattle.engine.specs.Least.{LeastOutcome}
 use Rattle.promises.specs.Nearness.{NearShortest, Nearest}
 
+gap-of : (t : Limits) → criterionOf t .gap ≡ t .gap
+unfolding criterionOf
+gap-of t = go (meaning (t .tolerance))
+  where
+    go : (m : Meaning) → criterionIn (t .gap) m .gap ≡ t .gap
+    go (Exact r) = refl
+    go NotAllowed = refl
+
 module _ (ts : List ℕ) (vs : List ℤ) where
   greedy-near : (t : Limits) {l o o′ : List ℕ} {n : ℕ} → outputRows ts vs t (length o) ≡ Fine → Wrote l o n o′ → GreedyList ts vs t l → NearShortest ts vs t n (take n o′)
   unfolding outputRows
-  greedy-near t {l} rows w g = rw (wrote-read w) (record {
-    kept = g .kept;
-    count = omega (arith, w .count);
-    within = g .within;
-    error = within-error (common-trace ts vs t (then-fine (commonRows ts vs t) _ rows .0)) (criterionOf t .gap) l (g .kept) (ratioOf (criterionOf t)) .0 (g .within) .1;
-    size = λ h k v. omega (arith, w .count, g .size h k v);
-  })
+  greedy-near t {l} rows w g =
+      let trace = common-trace ts vs t (then-fine (commonRows ts vs t) _ rows .0) in
+      rw (wrote-read w) (record {
+        kept = g .kept;
+        count = omega (arith, w .count);
+        within = g .within;
+        error = within-error trace (criterionOf t .gap) l (g .kept) (ratioOf (criterionOf t)) .0 (g .within) .1;
+        size = λ h k v. omega (arith, w .count, g .size h k v);
+        shortest = λ h k o e. omega (arith, w .count, g .size h k (within-error trace (criterionOf t .gap) h k (ratioOf (half (criterionOf t))) .1 (rw (gap-of t) o, e)));
+      })
 
   pub walk-near : (t : Limits) {o o′ : List ℕ} {n : ℕ} → WalkOutcome ts vs t o (Kept n) o′ → NearShortest ts vs t n (take n o′)
   walk-near t w = greedy-near t (w .rows) (w .wrote) (w .list)

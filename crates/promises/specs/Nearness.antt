@@ -11,7 +11,7 @@ use Rattle.ratio.specs.Gcd.{gcd}
 use Rattle.ratio.specs.Order.{AtMost}
 use Rattle.kept.specs.Kept.{KeptList, AllValid}
 use Rattle.engine.specs.declared.Limits.{Limits}
-use Rattle.trace.specs.Link.{obeys, listError, NoLonger, ratioOf}
+use Rattle.trace.specs.Link.{obeys, listError, NoLonger, half, ratioOf}
 use Rattle.closest.specs.declared.Found.{Found}
 use Rattle.engine.specs.Prepare.{criterionOf}
 use Rattle.engine.specs.Reduce.{okOf}
@@ -24,6 +24,8 @@ pub record NearShortest (ts : List ℕ) (vs : List ℤ) (t : Limits) (n : ℕ) (
   pub within : AllValid (okOf ts vs t) l
   pub error : AtMost (listError ts vs l) (ratioOf (criterionOf t))
   pub size : NoLonger ts vs (criterionOf t) n
+  -- the same, of a list's error
+  pub shortest : (h : List ℕ) → KeptList (length ts - 1) h → AllValid (obeys ts (t .gap)) h → AtMost (listError ts vs h) (ratioOf (half (criterionOf t))) → n ≤ length h
 
 -- l is a kept list of at most m samples that obeys the gap limit g, with the error returned, in lowest terms, and every such list has at least that error
 pub record Nearest (ts : List ℕ) (vs : List ℤ) (g m : ℕ) (f : Found) (l : List ℕ) : Type 0 where
