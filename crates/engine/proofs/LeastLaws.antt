@@ -4,11 +4,10 @@ use mathlib.Core.Path.{_≡_}
 use mathlib.Core.List.{List}
 use mathlib.Core.Logic.{_↔_}
 use Prim.Native.Nat.{ℕ, _-_, _≤_, _<_}
-use native.Mathlib.Decide.{decLe}
 use native.Mathlib.Omega.{arith}
 use lib.IntN.{ℤ}
 use lib.ListN.{length}
-use borrow.Author.Tests.{le-leb, lt-leb, leb-true}
+use borrow.Author.Tests.{le-leb, lt-leb, leb-true, leb-false}
 use Rattle.lists.specs.Overwrite.{Wrote}
 use Rattle.lists.proofs.Tests.{and-first}
 use Rattle.refusal.specs.declared.Refusal.{Refusal}
@@ -16,7 +15,7 @@ use Rattle.refusal.specs.declared.Refusal.the-variants.{Allowance, Room, Holes}
 use Rattle.refusal.specs.declared.Checked.{Checked}
 use Rattle.refusal.specs.declared.Checked.the-variants.{Fine, Refused}
 use Rattle.refusal.specs.Table.{roomRow, _thenCheck_}
-use Rattle.refusal.proofs.TableLaws.{row-fine, then-fine}
+use Rattle.refusal.proofs.TableLaws.{row-fine, row-false, then-fine}
 use Rattle.kept.specs.Kept.{KeptList, AllValid}
 use Rattle.kept.specs.Minimum.{minimumOf}
 use Rattle.kept.proofs.LeastLaws.{least-error}
@@ -60,15 +59,9 @@ module _ (ts : List ℕ) (g m room : ℕ) where
 -- row 16 applies exactly if every kept list that obeys the gap limit has more than m samples
 pub holes-exact : (ts : List ℕ) (g m : ℕ) → holesRow ts g m ≡ Refused Holes ↔ ((h : List ℕ) → KeptList (length ts - 1) h → AllValid (obeys ts g) h → m < length h)
 holes-exact ts g m = (
-  λ e. none-fits ts g m .0 (elim (decLe (fewestSamples ts g) m) [
-    | yes q ↦ refused-not (rw (le-leb _ _ q) at e)
-    | no q ↦ omega arith
-  ]),
+  λ e. none-fits ts g m .0 (leb-false (fewestSamples ts g) m (row-false _ _ e)),
   λ f. rw (lt-leb (fewestSamples ts g) m (none-fits ts g m .1 f)),
 )
-  where
-    refused-not : Fine ≡ Refused Holes → m < fewestSamples ts g
-    refused-not e = let z : _≡_ {A = ℕ} 0 1 = cc in absurd (omega arith)
 
 module _ (ts : List ℕ) (vs : List ℤ) (g m room : ℕ) where
   -- the gap limit, the allowance and the room are asked where the trace passes

@@ -2,10 +2,12 @@
 --   lists-as-before, rows-as-before   with the gap limit at its largest, every list and every answer is as without one
 --   shortest-obeying                  the shortest kept list that obeys a gap limit has both ends and the samples on either side of each hole
 --   beside-kept                       every kept list that obeys it has these samples
+--   holes-only, holes-then            least is refused with 16 only where every kept list that obeys the gap limit has more than m samples; and
+--                                     there it is, where the checks before pass
 -- Assumes nothing.
 use mathlib.Core.Path.{_≡_, refl, ap, fun-ext}
 use mathlib.Core.Logic.{_⊎_, inl, inr, ⊎-elim, _↔_}
-use mathlib.Core.Bool.{true, _||_}
+use mathlib.Core.Bool.{true, _&&_, _||_}
 use mathlib.Core.List.{List, [], _∷_, List·Memᴰ, List·Memᴰ·head, List·Memᴰ·tail, List·Memᴰ·cases-cons, List·Memᴰ·eq-of-singleton}
 use Prim.Native.Nat.{ℕ, zero, suc, _+_, _-_, _≤_, _<_, max}
 use native.Mathlib.Decide.{decLe, decLt}
@@ -13,18 +15,19 @@ use native.Mathlib.Nat.{eq-or-lt-of-le}
 use native.Mathlib.Omega.{arith}
 use lib.IntN.{ℤ}
 use lib.ListN.{length}
-use lib.Dec.{eqb}
+use lib.Dec.{leb, eqb}
 use borrow.Author.Tests.{lt-ltb, le-ltb, le-leb, leb-true, eq-eqb, eqb-true}
 use Rattle.lists.specs.First.{first}
 use Rattle.lists.proofs.Tests.{true-false, and-first, or-first, or-second, or-cases}
 use Rattle.lists.proofs.FirstLaws.{first-found}
 use Rattle.ratio.specs.declared.Ratio.{Ratio}
-use Rattle.refusal.specs.declared.Checked.{Checked}
+use Rattle.refusal.specs.declared.Refusal.{Refusal}
+use Rattle.refusal.specs.declared.Refusal.the-variants.{Length, Tick, Span, Allowance, Room, Gap, Holes}
 use Rattle.refusal.specs.declared.Checked.the-variants.{Fine, Refused}
-use Rattle.refusal.specs.Table.{roomRow, _thenCheck_}
-use Rattle.refusal.proofs.TableLaws.{row-fine}
+use Rattle.refusal.specs.Table.{numberOf, roomRow}
+use Rattle.refusal.proofs.TableLaws.{row-fine, row-refused, then-refused, then-nothing, then-assoc, then-skip}
 use Rattle.kept.specs.Kept.{KeptList, AllValid, LinksFrom, final}
-use Rattle.kept.proofs.KeptLaws.{links-at, rise-le}
+use Rattle.kept.proofs.KeptLaws.{links-at}
 use Rattle.kept.specs.Stops.{stops}
 use Rattle.kept.specs.Walk.{walkOf}
 use Rattle.kept.specs.Gallop.{gallopOf, gallopProbes}
@@ -32,7 +35,7 @@ use Rattle.kept.specs.Minimum.{minimumOf}
 use Rattle.kept.specs.Least.{obeyingError, leastOf}
 use Rattle.tolerance.specs.declared.Tolerance.{Tolerance}
 use Rattle.tolerance.specs.Meaning.{meaning}
-use Rattle.trace.specs.Trace.{Trace, traceRows}
+use Rattle.trace.specs.Trace.{Trace, lengthRow, fallsAt, tickRow, beyondAt, traceRows}
 use Rattle.trace.specs.Link.{hole, obeys, linksEnd, linkError}
 use Rattle.trace.proofs.TraceLaws.{rows-trace}
 use Rattle.trace.proofs.Holes.{some-hole, true-obeys, widest-obeys}
@@ -40,8 +43,11 @@ use Rattle.trace.proofs.Validity.{widest-valid}
 use Rattle.closest.specs.Closest.{obeyingList, fewestSamples}
 use Rattle.closest.proofs.ClosestLaws.{obeying-kept, obeying-obeys, obeying-fewest}
 use Rattle.engine.specs.Hold.{toleranceRow}
-use Rattle.engine.specs.Prepare.{commonRows, outputRows}
-use Rattle.engine.specs.Least.{allowanceRow, holesRow, allowedRows, leastRows}
+use Rattle.engine.specs.declared.Closest.{Closest}
+use Rattle.engine.specs.declared.Closest.the-variants.{Kept, Refused as Declined}
+use Rattle.engine.specs.Prepare.{gapRow, commonRows, outputRows}
+use Rattle.engine.specs.Least.{allowanceRow, holesRow, allowedRows, leastRows, LeastOutcome}
+use Rattle.engine.proofs.LeastLaws.{holes-exact}
 use Rattle.engine.specs.Report.{crateRows}
 use Rattle.promises.specs.Pedestals.{Exactly}
 use Rattle.promises.specs.Dropouts.{ListsAsBefore, RowsAsBefore, besideHole, ShortestObeying}
@@ -63,20 +69,6 @@ lists-as-before {ts} {vs} t r =
   where
     plain : (i j : ℕ) → obeyingError (obeys ts 1048575) (linkError ts vs) i j ≡ linkError ts vs i j
     plain i j = rw (widest-obeys t i j)
-
-then-nothing : (c : Checked) → c thenCheck Fine ≡ c
-then-nothing Fine = refl
-then-nothing (Refused x) = refl
-
-then-assoc : (a b c : Checked) → (a thenCheck b) thenCheck c ≡ a thenCheck b thenCheck c
-then-assoc Fine b c = refl
-then-assoc (Refused x) b c = refl
-
--- a check that passes wherever those before it do
-then-skip : (a b c d : Checked) → (a ≡ Fine → b ≡ Fine → c ≡ Fine) → a thenCheck b thenCheck c thenCheck d ≡ a thenCheck b thenCheck d
-then-skip Fine Fine c d h = rw (h refl refl)
-then-skip Fine (Refused x) c d h = refl
-then-skip (Refused x) b c d h = refl
 
 -- of the largest gap limit the trace has no hole: both ends are a list that obeys it
 few-widest : {ts : List ℕ} {vs : List ℤ} → Trace ts vs → fewestSamples ts 1048575 ≤ 2
@@ -102,15 +94,6 @@ rows-as-before ts vs t =
         rw (le-leb (fewestSamples ts 1048575) m (omega (arith, few-widest (rows-trace 256 ts vs (omega arith) e .0))))
 
 -- ---- the shortest list that obeys a gap limit
-
--- an entry of a kept list is a sample
-mem-from : (s : List ℕ) (i : ℕ) {c : ℕ} → LinksFrom _<_ i s → List·Memᴰ c (i ∷ s) → c ≤ final i s
-mem-from [] i r e = omega (arith, List·Memᴰ·eq-of-singleton e)
-mem-from (j ∷ s) i r e = ⊎-elim (λ is. omega (arith, rise-le i (j ∷ s) r)) (λ f. mem-from s j (r .1) f) (List·Memᴰ·cases-cons e)
-
-kept-mem : {last c : ℕ} (l : List ℕ) → KeptList last l → List·Memᴰ c l → c ≤ last
-kept-mem [] k e = absurd (k .spans)
-kept-mem (i ∷ s) k e = omega (arith, mem-from s i (k .rises) e, k .spans .1)
 
 module _ (ts : List ℕ) (g : ℕ) where
   abbrev last : ℕ
@@ -166,27 +149,27 @@ module _ (ts : List ℕ) (g : ℕ) where
     | no q ↦ inl (omega arith)
   ]
 
-  from-entries : (n i : ℕ) → i ≤ last → last ≤ i + n → (k : ℕ) → k ≤ last → List·Memᴰ k (i ∷ stops (linksEnd ts g) last i n) ↔ (i ≤ k) × Marked i k
+  from-entries : (n i : ℕ) → i ≤ last → last ≤ i + n → (k : ℕ) → List·Memᴰ k (i ∷ stops (linksEnd ts g) last i n) ↔ (i ≤ k) × (k ≤ last) × Marked i k
   unfolding stops
-  from-entries zero i le en k u = (
-    λ e. let is = List·Memᴰ·eq-of-singleton e in (omega arith, inl is),
-    λ m. List·Memᴰ·head {x = i} (omega (arith, m .0)),
+  from-entries zero i le en k = (
+    λ e. let is = List·Memᴰ·eq-of-singleton e in (omega arith, omega arith, inl is),
+    λ m. List·Memᴰ·head {x = i} (omega (arith, m .0, m .1)),
   )
-  from-entries (suc n) i le en k u = elim (decLt i last) [
+  from-entries (suc n) i le en k = elim (decLt i last) [
     | no q ↦ rw (le-ltb i last (omega arith)) (
-      λ e. let is = List·Memᴰ·eq-of-singleton e in (omega arith, inl is),
-      λ m. List·Memᴰ·head {x = i} (omega (arith, m .0)),
+      λ e. let is = List·Memᴰ·eq-of-singleton e in (omega arith, omega arith, inl is),
+      λ m. List·Memᴰ·head {x = i} (omega (arith, m .0, m .1)),
     )
     | yes q ↦
         let j = next-is i q in
-        let on = from-entries n (linksEnd ts g i) (j .inside) (omega (arith, j .after)) k u in
+        let on = from-entries n (linksEnd ts g i) (j .inside) (omega (arith, j .after)) k in
         rw (lt-ltb i last q) (
-          λ e. ⊎-elim (λ is. (omega arith, inl is)) (λ f. let m = on .0 f in (omega (arith, m .0, j .after), later-marked j k (m .1))) (List·Memᴰ·cases-cons e),
+          λ e. ⊎-elim (λ is. (omega arith, omega arith, inl is)) (λ f. let m = on .0 f in (omega (arith, m .0, j .after), m .1, later-marked j k (m .2))) (List·Memᴰ·cases-cons e),
           λ m. elim (decLt i k) [
             | no z ↦ List·Memᴰ·head {x = i} (omega (arith, m .0))
             | yes z ↦ List·Memᴰ·tail {xs = linksEnd ts g i ∷ stops (linksEnd ts g) last (linksEnd ts g i) n} (elim (decLe (linksEnd ts g i) k) [
-              | yes y ↦ on .1 (y, marked-later j k y (m .1))
-              | no y ↦ absurd (j .none k z (omega arith) (m .1))
+              | yes y ↦ on .1 (y, m .1, marked-later j k y (m .2))
+              | no y ↦ absurd (j .none k z (omega arith) (m .2))
             ])
           ],
         )
@@ -214,13 +197,10 @@ module _ (ts : List ℕ) (g : ℕ) where
     entries =
         let on = from-entries last 0 (omega arith) (omega arith) in
         record {
-          only = λ c e. let u = mem-kept c e in (omega arith, marked-beside c (on c u .0 e .1));
-          each = λ c u h. on c (omega arith) .1 (omega arith, beside-marked c h);
+          only = λ c e. let m = on c .0 e in (omega (arith, m .1), marked-beside c (m .2));
+          each = λ c u h. on c .1 (omega arith, omega arith, beside-marked c h);
           rises = λ i u. links-at _<_ (obeyingList ts g) (obeying-kept ts g .rises) i u;
         }
-      where
-        mem-kept : (c : ℕ) → List·Memᴰ c (obeyingList ts g) → c ≤ last
-        mem-kept c e = kept-mem (obeyingList ts g) (obeying-kept ts g) e
 
     pub shortest-obeying : ShortestObeying ts g (obeyingList ts g)
     shortest-obeying = record { kept = obeying-kept ts g; obeying = obeying-obeys ts g; fewest = obeying-fewest ts g; entries = entries }
@@ -244,3 +224,45 @@ module _ (ts : List ℕ) (g : ℕ) where
   pub beside-kept : (l : List ℕ) → KeptList last l → AllValid (obeys ts g) l → (k : ℕ) → k < last → hole ts g k ≡ true → List·Memᴰ k l × List·Memᴰ (suc k) l
   beside-kept [] kept o k u h = absurd (kept .spans)
   beside-kept (i ∷ s) kept o k u h = from-kept s i o k (omega (arith, kept .spans .0)) (omega (arith, kept .spans .1)) h
+
+-- ---- 16
+
+before-16 : {x : Refusal} → x ≡ Holes → numberOf x < 16 → ⊥
+before-16 e lt = absurd (omega (arith, ap numberOf e))
+
+no-row-of-trace : (ts : List ℕ) (vs : List ℤ) → traceRows 256 ts vs ≡ Refused Holes → ⊥
+unfolding traceRows
+no-row-of-trace ts vs e =
+    ⊎-elim (λ a. before-16 {x = Length} (row-refused (leb 1 (length ts) && leb (length ts) 256 && eqb (length vs) (length ts)) _ a) (omega arith))
+    (λ e. ⊎-elim (λ a. before-16 {x = Tick (first (fallsAt ts) 1 (length ts))} (row-refused (leb (length ts) (first (fallsAt ts) 1 (length ts))) _ a) (omega arith))
+    (λ a. before-16 {x = Span (first (beyondAt ts) 0 (length ts))} (row-refused (leb (length ts) (first (beyondAt ts) 0 (length ts))) _ a) (omega arith)) (then-refused (tickRow ts) _ e))
+    (then-refused (lengthRow 256 ts vs) _ e)
+
+abbrev AllLonger : List ℕ → ℕ → ℕ → Type 0
+AllLonger ts g m = (h : List ℕ) → KeptList (length ts - 1) h → AllValid (obeys ts g) h → m < length h
+
+module _ (ts : List ℕ) (vs : List ℤ) (g m : ℕ) {o o′ : List ℕ} where
+  pub holes-only : LeastOutcome ts vs g m o (Declined Holes) o′ → AllLonger ts g m
+  unfolding leastRows allowedRows
+  holes-only w =
+      ⊎-elim (λ a. absurd (no-row-of-trace ts vs a))
+      (λ e. ⊎-elim (λ a. absurd (before-16 {x = Gap} (row-refused (leb 1 g && leb g 1048575) _ a) (omega arith)))
+      (λ e. ⊎-elim (λ a. absurd (before-16 {x = Allowance} (row-refused (leb 2 m && leb m 4096) _ a) (omega arith)))
+      (λ e. ⊎-elim (λ a. holes-exact ts g m .0 a) (λ a. absurd (before-16 {x = Room (length ts)} (row-refused (leb (length ts) (length o)) _ a) (omega arith))) (then-refused (holesRow ts g m) _ e))
+      (then-refused (allowanceRow m) _ e))
+      (then-refused (gapRow g) _ e))
+      (then-refused (traceRows 256 ts vs) _ (w .0))
+
+  pub holes-then : traceRows 256 ts vs ≡ Fine → gapRow g ≡ Fine → allowanceRow m ≡ Fine → AllLonger ts g m → (r : Closest) → LeastOutcome ts vs g m o r o′ → (r ≡ Declined Holes) × (o′ ≡ o)
+  unfolding leastRows allowedRows
+  holes-then t a b all r w = go r w (rw (t, a, b, holes-exact ts g m .1 all))
+    where
+      go : (r : Closest) → LeastOutcome ts vs g m o r o′ → leastRows ts vs g m (length o) ≡ Refused Holes → (r ≡ Declined Holes) × (o′ ≡ o)
+      go (Kept f) w rows =
+          let h : leastRows ts vs g m (length o) ≡ Fine = w .rows in
+          let z : _≡_ {A = ℕ} 0 1 = cc in
+          absurd (omega arith)
+      go (Declined x) w rows =
+          let h : leastRows ts vs g m (length o) ≡ Refused x = w .0 in
+          let e : x ≡ Holes = cc in
+          (ap Declined e, w .1)
