@@ -5,8 +5,8 @@
  * bench: prints a table of times for each call, and the kept numbers.
  * bench kept: prints the kept numbers.
  * bench summary: prints each call's microseconds and its ratio to C on the pulse trace at tolerance
- *   7.5, with walk's list; for least with allowance 20; for report and pedestals on crates of pulse
- *   traces.
+ *   7.5, with walk's list; for measure with the link from the first sample to the last; for least
+ *   with allowance 20; for report and pedestals on crates of pulse traces.
  * bench trace, bench part: prints that trace, and the part of it for least.
  * bench once KIND FUNCTION [SAMPLES]: calls one function once, so that instructions can be counted;
  *   report and pedestals with so many samples a channel, 4,096 unless given. */
@@ -229,11 +229,13 @@ static void measure(row *r, size_t kind, const int64_t *tolerance) {
 
 enum { BYTES = KOVRELNA_RECORD_MAX, RECORD_CALLS = 20, CODES = 256 };
 
-/* A kept list of a trace and its record; codes, a range table and their values. */
+/* A kept list of a trace and its record; the measure of the link over the whole trace; codes, a
+ * range table and their values. */
 typedef struct kept_record {
   const uint32_t *ticks;
   const int16_t *values;
   uint32_t gap;
+  link_measure measure;
   uint8_t codes[SAMPLES];
   int16_t table[CODES];
   int16_t expanded[SAMPLES];
@@ -271,15 +273,32 @@ static size_t plain_read(kept_record *r) {
 
 /* How many samples are kept, if the list passes. */
 static size_t library_judge(kept_record *r) {
-  kovrelna_verdict verdict = kovrelna_judge(r->ticks, SAMPLES, r->values, SAMPLES, r->list, r->kept,
-                                            limits_of(RECORD_P, RECORD_Q, r->gap));
-  return verdict.passed ? r->kept : 0;
+  kovrelna_judged answer = kovrelna_judge(r->ticks, SAMPLES, r->values, SAMPLES, r->list, r->kept,
+                                          limits_of(RECORD_P, RECORD_Q, r->gap));
+  return answer.passed ? r->kept : 0;
 }
 
 static size_t plain_judge(kept_record *r) {
-  return judge_c(r->ticks, r->values, SAMPLES, r->list, r->kept, RECORD_P, RECORD_Q, r->gap)
-             ? r->kept
-             : 0;
+  judged answer =
+      judge_c(r->ticks, r->values, SAMPLES, r->list, r->kept, RECORD_P, RECORD_Q, r->gap);
+  return answer.passed ? r->kept : 0;
+}
+
+static link_measure measure_from(uint64_t p, uint64_t q, uint64_t sample, uint32_t side) {
+  link_measure measure = {(int64_t)p, (int64_t)q, (size_t)sample, side};
+  return measure;
+}
+
+static size_t library_measure(kept_record *r) {
+  kovrelna_measured found =
+      kovrelna_measure(r->ticks, SAMPLES, r->values, SAMPLES, 0, SAMPLES - 1);
+  r->measure = measure_from(found.p, found.q, found.sample, found.side);
+  return found.number == 0 ? SAMPLES : 0;
+}
+
+static size_t plain_measure(kept_record *r) {
+  r->measure = measure_c(r->ticks, r->values, SAMPLES, 0, SAMPLES - 1);
+  return r->measure.q != 0 ? SAMPLES : 0;
 }
 
 static size_t library_expand(kept_record *r) {
@@ -314,6 +333,8 @@ enum {
   READ_C,
   JUDGE,
   JUDGE_C,
+  MEASURE,
+  MEASURE_C,
   EXPAND,
   EXPAND_C,
   EXPAND_WITH,
@@ -331,6 +352,8 @@ static const struct {
                          {"read_c", plain_read},
                          {"kovrelna_judge", library_judge},
                          {"judge_c", plain_judge},
+                         {"kovrelna_measure", library_measure},
+                         {"measure_c", plain_measure},
                          {"kovrelna_expand", library_expand},
                          {"expand_c", plain_expand},
                          {"kovrelna_expand_with", library_expand_with},
@@ -357,7 +380,34 @@ static void make_record(kept_record *r, size_t kind, int all, size_t (*write)(ke
 /* What a call answers. */
 static size_t expected(const kept_record *r, int x) {
   if (x == WRITE || x == WRITE_C) return r->length;
-  return x >= EXPAND ? SAMPLES : r->kept;
+  return x >= MEASURE ? SAMPLES : r->kept;
+}
+
+static int same_measure(const link_measure *a, const link_measure *b) {
+  return a->p == b->p && a->q == b->q && a->sample == b->sample && a->side == b->side;
+}
+
+/* Lists of every second sample, every fourth, and so on, at the record's tolerance and at the
+ * greatest: judge and its peer say the same of the first invalid link. */
+static void same_verdicts(const kept_record *r) {
+  static const int64_t tolerances[][2] = {{RECORD_P, RECORD_Q}, {65535, 1}};
+  uint16_t list[SAMPLES];
+  size_t t, step;
+  for (step = 2; step <= SAMPLES; step *= 2) {
+    size_t kept = 0, k;
+    for (k = 0; k < SAMPLES - 1; k += step) list[kept++] = (uint16_t)k;
+    list[kept++] = SAMPLES - 1;
+    for (t = 0; t < COUNT(tolerances); t++) {
+      int64_t p = tolerances[t][0], q = tolerances[t][1];
+      kovrelna_judged a = kovrelna_judge(r->ticks, SAMPLES, r->values, SAMPLES, list, kept,
+                                         limits_of(p, q, r->gap));
+      judged b = judge_c(r->ticks, r->values, SAMPLES, list, kept, p, q, r->gap);
+      link_measure measure = measure_from(a.p, a.q, a.sample, a.side);
+      if (a.number != 0 || (int)a.passed != b.passed || a.value != b.link ||
+          !same_measure(&measure, &b.measure))
+        fail("judge and its peer differ");
+    }
+  }
 }
 
 /* Whether the samples read are those of the list. */
@@ -383,20 +433,26 @@ static int is_expanded(const kept_record *r, int by_table) {
 /* Times every call on the record of all samples or of walk's list. */
 static void measure_records(kept_record *r, size_t kind, int all) {
   static uint8_t bytes[BYTES];
+  link_measure measure;
   int repetition, x, k;
   make_record(r, kind, all, plain_write);
   memcpy(bytes, r->bytes, r->length);
+  same_verdicts(r);
+  plain_measure(r);
+  measure = r->measure;
   for (repetition = 0; repetition < REPETITIONS; repetition++) {
     for (x = 0; x < RECORDERS; x++) {
       size_t answer = 0;
       double start;
       if (x == WRITE || x == WRITE_C) memset(r->bytes, 0, BYTES);
       if (x == READ || x == READ_C) memset(r->read_ticks, 0, sizeof(r->read_ticks));
+      if (x == MEASURE || x == MEASURE_C) memset(&r->measure, 0, sizeof(r->measure));
       if (x >= EXPAND) memset(r->expanded, 0, sizeof(r->expanded));
       start = now();
       for (k = 0; k < RECORD_CALLS; k++) answer = RECORDER[x].call(r);
       record_times[x][repetition] = 1e-3 * (now() - start) / RECORD_CALLS;
       if (answer != expected(r, x) || memcmp(r->bytes, bytes, r->length) != 0 ||
+          !same_measure(&r->measure, &measure) ||
           ((x == READ || x == READ_C) && !is_read(r)) ||
           (x >= EXPAND && !is_expanded(r, x == EXPAND_WITH || x == EXPAND_WITH_C)))
         fail("a call does not answer as its peer does");
@@ -408,12 +464,13 @@ static void print_records(void) {
   static kept_record r;
   int x, all;
   size_t kind;
-  printf("\nWalk's list and all samples at tolerance 7.50: written to a record, read, judged;\n"
-         "and %d range codes expanded, also by a table of the caller; last C that expands them by a\n"
-         "table of its own, and the ratio of expand to it. Microseconds a call.\n"
+  printf("\nWalk's list and all samples at tolerance 7.50: written to a record, read, judged; the\n"
+         "link from the first sample to the last measured; and %d range codes expanded, also by a\n"
+         "table of the caller; last C that expands them by a table of its own, and the ratio of\n"
+         "expand to it. Microseconds a call.\n"
          "         samples   bytes     write       C   ratio      read       C   ratio"
-         "     judge       C   ratio    expand       C   ratio  by table       C   ratio"
-         " C table   ratio\n",
+         "     judge       C   ratio   measure       C   ratio    expand       C   ratio"
+         "  by table       C   ratio C table   ratio\n",
          SAMPLES);
   for (kind = 0; kind < COUNT(KINDS); kind++) {
     for (all = 0; all <= 1; all++) {
@@ -650,7 +707,7 @@ static void same_report(void) {
     const kovrelna_summary *x = &crate_rows[k];
     const channel_row *y = &crate_rows_c[k];
     same = same && x->samples == y->samples && x->kept == y->kept && x->p == (uint64_t)y->p &&
-           x->q == (uint64_t)y->q && x->number == y->number;
+           x->q == (uint64_t)y->q && x->sample == y->sample && x->number == y->number;
   }
   if (!same || b->q == 0) fail("report and its peer differ");
 }

@@ -197,26 +197,46 @@ reduced minimum_c_nostop(const uint32_t *ticks, const int16_t *values, size_t n,
   return minimum_by_table(ticks, values, n, p, q, gap, out, 0);
 }
 
+/* How far sample k is above the line of the link from i to j, times the link's run. */
+static int64_t height(const uint32_t *ticks, const int16_t *values, size_t i, size_t j, size_t k) {
+  return (values[k] - values[i]) * (ticks[j] - (int64_t)ticks[i]) -
+         (values[j] - values[i]) * (ticks[k] - (int64_t)ticks[i]);
+}
+
+/* The first of the samples of a link that are farthest from its line, and their distance times the
+ * link's run; the link's first sample if all are on the line. */
+typedef struct farthest {
+  size_t sample;
+  int64_t distance, run;
+} farthest;
+
+static inline farthest farthest_of(const uint32_t *ticks, const int16_t *values, size_t i,
+                                   size_t j) {
+  farthest f = {i, 0, ticks[j] - (int64_t)ticks[i]};
+  size_t k;
+  for (k = i + 1; k < j; k++) {
+    int64_t distance = height(ticks, values, i, j, k);
+    if (distance < 0) distance = -distance;
+    if (distance > f.distance) {
+      f.distance = distance;
+      f.sample = k;
+    }
+  }
+  return f;
+}
+
 /* Marks the samples that Douglas-Peucker keeps of those after i and up to `end`. */
 static void divide(const uint32_t *ticks, const int16_t *values, size_t i, size_t end, int64_t p,
                    int64_t q, unsigned char *keep) {
   /* The ends of the links that remain, from the last back. */
   uint16_t ends[SAMPLES];
-  size_t open = 0, k;
+  size_t open = 0;
   if (end > i) ends[open++] = (uint16_t)end;
   while (open > 0) {
-    size_t j = ends[open - 1], farthest = i;
-    int64_t run = ticks[j] - (int64_t)ticks[i], change = values[j] - values[i], greatest = 0;
-    for (k = i + 1; k < j; k++) {
-      int64_t distance = (values[k] - values[i]) * run - change * (ticks[k] - (int64_t)ticks[i]);
-      if (distance < 0) distance = -distance;
-      if (distance > greatest) {
-        greatest = distance;
-        farthest = k;
-      }
-    }
-    if (greatest * q > p * run) {
-      ends[open++] = (uint16_t)farthest;
+    size_t j = ends[open - 1];
+    farthest f = farthest_of(ticks, values, i, j);
+    if (f.distance * q > p * f.run) {
+      ends[open++] = (uint16_t)f.sample;
     } else {
       keep[j] = 1;
       i = j;
@@ -290,30 +310,24 @@ static void neighbours(int64_t p, int64_t q, fraction *left, fraction *right) {
   *right = r;
 }
 
-/* Not in lowest terms. */
-static fraction link_error(const uint32_t *ticks, const int16_t *values, size_t i, size_t j) {
-  int64_t run = ticks[j] - (int64_t)ticks[i], change = values[j] - values[i];
-  fraction greatest = {0, run};
+/* That of the first worst link of a kept list; sample 0 if there is no link or all samples are on
+ * their lines. */
+static farthest list_farthest(const uint32_t *ticks, const int16_t *values, const uint16_t *list,
+                              size_t kept) {
+  farthest worst = {0, 0, 1};
   size_t k;
-  for (k = i + 1; k < j; k++) {
-    int64_t rise = values[k] - values[i];
-    int64_t deviation = rise * run - change * (ticks[k] - (int64_t)ticks[i]);
-    if (deviation < 0) deviation = -deviation;
-    if (deviation > greatest.p) greatest.p = deviation;
+  for (k = 1; k < kept; k++) {
+    farthest f = farthest_of(ticks, values, list[k - 1], list[k]);
+    if (f.distance * worst.run > worst.distance * f.run) worst = f;
   }
-  return greatest;
+  return worst;
 }
 
 /* The error of a kept list, in lowest terms. */
 static fraction list_error(const uint32_t *ticks, const int16_t *values, const uint16_t *list,
                            size_t kept) {
-  fraction worst = {0, 1};
-  size_t k;
-  for (k = 1; k < kept; k++) {
-    fraction error = link_error(ticks, values, list[k - 1], list[k]);
-    if (at_most(worst, error)) worst = error;
-  }
-  return lowest(worst.p, worst.q);
+  farthest worst = list_farthest(ticks, values, list, kept);
+  return lowest(worst.distance, worst.run);
 }
 
 /* The number under which a trace that is none is refused. */
@@ -328,17 +342,20 @@ static unsigned refused_as(const uint32_t *ticks, size_t n) {
 static channel_row row_of(const uint32_t *ticks, const int16_t *values, size_t n, int64_t p,
                           int64_t q, uint32_t gap) {
   uint16_t list[SAMPLES];
-  channel_row row = {0, 0, 0, 1, 0};
+  channel_row row = {0, 0, 0, 1, 0, 0};
+  farthest worst;
   fraction error;
   row.kept = walk_c(ticks, values, n, p, q, gap, list).kept;
   if (row.kept == 0) {
     row.number = refused_as(ticks, n);
     return row;
   }
-  error = list_error(ticks, values, list, row.kept);
+  worst = list_farthest(ticks, values, list, row.kept);
+  error = lowest(worst.distance, worst.run);
   row.samples = n;
   row.p = error.p;
   row.q = error.q;
+  row.sample = worst.sample;
   return row;
 }
 
@@ -536,15 +553,47 @@ static int is_valid(const uint32_t *ticks, const int16_t *values, size_t i, size
   return 1;
 }
 
-int judge_c(const uint32_t *ticks, const int16_t *values, size_t n, const uint16_t *list,
-            size_t kept, int64_t p, int64_t q, uint32_t gap) {
+static link_measure measure_of(const uint32_t *ticks, const int16_t *values, size_t i, size_t j) {
+  farthest f = farthest_of(ticks, values, i, j);
+  fraction error = lowest(f.distance, f.run);
+  link_measure m = {error.p, error.q, f.sample, SIDE_ON};
+  if (f.distance != 0)
+    m.side = height(ticks, values, i, j, f.sample) > 0 ? SIDE_ABOVE : SIDE_BELOW;
+  return m;
+}
+
+link_measure measure_c(const uint32_t *ticks, const int16_t *values, size_t n, size_t i, size_t j) {
+  link_measure none = {0, 0, 0, SIDE_ON};
+  if (!is_trace(ticks, n) || i >= n || j >= n || j <= i) return none;
+  return measure_of(ticks, values, i, j);
+}
+
+/* The measure of an invalid link: where its error is at most p/q, a hole makes it so. */
+static link_measure strayed(const uint32_t *ticks, const int16_t *values, size_t i, size_t j,
+                            int64_t p, int64_t q, uint32_t gap) {
+  link_measure m = measure_of(ticks, values, i, j);
+  if (m.p * q <= p * m.q) {
+    m.sample = first_hole(ticks, i, j, gap);
+    m.side = SIDE_GAP;
+  }
+  return m;
+}
+
+judged judge_c(const uint32_t *ticks, const int16_t *values, size_t n, const uint16_t *list,
+               size_t kept, int64_t p, int64_t q, uint32_t gap) {
+  judged answer = {0, 0, {0, 0, 0, SIDE_ON}};
   size_t k;
-  if (!is_trace(ticks, n) || !is_list(list, kept, n)) return 0;
+  if (!is_trace(ticks, n) || !is_list(list, kept, n)) return answer;
   for (k = 1; k < kept; k++) {
     size_t i = list[k - 1], j = list[k];
-    if (j > i + 1 && !is_valid(ticks, values, i, j, p, q, gap)) return 0;
+    if (j > i + 1 && !is_valid(ticks, values, i, j, p, q, gap)) {
+      answer.link = k - 1;
+      answer.measure = strayed(ticks, values, i, j, p, q, gap);
+      return answer;
+    }
   }
-  return 1;
+  answer.passed = 1;
+  return answer;
 }
 
 static int16_t code_value(unsigned c) { return (int16_t)(((c % 32 + 32) << (c / 32)) - 32); }

@@ -50,11 +50,13 @@ typedef struct least_found {
 least_found least_c(const uint32_t *ticks, const int16_t *values, size_t n, uint32_t gap, size_t m,
                     uint16_t *out);
 
-/* A row of a report: the samples of a channel, walk's kept number and the error p/q of its list in
- * lowest terms; or the number under which its trace is refused, with zeros and 0/1. */
+/* A row of a report: the samples of a channel, walk's kept number, the error p/q of its list in
+ * lowest terms and the sample where that occurs first; or the number under which its trace is
+ * refused, with zeros and 0/1. */
 typedef struct channel_row {
   size_t samples, kept;
   int64_t p, q;
+  size_t sample;
   unsigned number;
 } channel_row;
 
@@ -65,8 +67,8 @@ typedef struct crate_totals {
   int64_t p, q;
 } crate_totals;
 
-/* Reports on the channels whose traces of n samples come end to end: walk and the error of its list
- * for each. Writes a row for each into the first of so many rows. */
+/* Reports on the channels whose traces of n samples come end to end: walk, the error of its list
+ * and where that occurs, for each. Writes a row for each into the first of so many rows. */
 crate_totals report_c(const uint32_t *ticks, const int16_t *values, size_t n, const size_t *lengths,
                       size_t channels, int64_t p, int64_t q, uint32_t gap, channel_row *rows,
                       size_t room);
@@ -93,9 +95,30 @@ compared pedestals_c(const crate_run *today, const crate_run *before, int64_t p,
                      int64_t k, uint16_t *moved, size_t moved_room, uint16_t *noisy,
                      size_t noisy_room);
 
-/* Whether the list is a kept list of the trace and each link is valid. */
-int judge_c(const uint32_t *ticks, const int16_t *values, size_t n, const uint16_t *list,
-            size_t kept, int64_t p, int64_t q, uint32_t gap);
+/* The sides by the library's numbers. */
+enum { SIDE_ON, SIDE_ABOVE, SIDE_BELOW, SIDE_GAP };
+
+/* The error p/q of a link in lowest terms, its sample and that sample's side. */
+typedef struct link_measure {
+  int64_t p, q;
+  size_t sample;
+  unsigned side;
+} link_measure;
+
+/* The measure of the link from sample i to sample j, in one pass; q is 0 if the trace or the link
+ * is refused. */
+link_measure measure_c(const uint32_t *ticks, const int16_t *values, size_t n, size_t i, size_t j);
+
+/* Whether each link of the list is valid; if not, the position of the first invalid one and its
+ * measure. There q is 0 if the trace or the list is refused. */
+typedef struct judged {
+  int passed;
+  size_t link;
+  link_measure measure;
+} judged;
+
+judged judge_c(const uint32_t *ticks, const int16_t *values, size_t n, const uint16_t *list,
+               size_t kept, int64_t p, int64_t q, uint32_t gap);
 
 /* Expands range codes: each value is worked out from its code, as the library does it, or looked up
  * in a table, which the first call fills. Returns their number, 0 if there is none, there are too many

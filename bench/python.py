@@ -66,7 +66,7 @@ def main():
     record = kovrelna.write(ticks, values, kept, 7.5)
     codes = bytes((7 * k + value) % 256 for k, value in enumerate(values))
     table = array("h", (k * (k + 1) // 2 for k in range(256)))
-    two = [numbers[:2] for numbers in whole]
+    two, last = [numbers[:2] for numbers in whole], len(ticks) - 1
     long, short = ([crate(*whole, count) for _ in range(2)] for count in (4096, 16))
     runs = f"two runs of {CHANNELS} channels"
     samples = f"{len(ticks):,} samples, tolerance 7.5"
@@ -78,6 +78,7 @@ def main():
         "least": (f"{len(part[0])} samples, allowance 20", kovrelna.least, *part, 20),
         "report": (f"{CHANNELS} channels of {samples}", kovrelna.report, *crate(*whole, 4096), 7.5),
         "pedestals": (f"{runs} of {samples}, factor 2", kovrelna.pedestals, *long, 7.5, 2),
+        "measure": (f"a link over {len(ticks):,} samples", kovrelna.measure, *whole, 0, last),
         "judge": (listed, kovrelna.judge, *whole, kept, 7.5),
         "write": (listed, kovrelna.write, *whole, kept, 7.5),
         "read": (f"a record of {len(kept)} samples", kovrelna.read, record),

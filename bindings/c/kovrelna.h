@@ -1,8 +1,8 @@
 /* Kovrelna: reduced traces. For C99, C++11 and later; link with libkovrelna.a or libkovrelna.so
  * (x86-64, System V ABI), as `pkg-config --cflags --libs kovrelna` says once they are installed.
  *
- * Contents, in order: version and bounds; refusals; tolerances; limits; lists; reductions; crates;
- * range codes; records.
+ * Contents, in order: version and bounds; refusals; tolerances; limits; links; lists; reductions;
+ * crates; range codes; records.
  *
  * A trace is two lists of equal length: ticks and values (ADC counts). It has 1 to 4,096 samples,
  * numbered from 0. Ticks rise strictly; the last minus the first is at most 1,048,575.
@@ -82,7 +82,8 @@ enum kovrelna_refusal {
   KOVRELNA_REFUSED_ALLOWANCE = 5,
   /* The proposed list is no kept list. Value: the position of the first bad entry (a first one that
    * is not 0, one that is not above the entry before it, one beyond the trace); the list's length if
-   * it only stops short; 0 if it is empty. */
+   * it only stops short; 0 if it is empty. In kovrelna_measure the two samples are no link of the
+   * trace. Value: 0 if i is beyond it; 1 if j is beyond it or not above i. */
   KOVRELNA_REFUSED_LIST = 6,
   /* The list to be written has an invalid link. Value: the position of the first. */
   KOVRELNA_REFUSED_LINK = 7,
@@ -122,7 +123,7 @@ static inline const char *kovrelna_cause(uint32_t number) {
   case KOVRELNA_REFUSED_ALLOWANCE:
     return "allowance below 2 or above 4,096";
   case KOVRELNA_REFUSED_LIST:
-    return "proposed list no kept list";
+    return "proposed list no kept list, or two samples that are no link of the trace";
   case KOVRELNA_REFUSED_LINK:
     return "list to be written has an invalid link";
   case KOVRELNA_REFUSED_RECORD:
@@ -226,22 +227,76 @@ static inline kovrelna_limits kovrelna_limited(kovrelna_tolerance tolerance, uin
   return limits;
 }
 
+/* ---- Links ---- */
+
+/* Where a sample lies beside a link: on its line, above it or below it. The gap is said of links by
+ * kovrelna_judge alone. */
+enum kovrelna_side {
+  KOVRELNA_SIDE_ON = 0,
+  KOVRELNA_SIDE_ABOVE = 1,
+  KOVRELNA_SIDE_BELOW = 2,
+  KOVRELNA_SIDE_GAP = 3
+};
+
+/* The side in a word, for a message: "on", "above", "below", "gap"; "none" for a number that is no
+ * side's. */
+static inline const char *kovrelna_side_name(uint32_t side) {
+  switch (side) {
+  case KOVRELNA_SIDE_ON:
+    return "on";
+  case KOVRELNA_SIDE_ABOVE:
+    return "above";
+  case KOVRELNA_SIDE_BELOW:
+    return "below";
+  case KOVRELNA_SIDE_GAP:
+    return "gap";
+  default:
+    return "none";
+  }
+}
+
+/* number 0: p/q is the link's error in lowest terms (zero is 0/1), sample and side are what the call
+ * says, and value is 0.
+ * Otherwise: the refusal's number and value; all else is 0. */
+typedef struct kovrelna_measured {
+  uint32_t number;
+  uint32_t side;
+  uint64_t value;
+  uint64_t p;
+  uint64_t q;
+  uint64_t sample;
+} kovrelna_measured;
+
+/* The measure of the link from sample i to sample j: its error, the first sample between them whose
+ * deviation is that error, and whether this sample lies above or below the line. An error of 0 gives
+ * the sample i and "on". Refusals: 1, 2, 3, 6. */
+kovrelna_measured kovrelna_measure(const uint32_t *ticks, size_t ticks_len,
+                                   const int16_t *values, size_t values_len,
+                                   size_t i, size_t j);
+
 /* ---- Lists ---- */
 
-/* number 0: passed is 1 for yes, 0 for no, and value is what the call says.
- * Otherwise: the refusal's number and value; passed is 0. */
-typedef struct kovrelna_verdict {
+/* number 0: passed is 1 for yes; value and all else is 0. Passed is 0 for no; value is the position
+ * of the first invalid link, and p/q, sample and side say where it strays.
+ * Otherwise: the refusal's number and value; all else is 0. */
+typedef struct kovrelna_judged {
   uint32_t number;
   uint32_t passed;
   uint64_t value;
-} kovrelna_verdict;
+  uint64_t p;
+  uint64_t q;
+  uint64_t sample;
+  uint32_t side;
+} kovrelna_judged;
 
-/* Whether every link of the proposed list is valid on this trace. The value with no is the position
- * of the first invalid link, with yes 0. Refusals: 1, 2, 3, 4, 15, 6. */
-kovrelna_verdict kovrelna_judge(const uint32_t *ticks, size_t ticks_len,
-                                const int16_t *values, size_t values_len,
-                                const uint16_t *list, size_t list_len,
-                                kovrelna_limits limits);
+/* Whether every link of the proposed list is valid on this trace. If not, of the first invalid link:
+ * where its error p/q is above the tolerance, its measure, as kovrelna_measure gives it; otherwise
+ * only the gap limit makes it invalid, the side is KOVRELNA_SIDE_GAP, p/q is its error, which may be
+ * 0, and the sample is the one before its first hole. Refusals: 1, 2, 3, 4, 15, 6. */
+kovrelna_judged kovrelna_judge(const uint32_t *ticks, size_t ticks_len,
+                               const int16_t *values, size_t values_len,
+                               const uint16_t *list, size_t list_len,
+                               kovrelna_limits limits);
 
 /* ---- Reductions ----
  *
@@ -319,14 +374,17 @@ kovrelna_closest kovrelna_least(const uint32_t *ticks, size_t ticks_len,
  * lists, ticks and values; the list of lengths has the number of samples of each channel.
  */
 
-/* A channel's row. number 0: its samples, the kept number of kovrelna_walk, and the error p/q of
- * walk's list in lowest terms (zero is 0/1). Otherwise the channel's trace is refused as 1, 2 or 3:
- * number says which, samples and kept are 0, and p/q is 0/1. */
+/* A channel's row. number 0: its samples, the kept number of kovrelna_walk, the error p/q of walk's
+ * list in lowest terms (zero is 0/1), and the sample where that error occurs first: that of the
+ * measure of the first link whose error is p/q, numbered in the channel's own trace; 0 where there
+ * is no link. Otherwise the channel's trace is refused as 1, 2 or 3: number says which, p/q is 0/1,
+ * and all else is 0. */
 typedef struct kovrelna_summary {
   size_t samples;
   size_t kept;
   uint64_t p;
   uint64_t q;
+  size_t sample;
   uint32_t number;
 } kovrelna_summary;
 
@@ -455,8 +513,16 @@ kovrelna_content kovrelna_read(const uint8_t *record, size_t record_len,
                                uint32_t *ticks, size_t ticks_len,
                                int16_t *values, size_t values_len);
 
-/* Whether two records have the same samples, whatever their tolerances. The value is 0. Refusals: 8
- * for the first record, then 9 for the second. */
+/* number 0: passed is 1 for yes, 0 for no; value is 0.
+ * Otherwise: the refusal's number and value; passed is 0. */
+typedef struct kovrelna_verdict {
+  uint32_t number;
+  uint32_t passed;
+  uint64_t value;
+} kovrelna_verdict;
+
+/* Whether two records have the same samples, whatever their tolerances. Refusals: 8 for the first
+ * record, then 9 for the second. */
 kovrelna_verdict kovrelna_same(const uint8_t *first, size_t first_len,
                                const uint8_t *second, size_t second_len);
 

@@ -2,7 +2,8 @@
  * says what differs and returns 1.
  *
  * Contents, in order: lent lists and where they are placed; the table of calls; cases of each call;
- * empty lists; the longest trace, crate and pedestal runs; the version and the causes in words.
+ * empty lists; the longest trace, crate and pedestal runs; the version, and causes and sides in
+ * words.
  *
  * Each case is called once in every placement of its lists: against a page that cannot be read or
  * written, between guard bytes, and at exact size on the heap. Where the program is built with
@@ -168,12 +169,12 @@ static void take_back(struct list *list, enum placement placement) {
 /* The answer of any call; fields that it does not have are 0. */
 struct answer {
   uint32_t number;
-  uint64_t value, passed, probes, p, q, samples, kept, moved, noisy;
+  uint64_t value, passed, probes, p, q, samples, kept, moved, noisy, sample, side;
 };
 
 /* Number and value; all else is 0. */
 static struct answer answered(uint32_t number, uint64_t value) {
-  struct answer answer = {number, value, 0, 0, 0, 0, 0, 0, 0, 0};
+  struct answer answer = {number, value, 0, 0, 0, 0, 0, 0, 0, 0, 0, 0};
   return answer;
 }
 
@@ -190,11 +191,15 @@ static struct answer with_passed(uint32_t number, uint64_t value, uint64_t passe
   return answer;
 }
 
-static struct answer plain(kovrelna_answer from) { return answered(from.number, from.value); }
-
-static struct answer verdict(kovrelna_verdict from) {
-  return with_passed(from.number, from.value, from.passed);
+static struct answer with_measure(uint32_t number, uint64_t value, uint64_t p, uint64_t q,
+                                  uint64_t sample, uint64_t side) {
+  struct answer answer = with_ratio(number, value, p, q);
+  answer.sample = sample;
+  answer.side = side;
+  return answer;
 }
+
+static struct answer plain(kovrelna_answer from) { return answered(from.number, from.value); }
 
 #define U8(k) (uint8_t *)lists[k].first, lists[k].len
 #define U16(k) (uint16_t *)(void *)lists[k].first, lists[k].len
@@ -203,9 +208,21 @@ static struct answer verdict(kovrelna_verdict from) {
 #define LENGTHS(k) (size_t *)(void *)lists[k].first, lists[k].len
 #define SUMMARIES(k) (kovrelna_summary *)(void *)lists[k].first, lists[k].len
 
-static struct answer call_judge(const struct list *lists, kovrelna_limits limits, size_t place) {
+/* The tolerance's p and q stand for the samples i and j. */
+static struct answer call_measure(const struct list *lists, kovrelna_limits limits, size_t place) {
+  kovrelna_measured from = kovrelna_measure(U32(0), I16(1), (size_t)limits.tolerance.p,
+                                            (size_t)limits.tolerance.q);
   (void)place;
-  return verdict(kovrelna_judge(U32(0), I16(1), U16(2), limits));
+  return with_measure(from.number, from.value, from.p, from.q, from.sample, from.side);
+}
+
+static struct answer call_judge(const struct list *lists, kovrelna_limits limits, size_t place) {
+  kovrelna_judged from = kovrelna_judge(U32(0), I16(1), U16(2), limits);
+  struct answer answer =
+      with_measure(from.number, from.value, from.p, from.q, from.sample, from.side);
+  answer.passed = from.passed;
+  (void)place;
+  return answer;
 }
 
 static struct answer call_walk(const struct list *lists, kovrelna_limits limits, size_t place) {
@@ -254,8 +271,9 @@ static struct answer call_read(const struct list *lists, kovrelna_limits limits,
 }
 
 static struct answer call_same(const struct list *lists, kovrelna_limits limits, size_t place) {
+  kovrelna_verdict from = kovrelna_same(U8(0), U8(1));
   (void)limits, (void)place;
-  return verdict(kovrelna_same(U8(0), U8(1)));
+  return with_passed(from.number, from.value, from.passed);
 }
 
 static struct answer call_report(const struct list *lists, kovrelna_limits limits, size_t place) {
@@ -289,7 +307,7 @@ static const uint32_t kept_ticks[] = {0, 3};
 static const int16_t kept_values[] = {0, 1};
 /* That trace as a crate of one channel, and its row. */
 static const size_t one_length[] = {3};
-static const kovrelna_summary one_row[] = {{3, 2, 2, 3, 0}};
+static const kovrelna_summary one_row[] = {{3, 2, 2, 3, 1, 0}};
 /* Two pedestal runs of a crate. At tolerance 1/2 and noise factor 2 channel 0 has moved: its sums
  * are 48 and 44. Channel 1 is noisy: 4 * 91 - 19 * 19 is 3, and 0 in the run before. Channel 2 is
  * at both limits: 2 * 2 is 1 * 4, and 4 * 8 - 4 * 4 is 4 * (4 * 2 - 2 * 2). */
@@ -327,8 +345,9 @@ struct parameter {
   { sizeof((list)[0]), len, NULL, list, COUNT(list), number, value }
 
 /* Every call that is lent lists, as it is made on the figures at tolerance 4/6, no gap limit, place
- * 0, and allowance or noise factor 2, and its answer. */
+ * 0, and allowance or noise factor 2, and its answer; measure of the link from sample 0 to 2. */
 enum {
+  MEASURE_CALL,
   JUDGE_CALL,
   WALK,
   GALLOP,
@@ -350,42 +369,47 @@ static const struct call {
   struct parameter parameters[LISTS];
   struct answer answer;
 } calls[] = {
+    {"measure", call_measure, 2,
+     {IN(uneven, 1, 0), IN(step, 1, 0)},
+     {0, 0, 0, 0, 2, 3, 0, 0, 0, 0, 1, KOVRELNA_SIDE_ABOVE}},
     {"judge", call_judge, 3,
      {IN(uneven, 1, 0), IN(step, 1, 0), IN(pair, 6, 0)},
-     {0, 0, 1, 0, 0, 0, 0, 0, 0, 0}},
+     {0, 0, 1, 0, 0, 0, 0, 0, 0, 0, 0, 0}},
     {"walk", call_walk, 3,
      {IN(uneven, 1, 0), IN(step, 1, 0), OUT(3, pair, 10, 3)},
-     {0, 2, 0, 0, 0, 0, 0, 0, 0, 0}},
+     {0, 2, 0, 0, 0, 0, 0, 0, 0, 0, 0, 0}},
     {"gallop", call_gallop, 3,
      {IN(uneven, 1, 0), IN(step, 1, 0), OUT(3, pair, 10, 3)},
-     {0, 2, 0, 3, 0, 0, 0, 0, 0, 0}},
+     {0, 2, 0, 3, 0, 0, 0, 0, 0, 0, 0, 0}},
     {"minimum", call_minimum, 3,
      {IN(uneven, 1, 0), IN(step, 1, 0), OUT(3, pair, 10, 3)},
-     {0, 2, 0, 0, 0, 0, 0, 0, 0, 0}},
+     {0, 2, 0, 0, 0, 0, 0, 0, 0, 0, 0, 0}},
     {"least", call_least, 3,
      {IN(uneven, 1, 0), IN(step, 1, 0), OUT(3, pair, 10, 3)},
-     {0, 2, 0, 0, 2, 3, 0, 0, 0, 0}},
+     {0, 2, 0, 0, 2, 3, 0, 0, 0, 0, 0, 0}},
     {"expand", call_expand, 2,
      {IN(some_codes, 1, 0), OUT(5, code_values, 10, 5)},
-     {0, 5, 0, 0, 0, 0, 0, 0, 0, 0}},
+     {0, 5, 0, 0, 0, 0, 0, 0, 0, 0, 0, 0}},
     {"expand_with", call_expand_with, 3,
      {IN(some_codes, 1, 0), IN(own_table, 12, 0), OUT(5, own_values, 10, 5)},
-     {0, 5, 0, 0, 0, 0, 0, 0, 0, 0}},
+     {0, 5, 0, 0, 0, 0, 0, 0, 0, 0, 0, 0}},
     {"write", call_write, 4,
      {IN(uneven, 1, 0), IN(step, 1, 0), IN(pair, 6, 0),
       OUT(22, figure, 10, 22)},
-     {0, 22, 0, 0, 0, 0, 0, 0, 0, 0}},
+     {0, 22, 0, 0, 0, 0, 0, 0, 0, 0, 0, 0}},
     {"read", call_read, 3,
      {IN(figure, 8, 0), OUT(2, kept_ticks, 10, 2), OUT(2, kept_values, 10, 2)},
-     {0, 2, 0, 0, 2, 3, 0, 0, 0, 0}},
-    {"same", call_same, 2, {IN(figure, 8, 0), IN(figure, 9, 0)}, {0, 0, 1, 0, 0, 0, 0, 0, 0, 0}},
+     {0, 2, 0, 0, 2, 3, 0, 0, 0, 0, 0, 0}},
+    {"same", call_same, 2,
+     {IN(figure, 8, 0), IN(figure, 9, 0)},
+     {0, 0, 1, 0, 0, 0, 0, 0, 0, 0, 0, 0}},
     {"report", call_report, 4,
      {IN(uneven, 11, 0), IN(step, 11, 0), IN(one_length, 11, 0), OUT(1, one_row, 10, 1)},
-     {0, 0, 0, 0, 2, 3, 3, 2, 0, 0}},
+     {0, 0, 0, 0, 2, 3, 3, 2, 0, 0, 0, 0}},
     {"pedestals", call_pedestals, 8,
      {IN(four_each, 11, 0), IN(today, 11, 0), IN(fours, 11, 0), IN(four_each, 11, 0),
       IN(before, 11, 0), IN(fours, 11, 0), OUT(3, channel_0, 10, 3), OUT(3, channel_1, 10, 3)},
-     {0, 0, 0, 0, 0, 0, 0, 0, 1, 1}},
+     {0, 0, 0, 0, 0, 0, 0, 0, 1, 1, 0, 0}},
 };
 
 /* Makes the call in every placement, with these limits, and this place, allowance or noise factor:
@@ -411,6 +435,8 @@ static void run(int line, int which, struct list *lists, kovrelna_limits limits,
     differ("kept", answer.kept, expected.kept);
     differ("moved", answer.moved, expected.moved);
     differ("noisy", answer.noisy, expected.noisy);
+    differ("sample", answer.sample, expected.sample);
+    differ("side", answer.side, expected.side);
     for (k = 0; k < call->lists; k++) take_back(&lists[k], (enum placement)placement);
   }
 }
@@ -441,10 +467,29 @@ static void hold(int line, kovrelna_tolerance tolerance, uint32_t number, uint64
 
 #define HOLD(tolerance, number, p, q) hold(__LINE__, tolerance, number, p, q)
 
+/* Samples i and j as call_measure takes them. */
+static kovrelna_limits ends_of(size_t i, size_t j) {
+  return kovrelna_limited(kovrelna_ratio(i, j), 0);
+}
+
+static void measure(int line, const uint32_t *ticks, size_t ticks_len, const int16_t *values,
+                    size_t values_len, size_t i, size_t j, struct answer expected) {
+  struct list lists[2];
+  lists[0] = input(ticks, ticks_len, sizeof(uint32_t));
+  lists[1] = input(values, values_len, sizeof(int16_t));
+  run(line, MEASURE_CALL, lists, ends_of(i, j), 0, expected);
+}
+
+#define MEASURE(ticks, values, i, j, p, q, sample, side)                                          \
+  measure(__LINE__, ticks, COUNT(ticks), values, COUNT(values), i, j,                             \
+          with_measure(0, 0, p, q, sample, side))
+
+#define NO_MEASURE(ticks, values, i, j, number, value)                                            \
+  measure(__LINE__, ticks, COUNT(ticks), values, COUNT(values), i, j, answered(number, value))
+
 static void judge(int line, const uint32_t *ticks, size_t ticks_len, const int16_t *values,
                   size_t values_len, const uint16_t *list, size_t list_len, kovrelna_limits limits,
-                  uint32_t number, uint32_t passed, uint64_t value) {
-  struct answer expected = with_passed(number, value, passed);
+                  struct answer expected) {
   struct list lists[3];
   lists[0] = input(ticks, ticks_len, sizeof(uint32_t));
   lists[1] = input(values, values_len, sizeof(int16_t));
@@ -452,9 +497,15 @@ static void judge(int line, const uint32_t *ticks, size_t ticks_len, const int16
   run(line, JUDGE_CALL, lists, limits, 0, expected);
 }
 
+/* The list passes, or is refused. */
 #define JUDGE(ticks, values, list, limits, number, passed, value)                                 \
-  judge(__LINE__, ticks, COUNT(ticks), values, COUNT(values), list, COUNT(list), limits, number,  \
-        passed, value)
+  judge(__LINE__, ticks, COUNT(ticks), values, COUNT(values), list, COUNT(list), limits,          \
+        with_passed(number, value, passed))
+
+/* The first invalid link and its measure. */
+#define STRAYS(ticks, values, list, limits, link, p, q, sample, side)                             \
+  judge(__LINE__, ticks, COUNT(ticks), values, COUNT(values), list, COUNT(list), limits,          \
+        with_measure(0, link, p, q, sample, side))
 
 /* The sum over the list's stops of 2 floor(log2 r) + 1, where a stop advances by r samples. */
 static uint64_t list_probes(const uint16_t *list, size_t len) {
@@ -767,6 +818,71 @@ static void tolerances(void) {
   HOLD(other, KOVRELNA_REFUSED_TOLERANCE, 0, 0);
 }
 
+static void links(void) {
+  const uint32_t even[] = {0, 1, 2, 3, 4}, wide[] = {0, 1, 1048575},
+                 high[] = {UINT32_MAX - 1048575, UINT32_MAX - 1, UINT32_MAX};
+  const int16_t zigzag[] = {0, 3, 0, 3, 0}, wave[] = {0, 2, 0, -2, 0}, turned[] = {0, -2, 0, 2, 0},
+                between[] = {99, 0, 1, 0, -99}, fall[] = {0, -1, -1}, flat[] = {0, 0, 0},
+                rise[] = {0, 0, 1}, deepest[] = {32767, -32768, 32767},
+                highest[] = {-32768, 32767, -32768};
+
+  MEASURE(uneven, step, 0, 2, 2, 3, 1, KOVRELNA_SIDE_ABOVE);
+  MEASURE(uneven, fall, 0, 2, 2, 3, 1, KOVRELNA_SIDE_BELOW);
+  MEASURE(uneven, flat, 0, 2, 0, 1, 0, KOVRELNA_SIDE_ON);
+  MEASURE(even, wave, 1, 4, 8, 3, 3, KOVRELNA_SIDE_BELOW);
+  /* Nothing lies between, or all on the line. */
+  MEASURE(even, zigzag, 0, 1, 0, 1, 0, KOVRELNA_SIDE_ON);
+  MEASURE(even, zigzag, 3, 4, 0, 1, 3, KOVRELNA_SIDE_ON);
+  MEASURE(even, wave, 1, 3, 0, 1, 1, KOVRELNA_SIDE_ON);
+  /* Of several samples the first, on either side. */
+  MEASURE(even, zigzag, 0, 4, 3, 1, 1, KOVRELNA_SIDE_ABOVE);
+  MEASURE(even, zigzag, 1, 4, 2, 1, 2, KOVRELNA_SIDE_BELOW);
+  MEASURE(even, wave, 0, 4, 2, 1, 1, KOVRELNA_SIDE_ABOVE);
+  MEASURE(even, turned, 0, 4, 2, 1, 1, KOVRELNA_SIDE_BELOW);
+  /* What lies beside the link does not count. */
+  MEASURE(even, between, 1, 3, 1, 1, 2, KOVRELNA_SIDE_ABOVE);
+  /* The greatest error, and errors with the greatest run. */
+  MEASURE(wide, deepest, 0, 2, 65535, 1, 1, KOVRELNA_SIDE_BELOW);
+  MEASURE(high, highest, 0, 2, 65535, 1, 1, KOVRELNA_SIDE_ABOVE);
+  MEASURE(wide, rise, 0, 2, 1, 1048575, 1, KOVRELNA_SIDE_BELOW);
+  MEASURE(high, rise, 0, 2, 1048574, 1048575, 1, KOVRELNA_SIDE_BELOW);
+}
+
+/* Rows 1, 2, 3 and 6 of measure, in their order. */
+static void no_links(void) {
+  enum { SAMPLES = 5 };
+  static uint32_t many[KOVRELNA_SAMPLES_MAX + 1];
+  static const int16_t level[KOVRELNA_SAMPLES_MAX + 1] = {0};
+  const uint32_t equal[] = {5, 5}, around[] = {UINT32_MAX, 0}, beyond_span[] = {0, 1048576},
+                 stuck[] = {0, 1048576, 1048577, 1048578, 1048578};
+  const int16_t flat[] = {0, 0, 0, 0, 0}, two[] = {0, 0};
+  const size_t ends[] = {0, 1, 2, 3, 4, 5, 6, 4095, 4096, 65536, (size_t)UINT32_MAX + 1,
+                         (size_t)UINT32_MAX + 3, SIZE_MAX / 2, SIZE_MAX - 1, SIZE_MAX};
+  size_t x, y;
+  for (x = 0; x < COUNT(many); x++) many[x] = (uint32_t)x;
+
+  for (x = 0; x < COUNT(ends); x++) {
+    for (y = 0; y < COUNT(ends); y++) {
+      size_t i = ends[x], j = ends[y];
+      struct answer expected = with_measure(0, 0, 0, 1, i, KOVRELNA_SIDE_ON);
+      if (i >= SAMPLES)
+        expected = answered(KOVRELNA_REFUSED_LIST, 0);
+      else if (j >= SAMPLES || j <= i)
+        expected = answered(KOVRELNA_REFUSED_LIST, 1);
+      measure(__LINE__, many, SAMPLES, level, SAMPLES, i, j, expected);
+      NO_MEASURE(stuck, two, i, j, KOVRELNA_REFUSED_LENGTH, 0);
+      NO_MEASURE(equal, two, i, j, KOVRELNA_REFUSED_TICK, 1);
+      NO_MEASURE(around, two, i, j, KOVRELNA_REFUSED_TICK, 1);
+      NO_MEASURE(stuck, flat, i, j, KOVRELNA_REFUSED_TICK, 4);
+      NO_MEASURE(beyond_span, two, i, j, KOVRELNA_REFUSED_SPAN, 1);
+      /* One sample has no link. */
+      measure(__LINE__, many, 1, level, 1, i, j, answered(KOVRELNA_REFUSED_LIST, i == 0 ? 1 : 0));
+    }
+  }
+  NO_MEASURE(many, level, 0, 1, KOVRELNA_REFUSED_LENGTH, 0);
+  NO_MEASURE(many, level, SIZE_MAX, 0, KOVRELNA_REFUSED_LENGTH, 0);
+}
+
 static void lists(void) {
   const uint32_t even[] = {0, 1, 2, 3, 4};
   const int16_t zigzag[] = {0, 3, 0, 3, 0}, wave[] = {0, 2, 0, -2, 0};
@@ -775,16 +891,16 @@ static void lists(void) {
 
   JUDGE(even, zigzag, all, within_ratio(0, 1), 0, 1, 0);
   JUDGE(even, zigzag, late, within_ratio(2, 1), 0, 1, 0);
-  JUDGE(even, zigzag, middle, within_ratio(2, 1), 0, 0, 0);
-  JUDGE(even, zigzag, early, within_ratio(1, 1), 0, 0, 1);
-  JUDGE(even, zigzag, ends, within_ratio(2, 1), 0, 0, 0);
+  STRAYS(even, zigzag, middle, within_ratio(2, 1), 0, 3, 1, 1, KOVRELNA_SIDE_ABOVE);
+  STRAYS(even, zigzag, early, within_ratio(1, 1), 1, 2, 1, 2, KOVRELNA_SIDE_BELOW);
+  STRAYS(even, zigzag, ends, within_ratio(2, 1), 0, 3, 1, 1, KOVRELNA_SIDE_ABOVE);
   JUDGE(even, zigzag, ends, within_counts(3.0), 0, 1, 0);
   JUDGE(even, zigzag, ends, within_noise(1.5, 2.0), 0, 1, 0);
   JUDGE(even, wave, middle, within_ratio(2, 1), 0, 1, 0);
   JUDGE(even, wave, ends, within_ratio(2, 1), 0, 1, 0);
-  JUDGE(even, wave, three, within_ratio(1, 1), 0, 0, 2);
+  STRAYS(even, wave, three, within_ratio(1, 1), 2, 2, 1, 3, KOVRELNA_SIDE_BELOW);
   JUDGE(uneven, step, pair, within_ratio(4, 6), 0, 1, 0);
-  JUDGE(uneven, step, pair, within_ratio(665, 1000), 0, 0, 0);
+  STRAYS(uneven, step, pair, within_ratio(665, 1000), 0, 2, 3, 1, KOVRELNA_SIDE_ABOVE);
 }
 
 static void reductions(void) {
@@ -850,7 +966,7 @@ static void refusals(void) {
   JUDGE(even, flat, brief, zero, KOVRELNA_REFUSED_LIST, 0, 3);
 
   /* One sample: its list is the sample itself. */
-  judge(__LINE__, even, 1, flat, 1, ends, 1, zero, 0, 1, 0);
+  judge(__LINE__, even, 1, flat, 1, ends, 1, zero, with_passed(0, 0, 1));
 
   /* The reductions, without an output and with one. */
   REFUSE(even, two, none, 0, KOVRELNA_REFUSED_LENGTH, 0);
@@ -905,8 +1021,12 @@ static const uint32_t parts[] = {0, 1, 2, 10, 11, 12};
 static const int16_t parts_values[] = {0, 0, 0, 0, 0, 0};
 static const uint16_t parts_ends[] = {0, 5}, parts_sides[] = {0, 2, 3, 5};
 
-/* The tolerance 0 with this gap limit. */
-static kovrelna_limits under(uint32_t gap) { return kovrelna_limited(kovrelna_ratio(0, 1), gap); }
+/* A whole tolerance with this gap limit, and the tolerance 0. */
+static kovrelna_limits within_gap(uint64_t p, uint32_t gap) {
+  return kovrelna_limited(kovrelna_ratio(p, 1), gap);
+}
+
+static kovrelna_limits under(uint32_t gap) { return within_gap(0, gap); }
 
 /* Every method keeps these samples, of values that do not differ. */
 static void keeps(int line, const uint32_t *ticks, size_t len, uint32_t gap, const uint16_t *list,
@@ -924,12 +1044,16 @@ static void gap_limits(void) {
   enum { SAMPLES = 200 };
   const uint16_t ends[] = {0, 2}, all[] = {0, 1, 2, 3, 4, 5}, early[] = {0, 1, 3, 5},
                  late[] = {0, 2, 5}, across[] = {0, 2, 4, 5};
-  const uint32_t apart[] = {0, 8}, far_first[] = {0, 2, 3}, widest[] = {0, 1, 1048575};
-  const uint16_t both[] = {0, 1}, three[] = {0, 1, 2};
-  const int16_t flat[] = {0, 0, 0, 0, 0, 0, 0, 0, 0}, steep[] = {-32768, 32767};
+  const uint32_t apart[] = {0, 8}, far_first[] = {0, 2, 3}, widest[] = {0, 1, 1048575},
+                 nearly[] = {0, 7, 15, 23};
+  const uint16_t both[] = {0, 1}, three[] = {0, 1, 2}, nearly_ends[] = {0, 3};
+  const int16_t flat[] = {0, 0, 0, 0, 0, 0, 0, 0, 0}, steep[] = {-32768, 32767},
+                peak[] = {0, 3, 0, 0, 0, 0}, trough[] = {0, 0, 0, 0, -3, 0},
+                level_four[] = {0, 0, 0, 0};
   /* Holes at the first and the last step, and two in a row. */
   const uint32_t single[] = {0, 8, 9, 10, 18, 26, 27, 28, 36};
-  const uint16_t single_sides[] = {0, 1, 3, 4, 5, 7, 8}, single_ends[] = {0, 8};
+  const uint16_t single_sides[] = {0, 1, 3, 4, 5, 7, 8}, single_ends[] = {0, 8},
+                 single_first[] = {0, 1, 8}, single_last[] = {0, 1, 3, 4, 5, 8};
   /* A zigzag on each side of a hole. */
   const uint32_t twice[] = {0, 1, 2, 3, 4, 12, 13, 14, 15, 16};
   const int16_t zigzags[] = {0, 3, 0, 3, 0, 0, 3, 0, 3, 0};
@@ -943,9 +1067,15 @@ static void gap_limits(void) {
   /* Channels of 6, 1 and 2 samples. */
   const uint32_t crate_ticks[] = {0, 1, 2, 10, 11, 12, 7, 5, 99};
   const size_t lengths[] = {6, 1, 2};
-  const kovrelna_summary split[] = {{6, 4, 0, 1, 0}, {1, 1, 0, 1, 0}, {2, 2, 0, 1, 0}};
-  const kovrelna_summary whole[] = {{6, 2, 0, 1, 0}, {1, 1, 0, 1, 0}, {2, 2, 0, 1, 0}};
+  const kovrelna_summary split[] = {{6, 4, 0, 1, 0, 0}, {1, 1, 0, 1, 0, 0}, {2, 2, 0, 1, 0, 0}};
+  const kovrelna_summary whole[] = {{6, 2, 0, 1, 0, 0}, {1, 1, 0, 1, 0, 0}, {2, 2, 0, 1, 0, 0}};
+  /* Three channels of 6 samples: the worst link is the last, the first, or both are as bad. */
+  const uint32_t three_ticks[] = {0, 1, 2, 10, 11, 12, 0, 1, 2, 10, 11, 12, 0, 1, 2, 10, 11, 12};
+  const int16_t three_values[] = {0, 1, 0, 0, 2, 0, 0, -2, 0, 0, 1, 0, 0, -2, 0, 0, 2, 0};
+  const size_t sixes[] = {6, 6, 6};
+  const kovrelna_summary worst[] = {{6, 4, 2, 1, 4, 0}, {6, 4, 2, 1, 1, 0}, {6, 4, 2, 1, 1, 0}};
   static uint32_t ticks[SAMPLES];
+  static const int16_t level[SAMPLES] = {0};
   size_t k, hole;
 
   for (k = 6; k <= 8; k++) {
@@ -990,17 +1120,32 @@ static void gap_limits(void) {
     keeps(__LINE__, ticks, SAMPLES, 7, list, kept);
     list[1] = SAMPLES - 1;
     keeps(__LINE__, ticks, SAMPLES, 8, list, 2);
+    judge(__LINE__, ticks, SAMPLES, level, SAMPLES, list, 2, under(7),
+          with_measure(0, 0, 0, 1, hole, KOVRELNA_SIDE_GAP));
   }
 
   JUDGE(parts, parts_values, parts_sides, under(7), 0, 1, 0);
-  JUDGE(parts, parts_values, parts_ends, under(7), 0, 0, 0);
+  STRAYS(parts, parts_values, parts_ends, under(7), 0, 0, 1, 2, KOVRELNA_SIDE_GAP);
   JUDGE(parts, parts_values, parts_ends, under(8), 0, 1, 0);
-  JUDGE(parts, parts_values, early, under(7), 0, 0, 1);
-  JUDGE(parts, parts_values, late, under(7), 0, 0, 1);
-  JUDGE(parts, parts_values, across, under(7), 0, 0, 1);
+  STRAYS(parts, parts_values, early, under(7), 1, 0, 1, 2, KOVRELNA_SIDE_GAP);
+  STRAYS(parts, parts_values, late, under(7), 1, 0, 1, 2, KOVRELNA_SIDE_GAP);
+  STRAYS(parts, parts_values, across, under(7), 1, 0, 1, 2, KOVRELNA_SIDE_GAP);
   JUDGE(parts, parts_values, across, under(8), 0, 1, 0);
   JUDGE(parts, parts_values, all, under(1), 0, 1, 0);
   JUDGE(apart, steep, both, under(1), 0, 1, 0);
+  /* Of several holes the first; before it two neighbours exactly the gap limit apart. */
+  STRAYS(nearly, level_four, nearly_ends, under(7), 0, 0, 1, 1, KOVRELNA_SIDE_GAP);
+  STRAYS(single, flat, single_ends, under(7), 0, 0, 1, 0, KOVRELNA_SIDE_GAP);
+  STRAYS(single, flat, single_first, under(7), 1, 0, 1, 3, KOVRELNA_SIDE_GAP);
+  STRAYS(single, flat, single_last, under(7), 4, 0, 1, 7, KOVRELNA_SIDE_GAP);
+  /* The tolerance alone makes a link invalid, both do, the gap limit alone does. */
+  STRAYS(parts, peak, parts_ends, within_gap(2, 8), 0, 3, 1, 1, KOVRELNA_SIDE_ABOVE);
+  STRAYS(parts, peak, parts_ends, within_gap(2, 7), 0, 3, 1, 1, KOVRELNA_SIDE_ABOVE);
+  STRAYS(parts, peak, parts_ends, within_gap(3, 7), 0, 3, 1, 2, KOVRELNA_SIDE_GAP);
+  STRAYS(parts, trough, late, within_gap(2, 8), 1, 3, 1, 4, KOVRELNA_SIDE_BELOW);
+  STRAYS(parts, trough, late, within_gap(2, 7), 1, 3, 1, 4, KOVRELNA_SIDE_BELOW);
+  STRAYS(parts, trough, late, within_gap(3, 7), 1, 3, 1, 2, KOVRELNA_SIDE_GAP);
+  STRAYS(parts, trough, parts_sides, within_gap(2, 7), 2, 3, 1, 4, KOVRELNA_SIDE_BELOW);
 
   WRITE(parts, parts_values, parts_sides, under(7), 28, 0, 0, 28, sides_record);
   WRITE(parts, parts_values, parts_sides, under(KOVRELNA_GAP_MAX), 28, 0, 0, 28, sides_record);
@@ -1008,6 +1153,7 @@ static void gap_limits(void) {
 
   REPORT_ROWS(crate_ticks, flat, lengths, under(7), 3, totals(9, 7, 0, 1), split);
   REPORT_ROWS(crate_ticks, flat, lengths, under(8), 4, totals(9, 5, 0, 1), whole);
+  REPORT_ROWS(three_ticks, three_values, sixes, within_gap(2, 7), 3, totals(18, 12, 2, 1), worst);
 }
 
 /* Rows 7, 15 and 16, in their order. */
@@ -1270,13 +1416,31 @@ static void layouts(void) {
   differ("size", sizeof(kovrelna_limits), 48);
   differ("tolerance", offsetof(kovrelna_limits, tolerance), 0);
   differ("gap", offsetof(kovrelna_limits, gap), 40);
+  now_name = "layout of a measure";
+  differ("size", sizeof(kovrelna_measured), 40);
+  differ("number", offsetof(kovrelna_measured, number), 0);
+  differ("side", offsetof(kovrelna_measured, side), 4);
+  differ("value", offsetof(kovrelna_measured, value), 8);
+  differ("p", offsetof(kovrelna_measured, p), 16);
+  differ("q", offsetof(kovrelna_measured, q), 24);
+  differ("sample", offsetof(kovrelna_measured, sample), 32);
+  now_name = "layout of what judge says";
+  differ("size", sizeof(kovrelna_judged), 48);
+  differ("number", offsetof(kovrelna_judged, number), 0);
+  differ("passed", offsetof(kovrelna_judged, passed), 4);
+  differ("value", offsetof(kovrelna_judged, value), 8);
+  differ("p", offsetof(kovrelna_judged, p), 16);
+  differ("q", offsetof(kovrelna_judged, q), 24);
+  differ("sample", offsetof(kovrelna_judged, sample), 32);
+  differ("side", offsetof(kovrelna_judged, side), 40);
   now_name = "layout of a summary";
-  differ("size", sizeof(kovrelna_summary), 40);
+  differ("size", sizeof(kovrelna_summary), 48);
   differ("samples", offsetof(kovrelna_summary, samples), 0);
   differ("kept", offsetof(kovrelna_summary, kept), 8);
   differ("p", offsetof(kovrelna_summary, p), 16);
   differ("q", offsetof(kovrelna_summary, q), 24);
-  differ("number", offsetof(kovrelna_summary, number), 32);
+  differ("sample", offsetof(kovrelna_summary, sample), 32);
+  differ("number", offsetof(kovrelna_summary, number), 40);
   now_name = "layout of totals";
   differ("size", sizeof(kovrelna_totals), 48);
   differ("number", offsetof(kovrelna_totals, number), 0);
@@ -1300,16 +1464,16 @@ static void reports(void) {
   const int16_t values[] = {0, 2, 0, -2, 0, 1, 1, 9};
   const size_t parts[] = {5, 0, 2, 1}, less[] = {5, 0, 1, 1}, more[] = {5, 0, 2, 2};
   const kovrelna_summary rows[] = {
-      {5, 3, 2, 1, 0}, {0, 0, 0, 1, 1}, {0, 0, 0, 1, 2}, {1, 1, 0, 1, 0}};
+      {5, 3, 2, 1, 1, 0}, {0, 0, 0, 1, 0, 1}, {0, 0, 0, 1, 0, 2}, {1, 1, 0, 1, 0, 0}};
   /* Errors 2/3, 3/4 and 1/2, at tolerance 1; a span that is too long. */
   const uint32_t thirds[] = {0, 1, 3, 7, 8, 11, 20, 21, 22, 0, 1048576};
   const int16_t steps[] = {0, 1, 1, 0, 1, 1, 0, 0, 1, 0, 0};
   const size_t three[] = {3, 3, 3, 2};
   const kovrelna_summary errors[] = {
-      {3, 2, 2, 3, 0}, {3, 2, 3, 4, 0}, {3, 2, 1, 2, 0}, {0, 0, 0, 1, 3}};
+      {3, 2, 2, 3, 1, 0}, {3, 2, 3, 4, 1, 0}, {3, 2, 1, 2, 1, 0}, {0, 0, 0, 1, 0, 3}};
   /* Channels without samples. */
   const size_t none[] = {0, 0};
-  const kovrelna_summary empty[] = {{0, 0, 0, 1, 1}, {0, 0, 0, 1, 1}};
+  const kovrelna_summary empty[] = {{0, 0, 0, 1, 0, 1}, {0, 0, 0, 1, 0, 1}};
   /* Sums that would come round to 8 in the type's range; `huge` has one that would come to 0. */
   const size_t round[] = {SIZE_MAX, 9}, halves[] = {SIZE_MAX / 2 + 1, 4, SIZE_MAX / 2 + 1, 4};
   static uint32_t many_ticks[SAMPLES];
@@ -1360,6 +1524,7 @@ static void reports(void) {
     many_rows[k].kept = fits ? (k <= 32 ? 2 : 3) : 0;
     many_rows[k].p = fits && k <= 32 ? k : 0;
     many_rows[k].q = 1;
+    many_rows[k].sample = many_rows[k].p != 0 ? 1 : 0;
     many_rows[k].number = fits ? 0 : 2;
     kept += many_rows[k].kept;
   }
@@ -1534,7 +1699,7 @@ static void empty_lists(void) {
                                               : filled(len, parameter->size, parameter->written, 0,
                                                        parameter->count);
       }
-      run(__LINE__, (int)which, lists, within_ratio(4, 6),
+      run(__LINE__, (int)which, lists, which == MEASURE_CALL ? ends_of(0, 2) : within_ratio(4, 6),
           which == LEAST || which == PEDESTALS ? 2 : 0, expected);
     }
   }
@@ -1557,6 +1722,12 @@ static void longest(void) {
     values[k] = (int16_t)(k % 2 * 10000);
     all[k] = (uint16_t)k;
   }
+  /* As far above the line at sample 1 as below it at the last but one. */
+  MEASURE(ticks, values, 0, SAMPLES - 1, 8188000, 819, 1, KOVRELNA_SIDE_ABOVE);
+  MEASURE(ticks, values, 1, SAMPLES - 2, 40920000, 4093, 2, KOVRELNA_SIDE_BELOW);
+  NO_MEASURE(ticks, values, SAMPLES, SAMPLES, KOVRELNA_REFUSED_LIST, 0);
+  NO_MEASURE(ticks, values, SAMPLES - 1, SAMPLES, KOVRELNA_REFUSED_LIST, 1);
+  STRAYS(ticks, values, ends, within_ratio(9997, 1), 0, 8188000, 819, 1, KOVRELNA_SIDE_ABOVE);
   JUDGE(ticks, values, all, zero, 0, 1, 0);
   REDUCE(WALK, ticks, values, zero, SAMPLES, 0, all);
   REDUCE(GALLOP, ticks, values, zero, SAMPLES, SAMPLES - 1, all);
@@ -1582,7 +1753,7 @@ static void longest_crate(void) {
   static int16_t values[CHANNELS * SAMPLES];
   static size_t parts[CHANNELS];
   static kovrelna_summary rows[CHANNELS];
-  const kovrelna_summary row = {SAMPLES, SAMPLES, 0, 1, 0}, refused = {0, 0, 0, 1, 1};
+  const kovrelna_summary row = {SAMPLES, SAMPLES, 0, 1, 0, 0}, refused = {0, 0, 0, 1, 0, 1};
   size_t k;
   for (k = 0; k < CHANNELS * SAMPLES; k++) {
     ticks[k] = (uint32_t)(256 * (k % SAMPLES) + k / SAMPLES);
@@ -1638,10 +1809,13 @@ static void longest_runs(void) {
   NOT_COMPARED(longer, longer, kovrelna_ratio(0, 1), 1, KOVRELNA_REFUSED_LENGTH, 1);
 }
 
-/* The version's numbers are those of its text. Every cause has words of its own. */
+/* The version's numbers are those of its text. Every cause has words of its own. Every side has its
+ * word. */
 static void words(void) {
-  /* By a pointer that no compiler sees through, since some warn of words that always differ. */
+  static const char *const sides[] = {"on", "above", "below", "gap", "none", "none"};
+  /* By pointers that no compiler sees through, since some warn of words that always differ. */
   const char *(*volatile cause)(uint32_t) = kovrelna_cause;
+  const char *(*volatile side)(uint32_t) = kovrelna_side_name;
   char version[40];
   uint32_t number, other;
   now_name = "version";
@@ -1655,6 +1829,10 @@ static void words(void) {
   for (number = 0; number <= KOVRELNA_REFUSED_HOLES; number++)
     for (other = 0; other < number; other++)
       differ("the same words", strcmp(cause(number), cause(other)) == 0, 0);
+  now_name = "side";
+  for (number = 0; number < COUNT(sides); number++)
+    differ("its word", strcmp(side(number), sides[number]) != 0, 0);
+  differ("no side", strcmp(side(UINT32_MAX), "none") != 0, 0);
 }
 
 int main(void) {
@@ -1662,6 +1840,8 @@ int main(void) {
   signal(SIGBUS, beyond);
   make_table();
   tolerances();
+  links();
+  no_links();
   lists();
   reductions();
   refusals();

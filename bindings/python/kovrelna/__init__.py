@@ -2,6 +2,7 @@
 
 - `Ratio`, `Counts`, `Noise`, `hold`: a tolerance, and the fraction it is held as.
 - `GAP_MAX`: the largest gap limit, which is none.
+- `Measure`, `measure`: a link's error, and the first sample where it occurs.
 - `Verdict`, `judge`: whether every link of a proposed list is valid.
 - `walk`, `Galloped`, `gallop`, `minimum`: kept lists with every link valid.
 - `Least`, `least`: the least error that so many samples allow.
@@ -50,7 +51,7 @@ before the call returns. minimum, least and report take up to 18 KiB of stack, e
 >>> kept.tolist()
 [0, 2]
 >>> judge(ticks, values, kept, Ratio(665, 1000))
-Verdict(passed=False, link=0)
+Verdict(passed=False, link=0, measure=Measure(error=Fraction(2, 3), sample=1, side='above'))
 >>> judge(ticks, values, [0, 1], Ratio(4, 6))
 Traceback (most recent call last):
     ...
@@ -68,7 +69,7 @@ from . import _library, _tolerance
 from ._lists import BYTE, ENTRY, LENGTH, SPARE, TICK, VALUE, Lent, Loan, Numbers, Output, Whole
 from ._lists import new, used, whole
 from ._tolerance import Counts, Noise, Ratio, Tolerance
-from ._words import crossing, words
+from ._words import strays, words
 
 __version__ = "0.1.0"
 
@@ -79,6 +80,7 @@ __all__ = [
     "GAP_MAX",
     "Galloped",
     "Least",
+    "Measure",
     "Noise",
     "Pedestals",
     "Ratio",
@@ -94,6 +96,7 @@ __all__ = [
     "hold",
     "judge",
     "least",
+    "measure",
     "minimum",
     "pedestals",
     "read",
@@ -126,8 +129,8 @@ class Refusal(ValueError):
     | 3 | the span is too long | the first sample over 1,048,575 ticks after the first |
     | 4 | the tolerance is not allowed | 0 |
     | 5 | the allowance is below 2 or above 4,096 | 0 |
-    | 6 | the proposed list is no kept list | the position of the first bad entry; the list's length \
-if it only stops short; 0 if it is empty |
+    | 6 | the proposed list is no kept list, or two samples are no link of the trace | the position \
+of the first bad entry; the list's length if it only stops short; 0 if it is empty |
     | 7 | the list to be written has an invalid link | the position of the first |
     | 8 | the record is faulty | the fault's byte |
     | 9 | the second record of a comparison is faulty | the fault's byte |
@@ -142,7 +145,8 @@ value is not above the one before |
     | 16 | every list that obeys the gap limit has more samples than the allowance | 0 |
 
     In `pedestals` the value of 1, 2 and 3 is the channel. A bad entry is a first one that is not 0,
-    one that is not above the entry before it, or one beyond the trace.
+    one that is not above the entry before it, or one beyond the trace. In `measure` the value of 6
+    is 0 if i is beyond the trace, and 1 if j is beyond it or not above i.
 
     >>> try:
     ...     walk([5, 5], [0, 0], 1)
@@ -200,6 +204,56 @@ def _limits(tolerance: Tolerance, gap: SupportsIndex) -> _library.Limits:
     return _library.Limits(_tolerance.lend(tolerance), _number(gap, 32))
 
 
+class Measure(NamedTuple):
+    """What `measure` returns, and what `judge` says of the first invalid link."""
+
+    error: Fraction
+    """The link's error."""
+    sample: int
+    """The first sample between its ends whose deviation is the error; where the error is 0, the one
+    that the link begins with."""
+    side: str
+    """Where that sample lies beside the line: "above", "below" or, where the error is 0, "on". With
+    "gap", which `judge` alone says, only the gap limit makes the link invalid: the error, which may
+    be 0, is at most the tolerance, and the sample is the one before the first hole."""
+
+
+# The sides by their numbers.
+_SIDES = "on", "above", "below", "gap"
+
+
+def _measure(answer: Any) -> Measure:
+    """The measure in an answer."""
+    return Measure(Fraction(answer.p, answer.q), answer.sample, _SIDES[answer.side])
+
+
+def measure(ticks: Lent, values: Lent, i: SupportsIndex, j: SupportsIndex) -> Measure:
+    """The error of the link from sample i to sample j of this trace, the first sample between them
+    where it occurs, and whether that sample lies above or below the line. Samples are counted from
+    0; negative numbers do not count from the end. Refusals: 1, 2, 3, 6.
+
+    >>> measure(range(5), [0, 2, 0, -2, 0], 0, 4)
+    Measure(error=Fraction(2, 1), sample=1, side='above')
+    >>> measure(range(5), [0, 2, 0, -2, 0], 1, 4)
+    Measure(error=Fraction(8, 3), sample=3, side='below')
+    >>> measure([0, 1, 3], [0, 0, 0], 0, 2)
+    Measure(error=Fraction(0, 1), sample=0, side='on')
+    >>> measure([0, 1, 3], [0, 0, 0], 1, 3)
+    Traceback (most recent call last):
+        ...
+    kovrelna.Refusal: refused as 6: no link: j must be a sample of the trace, from 0 to 2, not 3
+    """
+    link = operator.index(i), operator.index(j)
+    # A number that does not fit the library's is lent as the largest, which is no sample either.
+    ends = (end if 0 <= end < 2**64 else 2**64 - 1 for end in link)
+    with Loan() as loan:
+        answer = _library.measure(
+            *loan.input("ticks", ticks, TICK), *loan.input("values", values, VALUE), *ends
+        )
+        _check(answer, loan, most=_SAMPLES, link=link)
+    return _measure(answer)
+
+
 @dataclass(frozen=True)
 class Verdict:
     """What `judge` says of a kept list. True exactly if it has passed."""
@@ -208,6 +262,8 @@ class Verdict:
     """Whether every link is valid."""
     link: Optional[int]
     """The position of the first invalid link, counted from 0, if there is one."""
+    measure: Optional[Measure] = None
+    """The measure of that link, if there is one. A verdict may also be made without it."""
 
     def __bool__(self) -> bool:
         return self.passed
@@ -221,15 +277,19 @@ def judge(
     *,
     gap: SupportsIndex = GAP_MAX,
 ) -> Verdict:
-    """Whether every link of the proposed list is valid on this trace. Refusals: 1, 2, 3, 4, 15, 6.
+    """Whether every link of the proposed list is valid on this trace. If not, the position of the
+    first invalid link comes with its measure: the one that `measure` gives, or, for a link that only
+    the gap limit makes invalid, "gap" with its error and the sample before its first hole. Refusals:
+    1, 2, 3, 4, 15, 6.
 
     >>> ticks, values = range(5), [0, 3, 0, 3, 0]
     >>> judge(ticks, values, [0, 3, 4], 2)
-    Verdict(passed=True, link=None)
-    >>> judge(ticks, values, [0, 1, 2, 4], 2)
-    Verdict(passed=False, link=2)
-    >>> judge([0, 1, 9], [0, 0, 0], [0, 2], 2, gap=7)
-    Verdict(passed=False, link=0)
+    Verdict(passed=True, link=None, measure=None)
+    >>> verdict = judge(ticks, values, [0, 1, 2, 4], 2)
+    >>> verdict.link, verdict.measure
+    (2, Measure(error=Fraction(3, 1), sample=3, side='above'))
+    >>> judge([0, 1, 9], [0, 0, 0], [0, 2], 2, gap=7).measure
+    Measure(error=Fraction(0, 1), sample=1, side='gap')
     """
     with Loan() as loan:
         answer = _library.judge(
@@ -239,7 +299,7 @@ def judge(
             _limits(tolerance, gap),
         )
         _check(answer, loan, most=_SAMPLES, tolerance=tolerance, gap=gap)
-    return Verdict(True, None) if answer.passed else Verdict(False, answer.value)
+    return Verdict(True, None) if answer.passed else Verdict(False, answer.value, _measure(answer))
 
 
 def _reduce(
@@ -409,6 +469,9 @@ class Summary(NamedTuple):
     """How many of them `walk` keeps."""
     error: Fraction
     """The error of walk's list: that of its worst link."""
+    sample: int
+    """The sample of the measure of the first link with that error, counted from 0 in the channel's
+    own trace; 0 where the error is 0."""
     number: int
     """0, or the number under which its trace is refused: 1, 2 or 3."""
 
@@ -459,9 +522,9 @@ def report(
 
     >>> crate = report([0, 1, 2, 5, 5], [0, 3, 0, 1, 1], [3, 2], 3)
     >>> crate.rows[0]
-    Summary(samples=3, kept=2, error=Fraction(3, 1), number=0)
+    Summary(samples=3, kept=2, error=Fraction(3, 1), sample=1, number=0)
     >>> crate.rows[1]
-    Summary(samples=0, kept=0, error=Fraction(0, 1), number=2)
+    Summary(samples=0, kept=0, error=Fraction(0, 1), sample=0, number=2)
     >>> crate.samples, crate.kept, crate.error
     (3, 2, Fraction(3, 1))
     """
@@ -471,7 +534,10 @@ def report(
         answer = _library.report(*crate, _limits(tolerance, gap), rows, len(rows))
         _check(answer, loan, tolerance=tolerance, gap=gap)
     return Report(
-        [Summary(row.samples, row.kept, Fraction(row.p, row.q), row.number) for row in rows],
+        [
+            Summary(row.samples, row.kept, Fraction(row.p, row.q), row.sample, row.number)
+            for row in rows
+        ],
         answer.samples,
         answer.kept,
         Fraction(answer.p, answer.q),
@@ -675,9 +741,20 @@ def write(
         # The longest record of so many samples.
         new_record = bytearray(13 + 6 * min(entries[1], _SAMPLES) if buffer is None else 0)
         lent = loan.output("buffer", new_record if buffer is None else buffer, BYTE)
-        start = min(place, lent[1])
-        answer = _library.write(*trace, *entries, _limits(tolerance, gap), *lent, start)
-        _check(answer, loan, most=_SAMPLES, tolerance=tolerance, gap=gap, place=place)
+        limits = _limits(tolerance, gap)
+        answer = _library.write(*trace, *entries, limits, *lent, min(place, lent[1]))
+        strayed = None
+        if answer.number == 7:
+            strayed = _measure(_library.judge(*trace, *entries, limits))
+        _check(
+            answer,
+            loan,
+            most=_SAMPLES,
+            tolerance=tolerance,
+            gap=gap,
+            place=place,
+            measure=strayed,
+        )
     if buffer is None:
         return bytes(new_record[: answer.value])
     return used(buffer, BYTE, place, answer.value)
@@ -776,7 +853,8 @@ def check(
     >>> check(record, ticks, values)
     Checked(passed=True, cause=None)
     >>> check(record, ticks, [0, 2, 1]).cause
-    'link 0, from sample 0 at tick 0 to sample 2 at tick 3, is not within 2/3'
+    'link 0, from sample 0 at tick 0 to sample 2 at tick 3, is not within 2/3: sample 1 at tick 1 \
+lies 5/3 above the line'
     >>> check(record, ticks, values, gap=2)
     Checked(passed=True, cause=None)
     >>> check(record, ticks, values, gap=1).cause
@@ -812,9 +890,8 @@ def _cause(content: Content, ticks: list[int], values: list[int], gap: int) -> O
         if entry != sample:
             return f"the {end} sample of the trace, at tick {ticks[sample]}, is not kept"
     verdict = judge(ticks, values, kept, content.tolerance, gap=gap)
-    if verdict.link is None:
+    if verdict.link is None or verdict.measure is None:
         return None
-    i, j = kept[verdict.link :][:2]
-    start, end = (f"sample {k} at tick {ticks[k]}" for k in (i, j))
-    fault = crossing(ticks, i, j, gap) or f"is not within {content.tolerance}"
+    start, end = (f"sample {k} at tick {ticks[k]}" for k in kept[verdict.link :][:2])
+    fault = strays(ticks, content.tolerance, *verdict.measure)
     return f"link {verdict.link}, from {start} to {end}, {fault}"

@@ -33,6 +33,29 @@ class Galloped(Structure):
     _fields_ = [("number", c_uint32), ("value", c_uint64), ("probes", c_uint64)]
 
 
+class Measured(Structure):
+    _fields_ = [
+        ("number", c_uint32),
+        ("side", c_uint32),
+        ("value", c_uint64),
+        ("p", c_uint64),
+        ("q", c_uint64),
+        ("sample", c_uint64),
+    ]
+
+
+class Judged(Structure):
+    _fields_ = [
+        ("number", c_uint32),
+        ("passed", c_uint32),
+        ("value", c_uint64),
+        ("p", c_uint64),
+        ("q", c_uint64),
+        ("sample", c_uint64),
+        ("side", c_uint32),
+    ]
+
+
 class Verdict(Structure):
     _fields_ = [("number", c_uint32), ("passed", c_uint32), ("value", c_uint64)]
 
@@ -51,6 +74,7 @@ class Summary(Structure):
         ("kept", c_size_t),
         ("p", c_uint64),
         ("q", c_uint64),
+        ("sample", c_size_t),
         ("number", c_uint32),
     ]
 
@@ -110,7 +134,8 @@ def _declare(name: str, answer: Type[Structure], *parameters: Any) -> Any:
 
 
 hold = _declare("hold", Fractional, Tolerance)
-judge = _declare("judge", Verdict, *_LIST, *_LIST, *_LIST, Limits)
+measure = _declare("measure", Measured, *_LIST, *_LIST, c_size_t, c_size_t)
+judge = _declare("judge", Judged, *_LIST, *_LIST, *_LIST, Limits)
 walk = _declare("walk", Answer, *_LIST, *_LIST, Limits, *_LIST)
 gallop = _declare("gallop", Galloped, *_LIST, *_LIST, Limits, *_LIST)
 minimum = _declare("minimum", Answer, *_LIST, *_LIST, Limits, *_LIST)

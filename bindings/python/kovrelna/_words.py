@@ -1,9 +1,9 @@
-"""Why a call declined, in words, from what it was lent: `words`. Which hole a link crosses:
-`crossing`."""
+"""Why a call declined, in words, from what it was lent: `words`. Why a link is invalid: `strays`."""
 
 import itertools
 import operator
-from typing import List, Optional, Sequence, SupportsIndex
+from fractions import Fraction
+from typing import List, Optional, Sequence, SupportsIndex, Tuple
 
 from . import _tolerance
 from ._lists import ENTRY, MOST, SPARE, TICK, VALUE, Borrowed, Loan
@@ -20,10 +20,13 @@ def words(
     allowance: SupportsIndex = 0,
     place: int = 0,
     factor: Optional[SupportsIndex] = None,
+    link: Optional[Tuple[int, int]] = None,
+    measure: Optional[Tuple[Fraction, int, str]] = None,
 ) -> str:
     """The refusal with this number and value of a call that was lent these lists, of samples or
     codes at most so many, and this tolerance, gap limit or allowance; an output counts from the
-    place on. A call with a noise factor was lent two runs."""
+    place on. A call with a noise factor was lent two runs. A link is two samples that are asked for;
+    the measure is that of an invalid link, as `judge` gives it."""
     if number == 4:
         return f"the tolerance is not allowed: {_tolerance.fault(tolerance)}"
     if number == 14:
@@ -41,11 +44,10 @@ def words(
     if number == 5:
         return f"the allowance must be from 2 to 4,096, not {_tolerance.shown(allowance)}"
     if number == 6:
-        return f"no kept list: {_entry(loan, value)}"
-    if number == 7:
+        return f"no link: {_end(loan, *link)}" if link else f"no kept list: {_entry(loan, value)}"
+    if number == 7 and measure:
         i, j = loan.numbers(ENTRY)[value : value + 2]
-        hole = crossing(loan.numbers(TICK), i, j, operator.index(gap))
-        fault = hole or "is invalid at this tolerance"
+        fault = strays(loan.numbers(TICK), "this tolerance", *measure)
         return f"link {value}, from sample {i} to sample {j}, {fault}"
     if number == 11:
         return _crate(loan.lists)
@@ -82,25 +84,21 @@ def _beyond(sample: int) -> str:
     return f"sample {sample} is over 1,048,575 ticks after the first"
 
 
-def _holes(ticks: Sequence[int], i: int, j: int, gap: int) -> List[int]:
-    """The samples from i on and before j that a hole follows."""
-    return [k for k in range(i, j) if ticks[k + 1] - ticks[k] > gap]
-
-
-def crossing(ticks: Sequence[int], i: int, j: int, gap: int) -> str:
-    """The first hole that the link from sample i to sample j crosses; empty if there is none."""
-    holes = _holes(ticks, i, j, gap)
-    if not holes:
-        return ""
-    before, after = ticks[holes[0] : holes[0] + 2]
-    return f"crosses the hole from tick {before} to tick {after}"
+def strays(ticks: Sequence[int], bound: object, error: Fraction, sample: int, side: str) -> str:
+    """What makes a link invalid that has this measure, as `judge` gives it: the hole that it
+    crosses, or the sample that is farther from its line than the bound."""
+    tick = ticks[sample]
+    if side == "gap":
+        return f"crosses the hole from tick {tick} to tick {ticks[sample + 1]}"
+    where = f"sample {sample} at tick {tick} lies {error} {side} the line"
+    return f"is not within {bound}: {where}"
 
 
 def _crowded(ticks: Sequence[int], gap: int, allowance: int) -> str:
     """Why the allowance is too small: the shortest list that obeys the gap limit has both ends, and
     the two samples beside each hole."""
     last = len(ticks) - 1
-    holes = _holes(ticks, 0, last, gap)
+    holes = [k for k in range(last) if ticks[k + 1] - ticks[k] > gap]
     fewest = len({0, last, *holes, *(k + 1 for k in holes)})
     more = f"has more samples than the allowance, {allowance}: the shortest has {fewest}"
     return f"every list that obeys the gap limit, {gap}, {more}"
@@ -174,6 +172,16 @@ def _entry(loan: Loan, position: int) -> str:
     if entry > last:
         return f"entry {position} is {entry}, beyond the last sample, {last}"
     return f"entry {position} is {entry}, not above the entry before it, {entries[position - 1]}"
+
+
+def _end(loan: Loan, i: int, j: int) -> str:
+    """What keeps two samples from being those of a link."""
+    last = len(loan.numbers(TICK)) - 1
+    for name, sample in (("i", i), ("j", j)):
+        if not 0 <= sample <= last:
+            must = f"{name} must be a sample of the trace, from 0 to {last}"
+            return f"{must}, not {_tolerance.shown(sample)}"
+    return f"j must be above i, and {j} is not above {i}"
 
 
 def _room(loan: Loan, needed: int, place: int) -> str:

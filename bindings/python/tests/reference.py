@@ -1,10 +1,10 @@
-"""The slow reference: document 01 and wishes 1, 3, 4 and 6 of document 02 once more, with fractions,
-clear before fast. It knows nothing of the library that is compared with it.
+"""The slow reference: document 01 and wishes 1, 3, 4, 6 and 7 of document 02 once more, with
+fractions, clear before fast. It knows nothing of the library that is compared with it.
 
 - `Refused`: a row of the table of refusals.
 - `held`: a tolerance. Its forms are ("ratio", p, q), ("counts", x) and ("noise", noise, multiple).
-- `judge`, `walk`, `gallop`, `minimum`, `least`, `report`, `pedestals`, `expand`, `expand_with`,
-  `write`, `read`, `same`: the calls.
+- `measure`, `judge`, `walk`, `gallop`, `minimum`, `least`, `report`, `pedestals`, `expand`,
+  `expand_with`, `write`, `read`, `same`: the calls.
 - `valid`: what `judge` asks of a list.
 - `shift`, `noise`: what `pedestals` compares of a channel.
 """
@@ -58,14 +58,36 @@ def in_steps(number, most, steps):
     return 0 <= number <= most and (Fraction(number) * steps).denominator == 1
 
 
-def deviation(ticks, values, i, j, k):
+def height(ticks, values, i, j, k):
+    """How far sample k lies above the line from sample i to sample j; negative below it."""
     rise = (values[k] - values[i]) * (ticks[j] - ticks[i])
     line = (values[j] - values[i]) * (ticks[k] - ticks[i])
-    return Fraction(abs(rise - line), ticks[j] - ticks[i])
+    return Fraction(rise - line, ticks[j] - ticks[i])
 
 
 def link_error(ticks, values, i, j):
-    return max((deviation(ticks, values, i, j, k) for k in range(i + 1, j)), default=Fraction(0))
+    heights = (height(ticks, values, i, j, k) for k in range(i + 1, j))
+    return max(map(abs, heights), default=Fraction(0))
+
+
+def link_measure(ticks, values, i, j):
+    """The link's error, the first sample that lies so far from its line, and its side."""
+    error = link_error(ticks, values, i, j)
+    if error == 0:
+        return error, i, "on"
+    heights = {k: height(ticks, values, i, j, k) for k in range(i + 1, j)}
+    sample = min(k for k in heights if abs(heights[k]) == error)
+    return error, sample, "above" if heights[sample] > 0 else "below"
+
+
+def measure(ticks, values, i, j):
+    """Row 6 after 1 to 3."""
+    check_trace(ticks, values)
+    if not 0 <= i < len(ticks):
+        raise Refused(6, 0)
+    if not i < j < len(ticks):
+        raise Refused(6, 1)
+    return link_measure(ticks, values, i, j)
 
 
 def list_error(ticks, values, kept):
@@ -104,15 +126,24 @@ def check_list(kept, samples):
 
 
 def judge(ticks, values, proposed, tolerance, gap):
-    """The position of the first invalid link, or None."""
+    """The position of the first invalid link and its measure, or None."""
     check_trace(ticks, values)
     bound = held(tolerance)
     check_gap(gap)
     check_list(proposed, len(ticks))
     for position, link in enumerate(zip(proposed, proposed[1:])):
         if not valid(ticks, values, link, bound, gap):
-            return position
+            return position, strayed(ticks, values, *link, bound, gap)
     return None
+
+
+def strayed(ticks, values, i, j, bound, gap):
+    """The measure of an invalid link; if its error is within the bound, "gap" and the sample before
+    its first hole."""
+    error = link_error(ticks, values, i, j)
+    if error > bound:
+        return link_measure(ticks, values, i, j)
+    return error, min(k for k in range(i, j) if ticks[k + 1] - ticks[k] > gap), "gap"
 
 
 def check_room(room, needed):
@@ -202,12 +233,16 @@ def least(ticks, values, gap, allowance, room):
 
 
 def row(ticks, values, tolerance, gap):
-    """A channel's samples, walk's kept number, its list's error, and a refusal's number or 0."""
+    """A channel's samples, walk's kept number, its list's error, the sample of the first link with
+    that error, 0 if there is no link, and a refusal's number or 0."""
     try:
         kept = walk(ticks, values, tolerance, gap, len(ticks))
     except Refused as refused:
-        return 0, 0, Fraction(0), refused.args[0]
-    return len(ticks), len(kept), list_error(ticks, values, kept), 0
+        return 0, 0, Fraction(0), 0, refused.args[0]
+    error = list_error(ticks, values, kept)
+    measures = [link_measure(ticks, values, i, j) for i, j in zip(kept, kept[1:])]
+    worst = [sample for one, sample, _ in measures if one == error]
+    return len(ticks), len(kept), error, worst[0] if worst else 0, 0
 
 
 def channels_of(ticks, values, lengths):
@@ -226,7 +261,7 @@ def report(ticks, values, lengths, tolerance, gap, room):
     check_gap(gap)
     check_room(room, len(lengths))
     rows = [row(*channel, tolerance, gap) for channel in channels]
-    samples, kept, errors, _ = zip(*rows)
+    samples, kept, errors, _, _ = zip(*rows)
     return rows, sum(samples), sum(kept), max(errors)
 
 
@@ -294,9 +329,9 @@ def is_short(advance, change):
 
 def write(ticks, values, kept, tolerance, gap, room):
     """The record, for a buffer with so many bytes from the place on."""
-    link = judge(ticks, values, kept, tolerance, gap)
-    if link is not None:
-        raise Refused(7, link)
+    invalid = judge(ticks, values, kept, tolerance, gap)
+    if invalid is not None:
+        raise Refused(7, invalid[0])
     bound = held(tolerance)
     record = bytearray([0x54])
     record += bound.numerator.to_bytes(5, "big") + bound.denominator.to_bytes(3, "big")

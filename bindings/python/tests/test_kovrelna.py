@@ -26,7 +26,7 @@ from unittest import mock
 
 import kovrelna
 import reference
-from kovrelna import GAP_MAX, Counts, Noise, Ratio, Refusal, Run, Verdict
+from kovrelna import GAP_MAX, Counts, Measure, Noise, Ratio, Refusal, Run, Verdict
 
 try:
     import numpy
@@ -125,14 +125,15 @@ class Figures(Case):
                 answer = kovrelna.least(PARTS, flat, allowance, gap=gap)
                 self.assertEqual((list(answer.kept), answer.error), (kept, 0))
             crate = kovrelna.report(PARTS + [9], flat + [9], [6, 1], 0, gap=gap)
-            self.assertEqual(crate.rows, [(6, len(kept), 0, 0), (1, 1, 0, 0)])
+            self.assertEqual(crate.rows, [(6, len(kept), 0, 0, 0), (1, 1, 0, 0, 0)])
             self.assertEqual((crate.samples, crate.kept), (7, len(kept) + 1))
             # A record does not carry the gap limit.
             record = kovrelna.write(PARTS, flat, kept, 0, gap=gap)
             self.assertEqual(record, kovrelna.write(PARTS, flat, kept, 0))
         self.refused(16, 0, kovrelna.least, PARTS, flat, 3, gap=7)
         for proposed, link in [(ends, 0), ([0, 2, 5], 1), ([0, 1, 3, 5], 1), ([0, 2, 4, 5], 1)]:
-            self.assertEqual(kovrelna.judge(PARTS, flat, proposed, 0, gap=7), Verdict(False, link))
+            verdict = Verdict(False, link, Measure(Fraction(0), 2, "gap"))
+            self.assertEqual(kovrelna.judge(PARTS, flat, proposed, 0, gap=7), verdict)
             self.assertTrue(kovrelna.judge(PARTS, flat, proposed, 0, gap=8))
             self.refused(7, link, kovrelna.write, PARTS, flat, proposed, 0, gap=7)
         # A link of one step is valid over any hole, and whatever its values are.
@@ -187,10 +188,73 @@ class Figures(Case):
             self.assertFalse(kovrelna.judge(ticks, flat, [0, last], 0, gap=7))
             self.assertTrue(kovrelna.judge(ticks, flat, [0, last], 0, gap=8))
 
+    def test_measure(self):
+        two_thirds, low, high = Fraction(2, 3), -32768, 32767
+        far = 2**32 - 1048576
+        for ticks, values, i, j, measure in [
+            ([0, 1, 3], [0, 1, 1], 0, 2, (two_thirds, 1, "above")),
+            ([0, 1, 3], [0, -1, -1], 0, 2, (two_thirds, 1, "below")),
+            ([0, 1, 3], [0, 0, 0], 0, 2, (0, 0, "on")),
+            (range(4), [1, 0, 1, -1], 0, 3, (Fraction(4, 3), 2, "above")),
+            # Nothing lies between, or all on the line.
+            (EVEN, ZIGZAG, 0, 1, (0, 0, "on")),
+            (EVEN, ZIGZAG, 3, 4, (0, 3, "on")),
+            (EVEN, [0, 9, 10, 11, 0], 1, 3, (0, 1, "on")),
+            # Of several samples the first, on either side.
+            (EVEN, ZIGZAG, 0, 4, (3, 1, "above")),
+            (EVEN, WAVE, 0, 4, (2, 1, "above")),
+            (EVEN, [-value for value in WAVE], 0, 4, (2, 1, "below")),
+            (EVEN, [0, 1, 2, -2, 0], 0, 4, (2, 2, "above")),
+            # What lies beside the link does not count.
+            (EVEN, [99, 0, 1, 0, -99], 1, 3, (1, 2, "above")),
+            (EVEN, WAVE, 1, 4, (Fraction(8, 3), 3, "below")),
+            # The greatest error, and the least with the greatest run.
+            ([0, 1, 1048575], [high, low, high], 0, 2, (65535, 1, "below")),
+            ([far, far + 1, far + 1048575], [low, high, low], 0, 2, (65535, 1, "above")),
+            ([0, 1, 1048575], [0, 0, 1], 0, 2, (Fraction(1, 1048575), 1, "below")),
+        ]:
+            found = kovrelna.measure(ticks, values, i, j)
+            self.assertEqual(found, measure, (ticks, values, i, j))
+            self.assertEqual((found.error, found.sample, found.side), measure)
+            self.assertEqual([type(part) for part in found], [Fraction, int, str])
+
+    def test_strays(self):
+        """What the tolerance makes invalid, what only the gap limit does, and what both do."""
+        peak, trough = [0, 3, 0, 0, 0, 0], [0, 0, 0, 0, -3, 0]
+        for values, proposed, bound, gap, link, measure in [
+            (peak, [0, 5], 2, 8, 0, (3, 1, "above")),
+            (peak, [0, 5], 2, 7, 0, (3, 1, "above")),
+            (peak, [0, 5], 3, 7, 0, (3, 2, "gap")),
+            (trough, [0, 5], 2, 7, 0, (3, 4, "below")),
+            (trough, [0, 5], 3, 7, 0, (3, 2, "gap")),
+            (trough, [0, 1, 5], Ratio(29, 10), 7, 1, (3, 4, "below")),
+            (trough, [0, 1, 5], Ratio(31, 10), 7, 1, (3, 2, "gap")),
+            (trough, [0, 2, 3, 5], 2, 7, 2, (3, 4, "below")),
+            # The first invalid link comes before a worse one.
+            ([0, 3, 0, 0, 9, 0], [0, 2, 3, 5], 2, 7, 0, (3, 1, "above")),
+        ]:
+            found = kovrelna.judge(PARTS, values, proposed, bound, gap=gap)
+            self.assertEqual(found, Verdict(False, link, Measure(*measure)))
+            self.assertIs(type(found.measure), Measure)
+            self.assertFalse(found)
+        # Of several holes the first.
+        ticks, flat = [0, 9, 18, 19, 20, 30, 31], [0] * 7
+        for proposed, gap, link, sample in [
+            ([0, 6], 8, 0, 0),
+            ([0, 1, 3, 6], 8, 1, 1),
+            ([0, 1, 2, 6], 8, 2, 4),
+            ([0, 1, 2, 4, 6], 8, 3, 4),
+            # Neighbours exactly the gap limit apart are no hole.
+            ([0, 6], 9, 0, 4),
+        ]:
+            found = kovrelna.judge(ticks, flat, proposed, 0, gap=gap)
+            self.assertEqual((found.link, found.measure), (link, (0, sample, "gap")))
+
     def test_two_thirds(self):
         trace = [0, 1, 3], [0, 1, 1], [0, 2]
+        strays = Verdict(False, 0, Measure(Fraction(2, 3), 1, "above"))
         self.assertEqual(kovrelna.judge(*trace, Ratio(4, 6)), Verdict(True, None))
-        self.assertEqual(kovrelna.judge(*trace, Ratio(665, 1000)), Verdict(False, 0))
+        self.assertEqual(kovrelna.judge(*trace, Ratio(665, 1000)), strays)
         self.assertTrue(kovrelna.judge(*trace, Ratio(4, 6)))
         self.assertFalse(kovrelna.judge(*trace, Ratio(665, 1000)))
         self.assertEqual(kovrelna.write(*trace, Ratio(4, 6)), RECORD)
@@ -200,7 +264,7 @@ class Figures(Case):
 
     def test_report(self):
         crate = [0, 1, 2, 3, 4, 5, 5, 7], WAVE + [1, 1, 9], [5, 0, 2, 1]
-        rows = [(5, 3, 2, 0), (0, 0, 0, 1), (0, 0, 0, 2), (1, 1, 0, 0)]
+        rows = [(5, 3, 2, 1, 0), (0, 0, 0, 0, 1), (0, 0, 0, 0, 2), (1, 1, 0, 0, 0)]
         for form in (2, Ratio(4, 2), Counts(2), Noise(0.5, 4)):
             answer = kovrelna.report(*crate, form)
             self.assertEqual(answer, (rows, 6, 4, 2))
@@ -210,7 +274,22 @@ class Figures(Case):
         self.assertEqual(two_thirds.rows[0].error, Fraction(2, 3))
         self.assertEqual((two_thirds.samples, two_thirds.kept), (3, 2))
         # Every channel is refused.
-        self.assertEqual(kovrelna.report([], [], [0], 1), ([(0, 0, 0, 1)], 0, 0, 0))
+        self.assertEqual(kovrelna.report([], [], [0], 1), ([(0, 0, 0, 0, 1)], 0, 0, 0))
+
+    def test_the_worst_sample(self):
+        """Of walk's links 0 to 2, 2 to 3 and 3 to 5: numbered in the channel's own trace."""
+        for values, error, sample in [
+            ([0, 0, 0, 0, 0, 0], 0, 0),
+            ([0, 1, 0, 0, 2, 0], 2, 4),
+            ([0, 2, 0, 0, 1, 0], 2, 1),
+            ([0, -2, 0, 0, 2, 0], 2, 1),
+            ([0, 1, 1, 0, -1, 0], 1, 4),
+            ([9, 9, 9, -9, -9, -9], 0, 0),
+        ]:
+            crate = [7] + 2 * PARTS + [5, 99], [7] + 2 * values + [0, 9], [1, 6, 6, 2]
+            row = 6, 4, error, sample, 0
+            expected = [(1, 1, 0, 0, 0), row, row, (2, 2, 0, 0, 0)]
+            self.assertEqual(kovrelna.report(*crate, 2, gap=7), (expected, 15, 11, error))
 
     def test_pedestals(self):
         half = Ratio(1, 2)
@@ -387,9 +466,11 @@ class Refusals(Case):
                 self.refused(*row, kovrelna.least, ticks, values, allowance, out, gap=gap)
             if len(ticks) == len(values) and tolerance == 0:
                 crate = kovrelna.report(ticks, values, [len(ticks)], tolerance)
-                self.assertEqual(crate, ([(0, 0, 0, number)], 0, 0, 0))
+                self.assertEqual(crate, ([(0, 0, 0, 0, number)], 0, 0, 0))
                 for runs in itertools.permutations([ticks_run(EVEN, ticks), ticks_run(EVEN, EVEN)]):
                     self.refused(number, 1, kovrelna.pedestals, *runs, tolerance, 1)
+            for i, j in [(0, 1), (4, 0), (-1, 2**64)]:
+                self.refused(*row, kovrelna.measure, ticks, values, i, j)
             for kept in ([0, 4], [], [1]):
                 self.refused(*row, kovrelna.judge, ticks, values, kept, tolerance, gap=gap)
                 self.refused(*row, kovrelna.write, ticks, values, kept, tolerance, gap=gap)
@@ -481,7 +562,7 @@ class Refusals(Case):
         self.refused(11, 0, kovrelna.report, EVEN, [0] * 4, [4], 0)
         self.refused(11, 0, kovrelna.report, [], [], [0] * 65, 0)
         self.refused(11, 0, kovrelna.report, [], [], [2**58] * 64, 0)
-        self.assertEqual(kovrelna.report([], [], [0] * 64, 0).rows, [(0, 0, 0, 1)] * 64)
+        self.assertEqual(kovrelna.report([], [], [0] * 64, 0).rows, [(0, 0, 0, 0, 1)] * 64)
         for channels in (0, 65):
             run = ticks_run(*channels * [[0]])
             self.refused(11, 0, kovrelna.pedestals, run, run, 0, 1)
@@ -554,6 +635,27 @@ class Refusals(Case):
             self.refused(6, position, kovrelna.judge, EVEN, ZIGZAG, kept, 0)
             self.refused(6, position, kovrelna.write, EVEN, ZIGZAG, kept, 0)
             self.refused(6, position, kovrelna.write, EVEN, ZIGZAG, kept, 0, bytearray(0))
+
+    def test_samples(self):
+        beyond = [5, 6, 4096, 2**16, 2**32, 2**32 + 1, 2**63, 2**64 - 1, 2**64, 2**64 + 1]
+        beyond += [-1, -4, -5, 1 - 2**32, 1 - 2**64, -(2**64)]
+        for i in [*EVEN, *beyond]:
+            for j in [*EVEN, *beyond]:
+                if i in beyond:
+                    self.refused(6, 0, kovrelna.measure, EVEN, ZIGZAG, i, j)
+                elif j in beyond or j <= i:
+                    self.refused(6, 1, kovrelna.measure, EVEN, ZIGZAG, i, j)
+                else:
+                    found = kovrelna.measure(EVEN, ZIGZAG, i, j)
+                    self.assertEqual(found, reference.measure(EVEN, ZIGZAG, i, j))
+        # One sample has no link.
+        for i, j, value in [(0, 0, 1), (0, 1, 1), (0, -1, 1), (1, 0, 0), (1, 2, 0), (-1, 0, 0)]:
+            self.refused(6, value, kovrelna.measure, [7], [7], i, j)
+        self.assertEqual(kovrelna.measure(EVEN, ZIGZAG, False, True), (0, 0, "on"))
+        for end in (1.0, "1", None, Fraction(1), [1]):
+            for ends in [(0, end), (end, 4), (9, end), (end, 9)]:
+                with self.assertRaises(TypeError):
+                    kovrelna.measure(EVEN, ZIGZAG, *ends)
 
     def test_links(self):
         self.refused(7, 0, kovrelna.write, EVEN, ZIGZAG, [0, 4], 2)
@@ -782,8 +884,14 @@ class Words(Case):
         ]:
             words = f"{link}, crosses the hole {hole}"
             self.says(7, words, kovrelna.write, parts, [0] * 7, kept, 0, gap=8)
-        words = "link 0, from sample 0 to sample 2, is invalid at this tolerance"
-        self.says(7, words, kovrelna.write, parts, [0, 9, 0, 0, 0, 0, 0], [0, 2, 6], 0, gap=9)
+        # The tolerance alone, and both.
+        link, place = "link 0, from sample 0 to sample 2", "sample 1 at tick 9"
+        words = f"{link}, is not within this tolerance: {place} lies 9 above the line"
+        for gap in (9, 8):
+            given = parts, [0, 9, 0, 0, 0, 0, 0], [0, 2, 6], Ratio(17, 2)
+            self.says(7, words, kovrelna.write, *given, gap=gap)
+        words = f"{link}, crosses the hole from tick 0 to tick 9"
+        self.says(7, words, kovrelna.write, parts, [0, 9, 0, 0, 0, 0, 0], [0, 2, 6], 9, gap=8)
 
     def test_long_numbers(self):
         for words, call, arguments in [
@@ -791,6 +899,8 @@ class Words(Case):
             ("the tolerance is not allowed", kovrelna.hold, (Counts(10**5000),)),
             ("the allowance must be from 2", kovrelna.least, (EVEN, self.flat, 10**5000)),
             ("the noise factor must be", kovrelna.pedestals, (TODAY, BEFORE, 1, 10**5000)),
+            ("i must be a sample of", kovrelna.measure, (EVEN, self.flat, -(10**5000), 1)),
+            ("j must be a sample of", kovrelna.measure, (EVEN, self.flat, 0, 10**5000)),
         ]:
             with self.assertRaisesRegex(Refusal, words):
                 call(*arguments)
@@ -810,8 +920,33 @@ class Words(Case):
         ]:
             for call in (kovrelna.judge, kovrelna.write):
                 self.says(6, f"no kept list: {words}", call, EVEN, self.flat, kept, 1)
-        words = "link 2, from sample 2 to sample 4, is invalid at this tolerance"
+        link, place = "link 2, from sample 2 to sample 4", "sample 3 at tick 3"
+        words = f"{link}, is not within this tolerance: {place} lies 3 above the line"
         self.says(7, words, kovrelna.write, EVEN, ZIGZAG, [0, 1, 2, 4], 2)
+        link, place = "link 0, from sample 0 to sample 3", "sample 2 at tick 2"
+        words = f"{link}, is not within this tolerance: {place} lies 8/3 below the line"
+        self.says(7, words, kovrelna.write, range(4), [2, 2, -2, 0], [0, 3], 2)
+
+    def test_samples(self):
+        must = "must be a sample of the trace, from 0 to 4, not"
+        for i, j, words in [
+            (5, 9, f"i {must} 5"),
+            (-1, 4, f"i {must} -1"),
+            (2**64, 4, f"i {must} {2**64}"),
+            (0, 5, f"j {must} 5"),
+            (4, 2**64 + 1, f"j {must} {2**64 + 1}"),
+            (3, -1, f"j {must} -1"),
+            (3, 2, "j must be above i, and 2 is not above 3"),
+            (4, 4, "j must be above i, and 4 is not above 4"),
+        ]:
+            self.says(6, f"no link: {words}", kovrelna.measure, EVEN, self.flat, i, j)
+        words = "no link: j must be a sample of the trace, from 0 to 0, not 1"
+        self.says(6, words, kovrelna.measure, [7], [7], 0, 1)
+        self.says(1, "no samples", kovrelna.measure, [], [], 0, 1)
+        words = "not as many values as ticks: 5 ticks and 4 values"
+        self.says(1, words, kovrelna.measure, EVEN, [0] * 4, 0, 4)
+        words = "too many samples: at most 4,096 are allowed"
+        self.says(1, words, kovrelna.measure, range(10**30), [], 0, 4)
 
     def test_records(self):
         self.says(8, "the record is faulty at byte 16", kovrelna.read, RECORD[:18])
@@ -850,7 +985,12 @@ class Longest(Case):
         self.assertEqual(len(kovrelna.expand(bytes(4096))), 4096)
         self.assertEqual(list(kovrelna.expand_with(bytes(4096), TABLE)), TABLE[:1] * 4096)
         crate = kovrelna.report(64 * ticks, 64 * values, [4096] * 64, 0)
-        self.assertEqual(crate, ([(4096, 4096, 0, 0)] * 64, 64 * 4096, 64 * 4096, 0))
+        self.assertEqual(crate, ([(4096, 4096, 0, 0, 0)] * 64, 64 * 4096, 64 * 4096, 0))
+        # As far above the line at the second sample as below it at the last but one.
+        error = Fraction(10000 * 4094, 4095)
+        self.assertEqual(kovrelna.measure(ticks, values, 0, 4095), (error, 1, "above"))
+        strays = kovrelna.judge(ticks, values, [0, 4095], 9997).measure
+        self.assertEqual(strays, (error, 1, "above"))
         flat, every = array.array("h", [0] * 4096), list(range(64))
         runs = [(64 * ticks, 64 * part, [4096] * 64) for part in (values, flat)]
         self.assertEqual(kovrelna.pedestals(*runs, 4999, 16), (every, every))
@@ -860,7 +1000,7 @@ class Longest(Case):
             self.assertEqual(kept_by(call, ticks, flat, 0, gap=256), [0, 4095])
         # Plain lists: a channel may be longer than a trace.
         crate = kovrelna.report(range(10**5), [0] * 10**5, [10**5 - 4096, 4096], 0)
-        self.assertEqual(crate, ([(0, 0, 0, 1), (4096, 2, 0, 0)], 4096, 2, 0))
+        self.assertEqual(crate, ([(0, 0, 0, 0, 1), (4096, 2, 0, 0, 0)], 4096, 2, 0))
 
 
 class Buffers(Case):
@@ -891,6 +1031,7 @@ class Buffers(Case):
         trace = [self.ticks, self.values]
         calls = [(call.__name__, call, trace + [1], [out]) for call in REDUCTIONS] + [
             ("least", kovrelna.least, trace + [2], [out]),
+            ("measure", kovrelna.measure, trace + [0, 2], []),
             ("judge", kovrelna.judge, trace + [self.kept, 1], []),
             ("write", kovrelna.write, trace + [self.kept, 1], [buffer]),
             ("read", kovrelna.read, [record], [ticks, values]),
@@ -929,7 +1070,7 @@ class Buffers(Case):
 
     def test_crates(self):
         ticks, values = array.array("I", [0, 1, 3, 5]), array.array("h", [0, 1, 1, 9])
-        expected = [(3, 2, Fraction(2, 3), 0), (1, 1, 0, 0)]
+        expected = [(3, 2, Fraction(2, 3), 1, 0), (1, 1, 0, 0, 0)]
         lengths = [array.array(code, [3, 1]) for code in "bBhHiIlLqQ"]
         lengths += [[3, 1], (3, 1), range(3, 0, -2), b"\3\1", iter([3, 1]), memoryview(lengths[3])]
         for given in lengths:
@@ -1014,6 +1155,10 @@ class Buffers(Case):
         kovrelna.walk(ticks, values, 1, out)
         with self.assertRaises(Refusal):
             kovrelna.walk(ticks, values, Ratio(0, 0), out)
+        with self.assertRaises(Refusal):
+            kovrelna.measure(ticks, values, 2, 1)
+        with self.assertRaises(Refusal):
+            kovrelna.write(ticks, values, self.kept, 0)
         with self.assertRaises(TypeError):
             kovrelna.walk(ticks, values, 1, out.tobytes())
         for lent in (ticks, values, out):
@@ -1286,7 +1431,7 @@ class Numpy(NumpyArrays, Case):
     def test_crates(self):
         ticks = numpy.array([0, 1, 3, 5], numpy.uint32)
         values = numpy.array([0, 1, 1, 9], numpy.int16)
-        expected = [(3, 2, Fraction(2, 3), 0), (1, 1, 0, 0)]
+        expected = [(3, 2, Fraction(2, 3), 1, 0), (1, 1, 0, 0, 0)]
         for kind in ("i1", "u1", "i2", "u2", "i4", "u4", "i8", "u8", ">i8", ">u2"):
             for lengths in (numpy.array([3, 1], kind), numpy.array([3, 9, 1], kind)[::2]):
                 crate = kovrelna.report(ticks, values, lengths, 1)
@@ -1365,6 +1510,11 @@ class Numpy(NumpyArrays, Case):
         for gap, kept in [(numpy.int32(7), [0, 2, 3, 5]), (numpy.uint64(8), [0, 5])]:
             self.assertEqual(list(kovrelna.walk(PARTS, [0] * 6, 0, gap=gap)), kept)
         self.refused(15, 0, kovrelna.walk, PARTS, [0] * 6, 0, gap=numpy.int64(-1))
+        ticks, values = numpy.arange(5, dtype=numpy.uint32), numpy.array(WAVE, numpy.int16)
+        found = kovrelna.measure(ticks, values, numpy.int64(1), numpy.uint16(4))
+        self.assertEqual(found, (Fraction(8, 3), 3, "below"))
+        self.assertEqual([type(part) for part in found], [Fraction, int, str])
+        self.refused(6, 0, kovrelna.measure, ticks, values, numpy.int64(-1), 4)
 
 
 def answer(call, *arguments, **limits):
@@ -1458,11 +1608,65 @@ class Reference(Case):
             expected = answer(reference.judge, ticks, values, kept, form, gap)
             found = answer(kovrelna.judge, ticks, values, kept, tolerance, gap=gap)
             if isinstance(found, Verdict):
-                self.assertEqual(found.passed, found.link is None)
-                found = found.link
+                found = self.invalid(found)
             self.assertEqual(found, expected, (kept, *given))
         self.assertEqual(seen, {0, 1, 2, 3, 4, 5, 10, 15, 16})
         self.assertEqual(holes, {"at", "above", "first", "last", "in a row"})
+
+    def invalid(self, verdict):
+        """The position of the first invalid link and its measure, or None."""
+        self.assertEqual(verdict.passed, verdict.link is None)
+        self.assertEqual(verdict.passed, verdict.measure is None)
+        return None if verdict.passed else (verdict.link, verdict.measure)
+
+    def test_strays(self):
+        """At the error of one of the links, or a little below or above it."""
+        seen = set()
+        for _ in range(600):
+            samples = self.random.randint(2, 9)
+            steps = self.random.choices([1, 1, 2, 3], k=samples - 1)
+            ticks = list(itertools.accumulate(steps, initial=7))
+            values = self.random.choices(range(-3, 4), k=samples)
+            kept = [0, *(k for k in range(1, samples - 1) if self.random.random() < 0.3)]
+            kept.append(samples - 1)
+            gap = self.random.choice([1, 2, GAP_MAX])
+            error = reference.link_error(ticks, values, *self.random.choice([*zip(kept, kept[1:])]))
+            bound = max(error + self.random.choice([-1, 0, 1]) * Fraction(1, 1000), Fraction(0))
+            form = "ratio", bound.numerator, bound.denominator
+            expected = reference.judge(ticks, values, kept, form, gap)
+            found = self.invalid(kovrelna.judge(ticks, values, kept, bound, gap=gap))
+            self.assertEqual(found, expected, (ticks, values, kept, bound, gap))
+            if expected is not None:
+                link, (error, _, side) = expected
+                obeys = reference.obeys(ticks, kept[link : link + 2], gap)
+                seen.add((side, obeys, error == 0, error == bound))
+        # The tolerance alone, both, and the gap limit alone, also with the tolerance met exactly.
+        either = [False, True]
+        strayed = {(side, obeys, False, False) for side in ("above", "below") for obeys in either}
+        across = {("gap", False, zero, met) for zero in either for met in either}
+        self.assertEqual(seen, strayed | across)
+
+    def test_measures(self):
+        seen, ties = set(), set()
+        for _ in range(1500):
+            ticks, values = self.trace()
+            i, j = self.random.choices([-1, *range(len(ticks) + 1), 2**64], k=2)
+            if self.random.randrange(2):
+                i, j = 0, len(ticks) - 1
+            expected = answer(reference.measure, ticks, values, i, j)
+            found = answer(kovrelna.measure, ticks, values, i, j)
+            self.assertEqual(found, expected, (ticks, values, i, j))
+            if expected[0] == "refused":
+                number, value = expected[1]
+                seen.add((number, value) if number == 6 else number)
+                continue
+            error, sample, side = expected
+            seen.add(side)
+            heights = [reference.height(ticks, values, i, j, k) for k in range(sample + 1, j)]
+            ties.update((side, height > 0) for height in heights if 0 < error == abs(height))
+        self.assertEqual(seen, {1, 2, 3, (6, 0), (6, 1), "on", "above", "below"})
+        # A later sample lies as far from the line, on the same side and on the other.
+        self.assertEqual(ties, set(itertools.product(["above", "below"], [False, True])))
 
     def holes(self, ticks, gap):
         """What the trace has: neighbours that lie exactly the gap limit apart, or one tick more; a
@@ -1501,8 +1705,12 @@ class Reference(Case):
             self.assertTrue(reference.valid(ticks, values, shortest, bound, gap), given)
             self.assertLessEqual(len(shortest), min(len(walked), len(galloped.kept)))
             for kept in (walked, shortest, [0, samples - 1]):
-                link = reference.judge(ticks, values, kept, form, gap)
-                self.assertEqual(kovrelna.judge(ticks, values, kept, tolerance, gap=gap).link, link)
+                invalid = reference.judge(ticks, values, kept, form, gap)
+                found = kovrelna.judge(ticks, values, kept, tolerance, gap=gap)
+                self.assertEqual(self.invalid(found), invalid, given)
+            i, j = sorted(self.random.sample(range(samples), 2))
+            found = kovrelna.measure(ticks, values, i, j)
+            self.assertEqual(found, reference.measure(ticks, values, i, j), given)
             counts.add(sum(b - a > gap for a, b in zip(ticks, ticks[1:])))
         self.assertTrue({0, 1, 2} & counts and max(counts) > 50, counts)
 
@@ -1523,7 +1731,7 @@ class Reference(Case):
         return ticks, values, [max(length, 0) for length in lengths]
 
     def test_crates(self):
-        seen, rows = set(), set()
+        seen, rows, samples = set(), set(), set()
         for _ in range(600):
             (ticks, values, lengths), (form, tolerance) = self.crate(), self.tolerance()
             gap = self.gap(ticks[:8])
@@ -1532,8 +1740,10 @@ class Reference(Case):
             self.assertEqual(found, expected, (ticks, values, lengths, form, gap))
             refused = expected[0] == "refused"
             seen.add(expected[1][0] if refused else 0)
-            rows.update([] if refused else [row[3] for row in expected[0]])
+            rows.update([] if refused else [row[4] for row in expected[0]])
+            samples.update([] if refused else [row[3] for row in expected[0]])
         self.assertEqual((seen, rows), ({0, 4, 11, 15}, {0, 1, 2, 3}))
+        self.assertEqual(samples, set(range(7)))
 
     def run_of(self, lengths):
         """A run of channels with so many samples, sometimes one with faults."""
@@ -1694,6 +1904,7 @@ class Checks(Case):
             (EVEN, [0, 3, 0, 2, 0], "at tick 3, has value 3, and the trace has 2"),
             ([0, 1, 2, 3, 4, 5], ZIGZAG + [0], "the last sample of the trace, at tick 5, is not"),
             (EVEN, [0, 3, -1, 3, 0], "link 0, from sample 0 at tick 0 to sample 3 at tick 3, is"),
+            (EVEN, [0, 3, -1, 3, 0], "is not within 2: sample 2 at tick 2 lies 3 below the line"),
         ):
             checked = kovrelna.check(record, ticks, values)
             self.assertFalse(checked)
@@ -1703,8 +1914,10 @@ class Checks(Case):
         checked = kovrelna.check(parts, PARTS, [0] * 6, gap=7)
         self.assertEqual(checked.cause, f"{link}, crosses the hole from tick 2 to tick 10")
         self.assertTrue(kovrelna.check(parts, PARTS, [0] * 6, gap=8))
-        checked = kovrelna.check(parts, PARTS, [0, 0, 0, 0, 1, 0], gap=8)
-        self.assertEqual(checked.cause, f"{link}, is not within 0")
+        cause = f"{link}, is not within 0: sample 4 at tick 11 lies 1 above the line"
+        for gap in (8, 7):
+            checked = kovrelna.check(parts, PARTS, [0, 0, 0, 0, 1, 0], gap=gap)
+            self.assertEqual(checked.cause, cause)
         later = kovrelna.write([1, 2], [3, 0], [0, 1], 2)
         cause = "the first sample of the trace, at tick 0, is not kept"
         self.assertEqual(kovrelna.check(later, [0, 1, 2], [0, 3, 0]).cause, cause)

@@ -23,11 +23,14 @@ kovrelna.walk(array.array("I", ticks), memoryview(b""), Fraction(1, 10), array.a
 kovrelna.gallop(Array(), Array(), Counts(2.5), Array()).kept.tolist()
 kovrelna.minimum(range(3), b"", Noise(1.5, 2.125))
 kovrelna.minimum(ticks, values, 1, array.array("H"), gap=kovrelna.GAP_MAX).tolist()
+kovrelna.measure(ticks, values, 0, 2).error.denominator
+kovrelna.measure(Array(), Array(), False, True).side.upper()
 kovrelna.judge(ticks, values, kept, Ratio(1, 10)).link
 kovrelna.judge(ticks, values, kept, 1, gap=7).link
 kovrelna.least(ticks, values, 2).error.denominator
 kovrelna.least(ticks, values, 2, gap=True).kept.tolist()
 kovrelna.report(ticks, values, kept, 1).rows[0].error.denominator
+kovrelna.report(ticks, values, kept, 1).rows[0].sample.bit_length()
 kovrelna.report(Array(), Array(), Array(), 1).kept.bit_length()
 kovrelna.report(ticks, values, (n for n in ticks), 1, gap=7).error.denominator
 run = kovrelna.Run(ticks, values, kept)
@@ -58,7 +61,11 @@ kovrelna.walk(ticks, values, 1, [0, 0, 0])  # type: ignore[arg-type]
 kovrelna.walk(ticks, values, 1, gap=7.0)  # type: ignore[arg-type]
 kovrelna.gallop(ticks, values, 1, gap="7")  # type: ignore[arg-type]
 kovrelna.gallop(ticks, values, 1).samples  # type: ignore[attr-defined]
+kovrelna.measure(ticks, values, 0)  # type: ignore[call-arg]
+kovrelna.measure(ticks, values, 0, 2.0)  # type: ignore[arg-type]
+kovrelna.measure(ticks, values, 0, 2, gap=7)  # type: ignore[call-arg]
 kovrelna.judge(ticks, values, None, 1)  # type: ignore[arg-type]
+kovrelna.judge(ticks, values, kept, 1).measure.side  # type: ignore[union-attr]
 kovrelna.least(ticks, values, 2.0)  # type: ignore[arg-type]
 kovrelna.least(ticks, values, 2, gap=None)  # type: ignore[arg-type]
 kovrelna.report(ticks, values, "31", 1)  # type: ignore[arg-type]

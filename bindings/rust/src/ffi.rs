@@ -32,10 +32,24 @@ pub struct Held {
 }
 
 #[repr(C)]
-pub struct Verdict {
+pub struct Measured {
+    pub number: u32,
+    pub side: u32,
+    pub value: u64,
+    pub p: u64,
+    pub q: u64,
+    pub sample: u64,
+}
+
+#[repr(C)]
+pub struct Judged {
     pub number: u32,
     pub passed: u32,
     pub value: u64,
+    pub p: u64,
+    pub q: u64,
+    pub sample: u64,
+    pub side: u32,
 }
 
 #[repr(C)]
@@ -62,6 +76,13 @@ pub struct Content {
 }
 
 #[repr(C)]
+pub struct Verdict {
+    pub number: u32,
+    pub passed: u32,
+    pub value: u64,
+}
+
+#[repr(C)]
 pub struct Report {
     pub number: u32,
     pub value: u64,
@@ -81,6 +102,14 @@ pub struct Compared {
 
 extern "C" {
     fn kovrelna_hold(tolerance: Tolerance) -> Held;
+    fn kovrelna_measure(
+        ticks: *const u32,
+        ticks_len: usize,
+        values: *const i16,
+        values_len: usize,
+        i: usize,
+        j: usize,
+    ) -> Measured;
     fn kovrelna_judge(
         ticks: *const u32,
         ticks_len: usize,
@@ -89,7 +118,7 @@ extern "C" {
         list: *const u16,
         list_len: usize,
         limits: Limits,
-    ) -> Verdict;
+    ) -> Judged;
     fn kovrelna_walk(
         ticks: *const u32,
         ticks_len: usize,
@@ -205,7 +234,21 @@ pub fn hold(tolerance: Tolerance) -> Held {
     unsafe { kovrelna_hold(tolerance) }
 }
 
-pub fn judge(ticks: &[u32], values: &[i16], list: &[u16], limits: Limits) -> Verdict {
+pub fn measure(ticks: &[u32], values: &[i16], i: usize, j: usize) -> Measured {
+    // SAFETY: as above; there is no output.
+    unsafe {
+        kovrelna_measure(
+            ticks.as_ptr(),
+            ticks.len(),
+            values.as_ptr(),
+            values.len(),
+            i,
+            j,
+        )
+    }
+}
+
+pub fn judge(ticks: &[u32], values: &[i16], list: &[u16], limits: Limits) -> Judged {
     // SAFETY: as above; there is no output.
     unsafe {
         kovrelna_judge(

@@ -2,6 +2,7 @@
 //!
 //! - [`Tolerance`], [`Ratio`], [`hold`]: a tolerance, and the reduced ratio it is held as.
 //! - [`Limits`], [`GAP_MAX`]: a tolerance with a gap limit, which is what a link is asked to meet.
+//! - [`Side`], [`Measure`], [`measure`]: a link's error, the sample where it occurs, and its side.
 //! - [`Verdict`], [`judge`]: whether every link of a proposed list is valid.
 //! - [`walk`], [`Galloped`], [`gallop`], [`minimum`]: kept lists with every link valid.
 //! - [`Least`], [`least`]: the least error that a list of so many samples can have.
@@ -71,7 +72,8 @@ pub enum Refusal {
     Holes,
     /// 6: the proposed list is no kept list. The position of the first bad entry (a first one that
     /// is not 0, one that is not above the entry before it, one beyond the trace); the list's length
-    /// if it only stops short; 0 if it is empty.
+    /// if it only stops short; 0 if it is empty. In [`measure`] the two samples are no link of the
+    /// trace: 0 if `i` is beyond it; 1 if `j` is beyond it or not above `i`.
     List(usize),
     /// 7: the position of the first invalid link of the list to be written.
     Link(usize),
@@ -209,7 +211,8 @@ impl fmt::Display for Refusal {
             Refusal::List(position) => {
                 write!(
                     f,
-                    "no kept list: entry {position} is bad, or the list stops short there"
+                    "no kept list: entry {position} is bad, or the list stops short there; or two \
+                     samples that are no link of the trace"
                 )
             }
             Refusal::Link(position) => write!(f, "link {position} is invalid"),
@@ -368,6 +371,110 @@ impl ffi::Limits {
     }
 }
 
+/// Where a sample lies beside a link.
+///
+/// ```
+/// use kovrelna::Side;
+///
+/// let sides = [Side::On, Side::Above, Side::Below, Side::Gap];
+/// assert_eq!(sides.map(|side| side.to_string()), ["on", "above", "below", "gap"]);
+/// ```
+#[derive(Clone, Copy, Debug, PartialEq, Eq, Hash)]
+pub enum Side {
+    /// On the line.
+    On,
+    /// Its value is above the line.
+    Above,
+    /// Its value is below the line.
+    Below,
+    /// The sample lies before a hole, and only the gap limit makes the link invalid. Said by [`judge`]
+    /// alone.
+    Gap,
+}
+
+impl Side {
+    /// The side with this number in C.
+    fn of(number: u32) -> Side {
+        match number {
+            0 => Side::On,
+            1 => Side::Above,
+            2 => Side::Below,
+            3 => Side::Gap,
+            _ => unreachable!("there is no side {number}"),
+        }
+    }
+}
+
+impl fmt::Display for Side {
+    fn fmt(&self, f: &mut fmt::Formatter) -> fmt::Result {
+        f.pad(match self {
+            Side::On => "on",
+            Side::Above => "above",
+            Side::Below => "below",
+            Side::Gap => "gap",
+        })
+    }
+}
+
+/// A link's error and a sample of it: what [`measure`] returns, and what [`judge`] says of an invalid
+/// link.
+#[derive(Clone, Copy, Debug, PartialEq, Eq, Hash)]
+pub struct Measure {
+    /// The link's error, in lowest terms.
+    pub error: Ratio,
+    /// The first sample whose deviation is the error; the link's first sample for [`Side::On`], the
+    /// one before the link's first hole for [`Side::Gap`].
+    pub sample: usize,
+    /// Where this sample lies.
+    pub side: Side,
+}
+
+impl Measure {
+    /// The measure of these numbers in C.
+    fn of(p: u64, q: u64, sample: u64, side: u32) -> Measure {
+        Measure {
+            error: Ratio { p, q },
+            sample: sample as usize,
+            side: Side::of(side),
+        }
+    }
+}
+
+/// The measure of the link from sample `i` to sample `j`: its error, the first sample between them
+/// whose deviation is that error, and whether this sample lies above or below the line. An error of 0
+/// gives the sample `i` and [`Side::On`]. Refusals: [`Refusal::Length`], [`Refusal::Tick`],
+/// [`Refusal::Span`], [`Refusal::List`].
+///
+/// ```
+/// use kovrelna::{measure, Measure, Ratio, Refusal, Side};
+///
+/// let error = Ratio { p: 2, q: 3 };
+/// let above = Measure { error, sample: 1, side: Side::Above };
+/// assert_eq!(measure(&[0, 1, 3], &[0, 1, 1], 0, 2), Ok(above));
+/// let on = Measure { error: Ratio { p: 0, q: 1 }, sample: 0, side: Side::On };
+/// assert_eq!(measure(&[0, 1, 3], &[0, 0, 0], 0, 2), Ok(on));
+///
+/// // Samples 1 and 3 are equally far from the line: the first is given.
+/// let (ticks, values) = ([0, 1, 2, 3, 4], [0, 2, 0, -2, 0]);
+/// let error = Ratio { p: 2, q: 1 };
+/// let above = Measure { error, sample: 1, side: Side::Above };
+/// assert_eq!(measure(&ticks, &values, 0, 4), Ok(above));
+/// let below = Measure { error, sample: 3, side: Side::Below };
+/// assert_eq!(measure(&ticks, &values, 2, 4), Ok(below));
+///
+/// assert_eq!(measure(&ticks, &values, 5, 6), Err(Refusal::List(0)));
+/// assert_eq!(measure(&ticks, &values, 4, 5), Err(Refusal::List(1)));
+/// assert_eq!(measure(&ticks, &values, 2, 2), Err(Refusal::List(1)));
+/// ```
+pub fn measure(ticks: &[u32], values: &[i16], i: usize, j: usize) -> Result<Measure, Refusal> {
+    let measured = ffi::measure(ticks, values, i, j);
+    Refusal::check(measured.number, measured.value)?;
+    let ffi::Measured {
+        p, q, sample, side, ..
+    } = measured;
+    Ok(Measure::of(p, q, sample, side))
+}
+
 /// What [`judge`] says of a kept list.
 #[derive(Clone, Copy, Debug, PartialEq, Eq, Hash)]
 pub enum Verdict {
@@ -377,25 +484,36 @@ pub enum Verdict {
     Outside {
         /// The position of the first invalid link, counted from 0.
         link: usize,
+        /// Where this link strays.
+        measure: Measure,
     },
 }
 
-/// Whether every link of the proposed list is valid on this trace. Refusals: [`Refusal::Length`],
-/// [`Refusal::Tick`], [`Refusal::Span`], [`Refusal::Tolerance`], [`Refusal::Gap`], [`Refusal::List`].
+/// Whether every link of the proposed list is valid on this trace. If not, of the first invalid link:
+/// where its error is above the tolerance, its measure, as [`measure`] gives it; otherwise only the gap
+/// limit makes it invalid, and its error, which may be 0, is given with the sample before its first
+/// hole and [`Side::Gap`].
+///
+/// Refusals: [`Refusal::Length`], [`Refusal::Tick`], [`Refusal::Span`], [`Refusal::Tolerance`],
+/// [`Refusal::Gap`], [`Refusal::List`].
 ///
 /// ```
-/// use kovrelna::{judge, Tolerance, Verdict};
+/// use kovrelna::{judge, Measure, Ratio, Side, Tolerance, Verdict};
 ///
 /// let (ticks, values) = ([0, 1, 2, 3, 4], [0, 3, 0, 3, 0]);
 /// let two = Tolerance::Counts(2.0);
 /// assert_eq!(judge(&ticks, &values, &[0, 3, 4], two), Ok(Verdict::Within));
-/// assert_eq!(judge(&ticks, &values, &[0, 1, 2, 4], two), Ok(Verdict::Outside { link: 2 }));
+/// let measure = Measure { error: Ratio { p: 3, q: 1 }, sample: 3, side: Side::Above };
+/// let outside = Verdict::Outside { link: 2, measure };
+/// assert_eq!(judge(&ticks, &values, &[0, 1, 2, 4], two), Ok(outside));
 ///
 /// // Samples 2 and 3 lie 8 ticks apart.
 /// let (ticks, values) = ([0, 1, 2, 10, 11, 12], [0; 6]);
 /// let list = [0, 2, 5];
 /// assert_eq!(judge(&ticks, &values, &list, two.with_gap(8)), Ok(Verdict::Within));
-/// assert_eq!(judge(&ticks, &values, &list, two.with_gap(7)), Ok(Verdict::Outside { link: 1 }));
+/// let measure = Measure { error: Ratio { p: 0, q: 1 }, sample: 2, side: Side::Gap };
+/// let outside = Verdict::Outside { link: 1, measure };
+/// assert_eq!(judge(&ticks, &values, &list, two.with_gap(7)), Ok(outside));
 /// ```
 pub fn judge(
     ticks: &[u32],
@@ -403,11 +521,15 @@ pub fn judge(
     list: &[u16],
     limits: impl Into<Limits>,
 ) -> Result<Verdict, Refusal> {
-    let verdict = ffi::judge(ticks, values, list, ffi::Limits::of(limits));
-    Refusal::check(verdict.number, verdict.value)?;
-    Ok(match verdict.passed {
+    let judged = ffi::judge(ticks, values, list, ffi::Limits::of(limits));
+    Refusal::check(judged.number, judged.value)?;
+    let ffi::Judged {
+        p, q, sample, side, ..
+    } = judged;
+    Ok(match judged.passed {
         0 => Verdict::Outside {
-            link: verdict.value as usize,
+            link: judged.value as usize,
+            measure: Measure::of(p, q, sample, side),
         },
         _ => Verdict::Within,
     })
@@ -744,7 +866,8 @@ pub fn same(first: &[u8], second: &[u8]) -> Result<bool, Refusal> {
 }
 
 /// What [`report`] says of a channel: its samples, what [`walk`] keeps of them, and the error of that
-/// list; or a refusal's number beside zeros. The default is zeros, with 0/1 as the error.
+/// list with its sample; or a refusal's number beside zeros. The default is zeros, with 0/1 as the
+/// error.
 #[derive(Clone, Copy, Debug, Default, PartialEq, Eq, Hash)]
 #[repr(C)]
 pub struct Summary {
@@ -754,6 +877,9 @@ pub struct Summary {
     pub kept: usize,
     /// The error of the worst link of walk's list, in lowest terms; 0/1 if the channel is refused.
     pub error: Ratio,
+    /// The sample of the [`measure`] of the first link with that error, numbered in the channel's own
+    /// trace; 0 where there is no link, or if the channel is refused.
+    pub sample: usize,
     /// 0; or 1, 2 or 3 if the channel is refused, the number of [`Refusal::Length`], [`Refusal::Tick`]
     /// or [`Refusal::Span`].
     pub number: u32,
@@ -792,7 +918,7 @@ pub struct Totals {
 /// let error = Ratio { p: 2, q: 1 };
 /// let totals = Totals { samples: 6, kept: 4, error };
 /// assert_eq!(report(&ticks, &values, &lengths, two, &mut out), Ok(totals));
-/// assert_eq!(out[0], Summary { samples: 5, kept: 3, error, number: 0 });
+/// assert_eq!(out[0], Summary { samples: 5, kept: 3, error, sample: 1, number: 0 });
 /// // No samples; a tick not above the one before.
 /// assert_eq!(out[1], Summary { number: 1, ..Summary::default() });
 /// assert_eq!(out[2], Summary { number: 2, ..Summary::default() });

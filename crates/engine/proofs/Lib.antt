@@ -1,6 +1,7 @@
 -- The laws of the public calls' definitions.
 pub mod HoldLaws
 pub mod PrepareLaws
+pub mod MeasureLaws
 pub mod JudgeLaws
 pub mod ReduceLaws
 pub mod ReportLaws

@@ -2,6 +2,7 @@
 pub mod Checks
 pub mod Hold
 pub mod Prepare
+pub mod Measure
 pub mod Judge
 pub mod Reduce
 pub mod Report

@@ -22,7 +22,7 @@ fn verdict(ticks: &[u32], values: &[i16], list: &[u16], c: Criterion) -> Verdict
     if list.len() <= k + 1 {
         return Verdict::Yes;
     }
-    Verdict::No(k)
+    Verdict::No(k, proposed::fault_at(ticks, values, c, list, k))
 }
 
 // The answer where the checks 1 to 4 and 15 pass.
@@ -37,7 +37,7 @@ fn judge_at(ticks: &[u32], values: &[i16], list: &[u16], c: Criterion) -> Verdic
     }
 }
 
-// Whether each link of the list is valid; if not, the first that is not.
+// Whether each link of the list is valid; if not, the first that is not, and where it strays.
 pub fn judge(ticks: &[u32], values: &[i16], list: &[u16], t: Limits) -> Verdict
     ensures { λ r. ⌜ JudgeOutcome (now (ticks .entry)) (now (values .entry)) (now (list .entry)) t r ⌝ }
 {

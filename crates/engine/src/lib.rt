@@ -5,6 +5,7 @@ use reduction::Galloped;
 use refusal::Refusal;
 use tolerance::Tolerance;
 use trace::Criterion;
+use trace::Measure;
 
 // What links are asked to meet: a tolerance, and a gap limit in ticks from 1 to 1,048,575.
 pub struct Limits {
@@ -24,10 +25,16 @@ enum Ready {
     Refused(Refusal),
 }
 
-// What `judge` answers: every link is valid; or not, with the position of the first that is not; or a refusal.
+// What `measure` answers: the measure of the link, or a refusal.
+pub enum Measured {
+    Link(Measure),
+    Refused(Refusal),
+}
+
+// What `judge` answers: every link is valid; or not, with the position of the first that is not and where it strays; or a refusal.
 pub enum Verdict {
     Yes,
-    No(usize),
+    No(usize, Measure),
     Refused(Refusal),
 }
 
@@ -62,6 +69,7 @@ pub mod gallop;
 pub mod hold;
 pub mod judge;
 pub mod least;
+pub mod measure;
 pub mod minimum;
 mod prepare;
 pub mod read;

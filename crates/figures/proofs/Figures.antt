@@ -20,7 +20,9 @@ use Rattle.tolerance.specs.declared.Tolerance.the-variants.{Ratio}
 use Rattle.trace.specs.declared.Criterion.{Criterion}
 use Rattle.trace.specs.Level.{level}
 use Rattle.trace.specs.Trace.{traceRows}
+use Rattle.trace.specs.declared.Side.the-variants.{Above}
 use Rattle.trace.specs.Link.{deviation, within, allFrom, hole, obeys, allWithin, valid, criterion, greatest, farthest, linkError}
+use Rattle.trace.specs.Measure.{worstSample, faultOf}
 use Rattle.codes.specs.Code.{codeValue, codeValues}
 use Rattle.format.specs.Number.{bytesOnto}
 use Rattle.format.specs.Format.{stepsOnto, samplesOnto, encode}
@@ -144,13 +146,13 @@ slope-invalid : valid slopeTicks slopeValues (criterionOf (unlimited (Ratio 665 
 unfolding criterionOf valid obeys hole allWithin allFrom within deviation gcd euclid
 slope-invalid = refl
 
--- so judge passes the list 0 2 at the one, and names link 0 at the other
+-- so judge passes the list 0 2 at the one, and names link 0 and its sample 1 at the other
 slope-passed : judgeOf slopeTicks slopeValues (0 ∷ 2 ∷ []) (unlimited (Ratio 4 6)) ≡ Yes
 unfolding judgeOf judgeRows commonRows criterionOf listVerdict traceRows listRow badAt firstInvalid first firstOf valid obeys hole allWithin allFrom within deviation gcd euclid
 slope-passed = refl
 
-slope-named : judgeOf slopeTicks slopeValues (0 ∷ 2 ∷ []) (unlimited (Ratio 665 1000)) ≡ No 0
-unfolding judgeOf judgeRows commonRows criterionOf listVerdict traceRows listRow badAt firstInvalid first firstOf valid obeys hole allWithin allFrom within deviation gcd euclid
+slope-named : judgeOf slopeTicks slopeValues (0 ∷ 2 ∷ []) (unlimited (Ratio 665 1000)) ≡ No 0 (record { error = over 2 3; sample = 1; side = Above })
+unfolding judgeOf judgeRows commonRows criterionOf listVerdict traceRows listRow badAt firstInvalid faultOf worstSample first firstOf valid obeys hole allWithin allFrom within linkError farthest greatest deviation gcd euclid
 slope-named = refl
 
 -- ---- ticks 0 1048575 pass; 0 1048576 is 3 at 1; 5 5 is 2 at 1

@@ -17,13 +17,15 @@ use Rattle.kept.specs.Walk.{walkFrom, walkOf}
 use Rattle.kept.specs.Minimum.{bestStop, linksIn, linksOf, nextOf, minimumOf}
 use Rattle.kept.specs.Least.{leastOver, leastFrom, leastOf}
 use Rattle.kept.specs.Gallop.{probeOf, doubling, bisection, searchBy, gallopSearch, gallopOf, gallopProbes, sumFrom, listProbes}
-use Rattle.refusal.specs.declared.Refusal.the-variants.{Length, Tick, Tolerance, Room, Crate, Table, Samples, Factor, Gap, Holes, Link, Allowance}
+use Rattle.refusal.specs.declared.Refusal.the-variants.{Length, Tick, Tolerance, List as NoKeptList, Room, Crate, Table, Samples, Factor, Gap, Holes, Link, Allowance}
 use Rattle.refusal.specs.declared.Checked.the-variants.{Fine, Refused}
 use Rattle.refusal.specs.Table.{numberOf, returnedOf}
 use Rattle.tolerance.specs.declared.Tolerance.the-variants.{Ratio}
 use Rattle.tolerance.specs.Meaning.{meaning}
+use Rattle.trace.specs.declared.Side.the-variants.{On, Above, Below, Gap as OverGap}
 use Rattle.trace.specs.Trace.{traceRows}
 use Rattle.trace.specs.Link.{deviation, within, allFrom, hole, obeys, allWithin, linksEnd, valid, greatest, farthest, linkError, listError, half}
+use Rattle.trace.specs.Measure.{worstSample, measureOf, faultOf}
 use Rattle.codes.specs.RangeTable.{valuesIn, tableRow, expandWithRows}
 use Rattle.channels.specs.Channels.{crateRow}
 use Rattle.sheet.specs.Report.{keptRow, walkedRow, declinedRow, rowOf, totalled, totalsOf}
@@ -31,10 +33,12 @@ use Rattle.reduction.specs.Walking.{walkList}
 use Rattle.reduction.specs.Galloping.{gallopList, gallopTotal}
 use Rattle.shortest.specs.Shortest.{minimumList}
 use Rattle.closest.specs.Closest.{obeyingList, leastError}
-use Rattle.proposed.specs.Proposed.{badAt, listRow, firstInvalid}
+use Rattle.proposed.specs.Proposed.{badAt, listRow, firstInvalid, firstWorst, listSample, listStray}
 use Rattle.engine.specs.declared.Limits.{Limits}
+use Rattle.engine.specs.declared.Measured.the-variants.{Link as Measured}
 use Rattle.engine.specs.declared.Verdict.the-variants.{No}
 use Rattle.engine.specs.Prepare.{unlimited, commonRows, criterionOf, outputRows}
+use Rattle.engine.specs.Measure.{linkRow, measureRows, measuredBy}
 use Rattle.engine.specs.Judge.{judgeRows, listVerdict, judgeOf}
 use Rattle.engine.specs.Least.{allowedRows, leastRows}
 use Rattle.engine.specs.Write.{writeRows}
@@ -59,8 +63,8 @@ crate-fine : crateRows crateTicks crateValues crateLengths (unlimited (Ratio 2 1
 unfolding crateRows crateRow
 crate-fine = refl
 
-crate-rows : reportRows crateTicks crateValues crateLengths (unlimited (Ratio 2 1)) ≡ keptRow 5 3 (over 2 1) ∷ declinedRow Length ∷ declinedRow (Tick 1) ∷ keptRow 1 1 (over 0 1) ∷ []
-unfolding rowOf walkedRow traceRows first firstOf walkOf walkFrom stops errorFrom greater linkError farthest greatest criterionOf valid obeys hole allWithin allFrom within deviation gcd euclid
+crate-rows : reportRows crateTicks crateValues crateLengths (unlimited (Ratio 2 1)) ≡ keptRow 5 3 (record { p = 2; q = 1; sample = 1 }) ∷ declinedRow Length ∷ declinedRow (Tick 1) ∷ keptRow 1 1 (record { p = 0; q = 1; sample = 0 }) ∷ []
+unfolding rowOf walkedRow listSample firstWorst worstSample traceRows first firstOf walkOf walkFrom stops errorFrom greater linkError farthest greatest criterionOf valid obeys hole allWithin allFrom within deviation gcd euclid
 crate-rows = refl
 
 crate-totals : totalsOf (reportRows crateTicks crateValues crateLengths (unlimited (Ratio 2 1))) ≡ totalled 6 4 (over 2 1)
@@ -265,9 +269,9 @@ holed-minimum-8 : minimumList holedTicks level (criterionOf (under 8)) ≡ 0 ∷
 unfolding minimumOf nextOf linksOf linksIn bestStop stops criterionOf valid obeys hole allWithin allFrom within deviation gcd euclid
 holed-minimum-8 = refl
 
--- the list 0 5 crosses a hole of 7: judge's link 0, and the writer's cause 7
-holed-judged : judgeOf holedTicks level (0 ∷ 5 ∷ []) (under 7) ≡ No 0
-unfolding judgeOf judgeRows commonRows criterionOf listVerdict traceRows listRow badAt firstInvalid first firstOf valid obeys hole allWithin allFrom within deviation gcd euclid
+-- the list 0 5 crosses a hole of 7: judge's link 0, with an error of 0 and the sample before the hole, and the writer's cause 7
+holed-judged : judgeOf holedTicks level (0 ∷ 5 ∷ []) (under 7) ≡ No 0 (record { error = over 0 1; sample = 2; side = OverGap })
+unfolding judgeOf judgeRows commonRows criterionOf listVerdict traceRows listRow badAt firstInvalid faultOf first firstOf valid obeys hole allWithin allFrom within linkError farthest greatest deviation gcd euclid
 holed-judged = refl
 
 holed-written : writeRows holedTicks level (0 ∷ 2 ∷ 5 ∷ []) (under 7) 99 0 ≡ Refused (Link 1)
@@ -336,3 +340,64 @@ sparse-within = (refl, tt)
 not-of-all-lists : ((h : List ℕ) → KeptList 2 h → AllValid (allWithin sparseTicks sparse (half (criterionOf (under 1)))) h → length (walkList sparseTicks sparse (criterionOf (under 1))) ≤ length h) → ⊥
 not-of-all-lists no-longer =
     absurd (omega (arith, ap length sparse-walk, no-longer (0 ∷ 2 ∷ []) (record { spans = (refl, refl); rises = (omega arith, tt) }) sparse-within))
+
+-- ---- where the line strays: ticks 0 1 3, values 0 1 1: from sample 0 to 2, 2/3 at sample 1, above; values 0 0 0: 0/1 at sample 0, on
+
+abbrev slopeTicks : List ℕ
+slopeTicks = 0 ∷ 1 ∷ 3 ∷ []
+
+slope-measured : measuredBy slopeTicks (pos 0 ∷ pos 1 ∷ pos 1 ∷ []) 0 2 ≡ Measured (record { error = over 2 3; sample = 1; side = Above })
+unfolding measuredBy measureRows linkRow traceRows worstSample first firstOf linkError farthest greatest deviation gcd euclid
+slope-measured = refl
+
+level-measured : measuredBy slopeTicks (pos 0 ∷ pos 0 ∷ pos 0 ∷ []) 0 2 ≡ Measured (record { error = over 0 1; sample = 0; side = On })
+unfolding measuredBy measureRows linkRow traceRows worstSample first firstOf linkError farthest greatest deviation gcd euclid
+level-measured = refl
+
+-- of two samples with one deviation the first, on its own side
+abbrev fourTicks : List ℕ
+fourTicks = 0 ∷ 1 ∷ 2 ∷ 3 ∷ []
+
+tie-above : measureOf fourTicks (pos 0 ∷ pos 1 ∷ negsuc 0 ∷ pos 0 ∷ []) 0 3 ≡ record { error = over 1 1; sample = 1; side = Above }
+unfolding worstSample first firstOf linkError farthest greatest deviation gcd euclid
+tie-above = refl
+
+tie-below : measureOf fourTicks (pos 0 ∷ negsuc 0 ∷ pos 1 ∷ pos 0 ∷ []) 0 3 ≡ record { error = over 1 1; sample = 1; side = Below }
+unfolding worstSample first firstOf linkError farthest greatest deviation gcd euclid
+tie-below = refl
+
+-- 6 with 0 for a first sample beyond the trace, with 1 for a second beyond it, equal to the first or below it; 2 comes first
+
+beyond-first : measureRows fourTicks (pos 0 ∷ pos 0 ∷ pos 0 ∷ pos 0 ∷ []) 4 9 ≡ Refused (NoKeptList 0)
+unfolding measureRows linkRow traceRows first firstOf
+beyond-first = refl
+
+beyond-second : measureRows fourTicks (pos 0 ∷ pos 0 ∷ pos 0 ∷ pos 0 ∷ []) 3 4 ≡ Refused (NoKeptList 1)
+unfolding measureRows linkRow traceRows first firstOf
+beyond-second = refl
+
+equal-samples : measureRows fourTicks (pos 0 ∷ pos 0 ∷ pos 0 ∷ pos 0 ∷ []) 3 3 ≡ Refused (NoKeptList 1)
+unfolding measureRows linkRow traceRows first firstOf
+equal-samples = refl
+
+swapped-samples : measureRows fourTicks (pos 0 ∷ pos 0 ∷ pos 0 ∷ pos 0 ∷ []) 2 1 ≡ Refused (NoKeptList 1)
+unfolding measureRows linkRow traceRows first firstOf
+swapped-samples = refl
+
+trace-before-link : measureRows (0 ∷ 1 ∷ 1 ∷ []) (pos 0 ∷ pos 0 ∷ pos 0 ∷ []) 9 0 ≡ Refused (Tick 2)
+unfolding measureRows linkRow traceRows first firstOf
+trace-before-link = refl
+
+-- a link that crosses a hole and is not within the tolerance has its plain measure
+both-faults : judgeOf holedTicks (pos 0 ∷ pos 0 ∷ pos 0 ∷ pos 0 ∷ pos 9 ∷ pos 0 ∷ []) (0 ∷ 5 ∷ []) (under 7) ≡ No 0 (record { error = over 9 1; sample = 4; side = Above })
+unfolding judgeOf judgeRows commonRows criterionOf listVerdict traceRows listRow badAt firstInvalid faultOf worstSample first firstOf valid obeys hole allWithin allFrom within linkError farthest greatest deviation gcd euclid
+both-faults = refl
+
+-- of two links with one error the first, and the worst one wherever it is
+first-worst-link : listStray crateTicks crateValues (0 ∷ 2 ∷ 4 ∷ []) ≡ record { p = 2; q = 1; sample = 1 }
+unfolding listSample firstWorst worstSample first firstOf errorFrom greater linkError farthest greatest deviation gcd euclid
+first-worst-link = refl
+
+later-worst-link : listStray (0 ∷ 1 ∷ 2 ∷ 3 ∷ 4 ∷ []) (pos 0 ∷ pos 1 ∷ pos 0 ∷ negsuc 2 ∷ pos 0 ∷ []) (0 ∷ 2 ∷ 4 ∷ []) ≡ record { p = 3; q = 1; sample = 3 }
+unfolding listSample firstWorst worstSample first firstOf errorFrom greater linkError farthest greatest deviation gcd euclid
+later-worst-link = refl

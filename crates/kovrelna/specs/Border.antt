@@ -1,7 +1,8 @@
 -- What the structs of the C interface stand for: the enums of the public calls.
 --   toleranceOf, limitsOf   the tolerance that a form gives; with the gap limit
---   heldOf, verdictOf, keptOf, gallopedOf, closestOf, writtenOf, readOf, comparedOf, reportOf, listedOf   an answer as numbers: 0 for success, or the refusal's number and value
---   HoldExport, JudgeExport, WalkExport, GallopExport, MinimumExport, LeastExport, ExpandExport, ExpandWithExport, WriteExport, ReadExport, SameExport,
+--   sideNumber   the number of a side
+--   heldOf, measuredOf, judgedOf, keptOf, gallopedOf, closestOf, writtenOf, readOf, comparedOf, reportOf, listedOf   an answer as numbers: 0 for success, or the refusal's number and value
+--   HoldExport, MeasureExport, JudgeExport, WalkExport, GallopExport, MinimumExport, LeastExport, ExpandExport, ExpandWithExport, WriteExport, ReadExport, SameExport,
 --   ReportExport, PedestalsExport   an export's answer is that of the public call, with its whole outcome
 -- Assumes nothing.
 use mathlib.Core.Path.{_≡_}
@@ -16,6 +17,10 @@ use Rattle.tolerance.specs.declared.Tolerance.the-variants.{Ratio, Counts, Nois
 use Rattle.engine.specs.declared.Limits as L
 use Rattle.engine.specs.declared.Holding.{Holding}
 use Rattle.engine.specs.declared.Holding.the-variants.{Held as IsHeld, Refused as HoldRefused}
+use Rattle.trace.specs.declared.Side.{Side}
+use Rattle.trace.specs.declared.Side.the-variants.{On, Above, Below, Gap}
+use Rattle.engine.specs.declared.Measured as M
+use Rattle.engine.specs.declared.Measured.the-variants.{Link, Refused as NotMeasured}
 use Rattle.engine.specs.declared.Verdict as E
 use Rattle.engine.specs.declared.Verdict.the-variants.{Yes, No, Refused}
 use Rattle.engine.specs.declared.Reduced.{Reduced}
@@ -27,6 +32,7 @@ use Rattle.engine.specs.declared.Closest.the-variants.{Kept as IsClosest, Refus
 use Rattle.engine.specs.declared.Written.{Written}
 use Rattle.engine.specs.declared.Written.the-variants.{Count, Refused as NotWritten}
 use Rattle.engine.specs.Hold.{HoldOutcome}
+use Rattle.engine.specs.Measure.{MeasureOutcome}
 use Rattle.engine.specs.Judge.{JudgeOutcome}
 use Rattle.engine.specs.Expand.{ExpandOutcome, ExpandWithOutcome}
 use Rattle.engine.specs.Write.{WriteOutcome}
@@ -48,6 +54,8 @@ use Rattle.pedestals.specs.Compare.{Run, causeNumber, causeValue, CompareOutcom
 use Rattle.kovrelna.specs.declared.Tolerance.{Tolerance}
 use Rattle.kovrelna.specs.declared.Limits.{Limits}
 use Rattle.kovrelna.specs.declared.Held.{Held}
+use Rattle.kovrelna.specs.declared.Measured.{Measured}
+use Rattle.kovrelna.specs.declared.Judged.{Judged}
 use Rattle.kovrelna.specs.declared.Verdict.{Verdict}
 use Rattle.kovrelna.specs.declared.Answer.{Answer}
 use Rattle.kovrelna.specs.declared.Closest.{Closest}
@@ -75,14 +83,29 @@ pub record HoldExport (t : Tolerance) (r : Held) : Type 0 where
   pub is : r ≡ heldOf answer
   pub outcome : HoldOutcome (toleranceOf t) answer
 
-abbrev pub verdictOf : E.Verdict → Verdict
-verdictOf Yes = record { number = 0; passed = 1; value = 0 }
-verdictOf (No k) = record { number = 0; passed = 0; value = k }
-verdictOf (Refused x) = record { number = numberOf x; passed = 0; value = returnedOf x }
+abbrev pub sideNumber : Side → ℕ
+sideNumber On = 0
+sideNumber Above = 1
+sideNumber Below = 2
+sideNumber Gap = 3
 
-pub record JudgeExport (ts : List ℕ) (vs : List ℤ) (l : List ℕ) (t : Limits) (r : Verdict) : Type 0 where
+abbrev pub measuredOf : M.Measured → Measured
+measuredOf (Link m) = record { number = 0; side = sideNumber (m .side); value = 0; p = m .error .p; q = m .error .q; sample = m .sample }
+measuredOf (NotMeasured x) = record { number = numberOf x; side = 0; value = returnedOf x; p = 0; q = 0; sample = 0 }
+
+pub record MeasureExport (ts : List ℕ) (vs : List ℤ) (i j : ℕ) (r : Measured) : Type 0 where
+  pub answer : M.Measured
+  pub is : r ≡ measuredOf answer
+  pub outcome : MeasureOutcome ts vs i j answer
+
+abbrev pub judgedOf : E.Verdict → Judged
+judgedOf Yes = record { number = 0; passed = 1; value = 0; p = 0; q = 0; sample = 0; side = 0 }
+judgedOf (No k m) = record { number = 0; passed = 0; value = k; p = m .error .p; q = m .error .q; sample = m .sample; side = sideNumber (m .side) }
+judgedOf (Refused x) = record { number = numberOf x; passed = 0; value = returnedOf x; p = 0; q = 0; sample = 0; side = 0 }
+
+pub record JudgeExport (ts : List ℕ) (vs : List ℤ) (l : List ℕ) (t : Limits) (r : Judged) : Type 0 where
   pub answer : E.Verdict
-  pub is : r ≡ verdictOf answer
+  pub is : r ≡ judgedOf answer
   pub outcome : JudgeOutcome ts vs l (limitsOf t) answer
 
 abbrev pub keptOf : Reduced → Answer

@@ -1,7 +1,7 @@
 // The C interface: each export is a public call of `engine` or of a product above it, with numbers and structs for its enums.
 ghost use mathlib.Core.Path.{_≡_};
 ghost use Rattle.engine.specs.Report.{Surveyed};
-ghost use Rattle.kovrelna.specs.Border.{toleranceOf, limitsOf, heldOf, verdictOf, keptOf, gallopedOf, closestOf, writtenOf, readOf, comparedOf, HoldExport, JudgeExport, WalkExport, GallopExport, MinimumExport, LeastExport, ExpandExport, ExpandWithExport, WriteExport, ReadExport, SameExport, reportOf, ReportExport, listedOf, PedestalsExport};
+ghost use Rattle.kovrelna.specs.Border.{toleranceOf, limitsOf, heldOf, sideNumber, measuredOf, judgedOf, keptOf, gallopedOf, closestOf, writtenOf, readOf, comparedOf, HoldExport, MeasureExport, JudgeExport, WalkExport, GallopExport, MinimumExport, LeastExport, ExpandExport, ExpandWithExport, WriteExport, ReadExport, SameExport, reportOf, ReportExport, listedOf, PedestalsExport};
 ghost use Rattle.pedestals.specs.Compare.{runOf};
 use sheet::Sheet;
 use sheet::Summary;
@@ -32,7 +32,30 @@ pub struct Held {
     pub q: u64,
 }
 
-// A verdict under the number 0, with the first invalid link where the list is not passed; or a refusal's number and value.
+// A link's error p/q, the first sample where it occurs and the number of its side under the number 0; or a refusal's number and value.
+#[repr(C)]
+pub struct Measured {
+    pub number: u32,
+    pub side: u32,
+    pub value: u64,
+    pub p: u64,
+    pub q: u64,
+    pub sample: u64,
+}
+
+// A verdict under the number 0, with the first invalid link and where it strays if the list is not passed; or a refusal's number and value.
+#[repr(C)]
+pub struct Judged {
+    pub number: u32,
+    pub passed: u32,
+    pub value: u64,
+    pub p: u64,
+    pub q: u64,
+    pub sample: u64,
+    pub side: u32,
+}
+
+// A verdict on two records under the number 0, or a refusal's number and value.
 #[repr(C)]
 pub struct Verdict {
     pub number: u32,
@@ -144,24 +167,79 @@ fn held_of(h: engine::Holding) -> Held
     }
 }
 
-fn verdict_of(v: engine::Verdict) -> Verdict
-    ensures { λ r. ⌜ r ≡ verdictOf v ⌝ }
+// The number of a side.
+fn side_of(s: trace::Side) -> u32
+    ensures { λ r. ⌜ r ≡ sideNumber s ⌝ }
+{
+    match s {
+        trace::Side::On => 0,
+        trace::Side::Above => 1,
+        trace::Side::Below => 2,
+        trace::Side::Gap => 3,
+    }
+}
+
+fn measured_of(a: engine::Measured) -> Measured
+    ensures { λ r. ⌜ r ≡ measuredOf a ⌝ }
+{
+    match a {
+        engine::Measured::Link(m) => {
+            let error = m.error;
+            let side = m.side;
+            Measured {
+                number: 0,
+                side: side_of(side),
+                value: 0,
+                p: error.p,
+                q: error.q,
+                sample: m.sample as u64,
+            }
+        }
+        engine::Measured::Refused(x) => Measured {
+            number: refusal::number(x),
+            side: 0,
+            value: refusal::returned(x) as u64,
+            p: 0,
+            q: 0,
+            sample: 0,
+        },
+    }
+}
+
+fn judged_of(v: engine::Verdict) -> Judged
+    ensures { λ r. ⌜ r ≡ judgedOf v ⌝ }
 {
     match v {
-        engine::Verdict::Yes => Verdict {
+        engine::Verdict::Yes => Judged {
             number: 0,
             passed: 1,
             value: 0,
+            p: 0,
+            q: 0,
+            sample: 0,
+            side: 0,
         },
-        engine::Verdict::No(k) => Verdict {
-            number: 0,
-            passed: 0,
-            value: k as u64,
-        },
-        engine::Verdict::Refused(x) => Verdict {
+        engine::Verdict::No(k, m) => {
+            let error = m.error;
+            let side = m.side;
+            Judged {
+                number: 0,
+                passed: 0,
+                value: k as u64,
+                p: error.p,
+                q: error.q,
+                sample: m.sample as u64,
+                side: side_of(side),
+            }
+        }
+        engine::Verdict::Refused(x) => Judged {
             number: refusal::number(x),
             passed: 0,
             value: refusal::returned(x) as u64,
+            p: 0,
+            q: 0,
+            sample: 0,
+            side: 0,
         },
     }
 }
@@ -350,12 +428,20 @@ pub extern "C" fn kovrelna_hold(t: Tolerance) -> Held
     held_of(engine::hold::hold(tolerance_of(t)))
 }
 
+// Where the link i to j strays.
+#[no_mangle]
+pub extern "C" fn kovrelna_measure(ticks: &[u32], values: &[i16], i: usize, j: usize) -> Measured
+    ensures { λ r. ⌜ MeasureExport (now (ticks .entry)) (now (values .entry)) i j r ⌝ }
+{
+    measured_of(engine::measure::measure(ticks, values, i, j))
+}
+
 // Whether each link of the list is valid.
 #[no_mangle]
-pub extern "C" fn kovrelna_judge(ticks: &[u32], values: &[i16], list: &[u16], t: Limits) -> Verdict
+pub extern "C" fn kovrelna_judge(ticks: &[u32], values: &[i16], list: &[u16], t: Limits) -> Judged
     ensures { λ r. ⌜ JudgeExport (now (ticks .entry)) (now (values .entry)) (now (list .entry)) t r ⌝ }
 {
-    verdict_of(engine::judge::judge(ticks, values, list, limits_of(t)))
+    judged_of(engine::judge::judge(ticks, values, list, limits_of(t)))
 }
 
 // Writes walk's list into the first entries of `out`.

@@ -6,6 +6,7 @@ pub mod Nearness
 pub mod NoFactor
 pub mod Probes
 pub mod Report
+pub mod Measures
 pub mod Expand
 pub mod PedestalShift
 pub mod Pedestals

@@ -1,7 +1,8 @@
 -- What a report says of each channel, from its contract alone: the row of channel i is that of the channel's own samples under the limits.
 --   report-row, report-rest   each row, and that the entries after the rows stay
 --   report-own                a channel has the same row in any two crates that hold the same samples for it
---   row-walk, row-declined    a row is what walk answers for the channel's samples, and the error of the list that it writes
+--   row-walk, row-declined    a row is what walk answers for the channel's samples, and the error and sample of the list that it writes
+--   row-sample                where that list has a link, the sample is that of the measure of its first link with the row's error
 --   report-within             no row's error is above the tolerance
 --   report-largest            the largest error is at least each row's
 --   largest-within            it is at most the tolerance
@@ -9,12 +10,14 @@
 -- Assumes nothing.
 use mathlib.Core.Path.{_≡_, refl, sym, _∙_, ap, subst}
 use mathlib.Core.List.{List}
-use Prim.Native.Nat.{ℕ, _≤_, _<_}
+use mathlib.Core.Bool.{false}
+use Prim.Native.Nat.{ℕ, _-_, _≤_, _<_}
 use native.Mathlib.Omega.{arith}
 use lib.IntN.{ℤ}
 use lib.ListN.{length, take, drop, getD, List·getD-append}
 use lib.Seq.{drop-append-seam}
-use borrow.Author.Tests.{le-leb}
+use lib.Dec.{leb}
+use borrow.Author.Tests.{le-leb, lt-leb}
 use Rattle.ratio.specs.Gcd.{gcd, euclid}
 use Rattle.ratio.specs.Order.{AtMost}
 use Rattle.refusal.specs.declared.Refusal.{Refusal}
@@ -23,15 +26,18 @@ use Rattle.refusal.specs.declared.Checked.the-variants.{Fine, Refused}
 use Rattle.refusal.specs.Table.{_thenCheck_}
 use Rattle.refusal.proofs.TableLaws.{then-fine}
 use Rattle.engine.specs.declared.Limits.{Limits}
-use Rattle.trace.specs.Trace.{traceRows}
-use Rattle.trace.specs.Link.{listError, ratioOf}
+use Rattle.trace.specs.Trace.{Trace, traceRows}
+use Rattle.trace.specs.Link.{ratioOf}
+use Rattle.trace.proofs.TraceLaws.{rows-trace}
+use Rattle.proposed.specs.Proposed.{errorAt, measureAt, firstWorst, listSample, listStray}
+use Rattle.proposed.proofs.WorstLink.{first-worst}
 use Rattle.channels.specs.Channels.{ofChannel}
 use Rattle.sheet.specs.declared.Summary.{Summary}
 use Rattle.sheet.specs.declared.Totals.{Totals}
 use Rattle.sheet.specs.declared.Reported.the-variants.{Counted}
 use Rattle.sheet.specs.Report.{keptRow, declinedRow, rowOf, rowError, largestError, zeros}
 use Rattle.sheet.proofs.RowLaws.{rows-length, rows-own, row-within, row-positive, row-lowest, largest-one, largest-least}
-use Rattle.sheet.proofs.ReportLaws.{channel-fine, channel-refused, walked-row}
+use Rattle.sheet.proofs.ReportLaws.{channel-fine, channel-refused, walked-row, walked-kept, walked-length}
 use Rattle.engine.specs.declared.Reduced.the-variants.{Kept, Refused as Declined}
 use Rattle.engine.specs.Prepare.{limitRows, commonRows, criterionOf, outputRows}
 use Rattle.engine.specs.Reduce.{WalkOutcome}
@@ -79,11 +85,26 @@ report-own r s i j h u a b = rw (report-row r i h, report-row s j u, a, b)
 -- ---- a row and walk
 
 module _ (ts : List ℕ) (vs : List ℤ) (t : Limits) {o o′ : List ℕ} where
-  pub row-walk : {n : ℕ} → WalkOutcome ts vs t o (Kept n) o′ → rowOf (criterionOf t) ts vs ≡ keptRow (length ts) n (listError ts vs (take n o′))
+  walk-fine : {n : ℕ} → WalkOutcome ts vs t o (Kept n) o′ → traceRows 4096 ts vs ≡ Fine
   unfolding outputRows commonRows
-  row-walk w =
-      let rows = then-fine (traceRows 4096 ts vs) _ (then-fine (commonRows ts vs t) _ (w .rows) .0) .0 in
-      sym (channel-fine (criterionOf t) ts vs rows (walked-row ts vs (criterionOf t) (w .wrote) refl))
+  walk-fine w = then-fine (traceRows 4096 ts vs) _ (then-fine (commonRows ts vs t) _ (w .rows) .0) .0
+
+  walk-trace : {n : ℕ} → WalkOutcome ts vs t o (Kept n) o′ → Trace ts vs
+  walk-trace w = rows-trace 4096 ts vs (omega arith) (walk-fine w) .0
+
+  pub row-walk : {n : ℕ} → WalkOutcome ts vs t o (Kept n) o′ → rowOf (criterionOf t) ts vs ≡ keptRow (length ts) n (listStray ts vs (take n o′))
+  row-walk w = sym (channel-fine (criterionOf t) ts vs (walk-fine w) (walked-row ts vs (criterionOf t) (w .wrote) refl))
+
+  -- the first link with the row's error is there, and the row's sample is that of its measure
+  pub row-sample : {n : ℕ} → WalkOutcome ts vs t o (Kept n) o′ → 1 < n → let l = take n o′ in let k = firstWorst ts vs l in
+      (k < n - 1) × (errorAt ts vs l k ≡ rowError (rowOf (criterionOf t) ts vs)) × (rowOf (criterionOf t) ts vs .sample ≡ measureAt ts vs l k .sample)
+  unfolding listSample
+  row-sample {n} w some =
+      let count = walked-length ts vs (criterionOf t) (w .wrote) in
+      let kept = walked-kept ts vs (criterionOf t) (w .wrote) in
+      let f = first-worst (walk-trace w) kept (omega arith) in
+      let long : leb (length (take n o′)) 1 ≡ false = lt-leb (length (take n o′)) 1 (omega arith) in
+      (omega (arith, f .0), rw (row-walk w) (f .1), rw (row-walk w, long))
 
   -- walk's own refusal, where the limits are allowed and the output long enough
   pub row-declined : {x : Refusal} → WalkOutcome ts vs t o (Declined x) o′ → limitRows t ≡ Fine → length ts ≤ length o → rowOf (criterionOf t) ts vs ≡ declinedRow x

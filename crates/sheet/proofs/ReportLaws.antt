@@ -22,7 +22,9 @@ use Rattle.channels.specs.Channels.{sum, Divided}
 use Rattle.channels.proofs.ChannelLaws.{lent-part}
 use Rattle.trace.specs.declared.Criterion.{Criterion}
 use Rattle.trace.specs.Trace.{Trace, traceRows}
-use Rattle.trace.specs.Link.{listError, criterion, Bounded}
+use Rattle.trace.specs.declared.Stray.{Stray}
+use Rattle.trace.specs.Link.{criterion, Bounded}
+use Rattle.proposed.specs.Proposed.{listStray}
 use Rattle.reduction.specs.Walking.{walkList}
 use Rattle.reduction.proofs.ReductionLaws.{walk-list-greedy}
 use Rattle.sheet.specs.declared.Summary.{Summary}
@@ -51,7 +53,7 @@ module _ (ts : List ℕ) (vs : List ℤ) (c : Criterion) {o o′ : List ℕ} {n 
       few : {l k : ℕ} → 1 ≤ length ts → length ts ≤ 4096 → l ≤ suc (length ts - 1) → k ≡ l → k ≤ 4096
       few a b c d = omega arith
 
-  pub walked-row : {e : Ratio} → e ≡ listError ts vs (take n o′) → keptRow (length ts) n e ≡ walkedRow c ts vs
+  pub walked-row : {s : Stray} → s ≡ listStray ts vs (take n o′) → keptRow (length ts) n s ≡ walkedRow c ts vs
   unfolding walkedRow
   walked-row d = rw (d, wrote-read w, w .count)
 
@@ -63,7 +65,7 @@ pub channel-refused : (c : Criterion) (ts : List ℕ) (vs : List ℤ) {r : Summa
 unfolding rowOf
 channel-refused c ts vs h e = rw h e
 
-pub declined-row : {k : ℕ} (x : Refusal) → k ≡ numberOf x → _≡_ {A = Summary} (record { samples = 0; kept = 0; p = 0; q = 1; number = k }) (declinedRow x)
+pub declined-row : {k : ℕ} (x : Refusal) → k ≡ numberOf x → _≡_ {A = Summary} (record { samples = 0; kept = 0; p = 0; q = 1; sample = 0; number = k }) (declinedRow x)
 declined-row x e = rw e
 
 pub part-is : (c : Criterion) (ts : List ℕ) (vs : List ℤ) (at n : ℕ) {r : Summary} → r ≡ rowOf c (take (at + n - at) (drop at ts)) (take (at + n - at) (drop at vs)) → r ≡ partRow c ts vs at n

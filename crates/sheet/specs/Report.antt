@@ -1,5 +1,6 @@
 -- The report on a crate of channels (document 02, "Whole-crate report"): rows, totals, and the lent list.
---   keptRow, walkedRow       the row of a trace: its samples, walk's kept number, and the error of walk's list
+--   keptRow, walkedRow       the row of a trace: its samples, walk's kept number, the error of walk's list, and the sample where its first
+--                            worst link has it (document 02, "Where the line strays")
 --   declinedRow              the row of a channel that is declined: its number, zeros, and 0/1 as its error
 --   rowBy, rowOf             the row of a channel: it depends on the channel's own ticks and values and on the criterion, on nothing else
 --   partRow                  the row of n samples from a place on
@@ -28,7 +29,9 @@ use Rattle.ratio.specs.Order.{over, greater}
 use Rattle.channels.specs.Channels.{part}
 use Rattle.trace.specs.declared.Criterion.{Criterion}
 use Rattle.trace.specs.Trace.{traceRows}
-use Rattle.trace.specs.Link.{listError, criterion, Bounded}
+use Rattle.trace.specs.declared.Stray.{Stray}
+use Rattle.trace.specs.Link.{criterion, Bounded}
+use Rattle.proposed.specs.Proposed.{listStray}
 use Rattle.reduction.specs.Walking.{walkList}
 use Rattle.sheet.specs.declared.Summary.{Summary}
 use Rattle.sheet.specs.declared.Totals.{Totals}
@@ -37,15 +40,15 @@ use Rattle.sheet.specs.declared.Sheet.{Sheet}
 
 -- ---- rows
 
--- n samples, of which l are kept, with the error e
-abbrev pub keptRow : ℕ → ℕ → Ratio → Summary
-keptRow n l e = record { samples = n; kept = l; p = e .p; q = e .q; number = 0 }
+-- n samples, of which l are kept, with the error and the sample of s
+abbrev pub keptRow : ℕ → ℕ → Stray → Summary
+keptRow n l s = record { samples = n; kept = l; p = s .p; q = s .q; sample = s .sample; number = 0 }
 
 unfoldable pub walkedRow : Criterion → List ℕ → List ℤ → Summary
-walkedRow c ts vs = keptRow (length ts) (length (walkList ts vs c)) (listError ts vs (walkList ts vs c))
+walkedRow c ts vs = keptRow (length ts) (length (walkList ts vs c)) (listStray ts vs (walkList ts vs c))
 
 abbrev pub declinedRow : Refusal → Summary
-declinedRow x = record { samples = 0; kept = 0; p = 0; q = 1; number = numberOf x }
+declinedRow x = record { samples = 0; kept = 0; p = 0; q = 1; sample = 0; number = numberOf x }
 
 abbrev pub rowBy : Checked → Summary → Summary
 rowBy Fine r = r
@@ -106,7 +109,7 @@ pub record Declined (x : Refusal) (s : Sheet) : Type 0 where
   pub answer : s .answer ≡ NotCounted x
 
 abbrev pub zeros : Summary
-zeros = record { samples = 0; kept = 0; p = 0; q = 0; number = 0 }
+zeros = record { samples = 0; kept = 0; p = 0; q = 0; sample = 0; number = 0 }
 
 abbrev pub rowAt : Sheet → ℕ → Summary
 rowAt s i = getD (s .rows) i zeros

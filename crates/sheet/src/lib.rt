@@ -14,13 +14,15 @@ use refusal::Checked;
 use refusal::Refusal;
 use trace::Criterion;
 
-// A channel's row: its samples, walk's kept number and its error p/q under the number 0; or a refusal's number beside zeros and 0/1.
+// A channel's row: its samples, walk's kept number, its error p/q and the sample where it occurs first under the number 0; or a refusal's
+// number beside zeros and 0/1.
 #[repr(C)]
 pub struct Summary {
     pub samples: usize,
     pub kept: usize,
     pub p: u64,
     pub q: u64,
+    pub sample: usize,
     pub number: u32,
 }
 
@@ -53,12 +55,13 @@ fn walked(ticks: &[u32], values: &[i16], c: Criterion) -> Summary
 {
     let mut list = [0u16; 4096];
     let kept = reduction::walks::walk(ticks, values, c, &mut list);
-    let error = proposed::list_error(ticks, values, &list[..kept]);
+    let worst = proposed::list_stray(ticks, values, &list[..kept]);
     Summary {
         samples: ticks.len(),
         kept,
-        p: error.p,
-        q: error.q,
+        p: worst.p,
+        q: worst.q,
+        sample: worst.sample,
         number: 0,
     }
 }
@@ -73,6 +76,7 @@ fn declined(x: Refusal) -> Summary
         kept: 0,
         p: 0,
         q: 1,
+        sample: 0,
         number,
     }
 }
@@ -124,6 +128,7 @@ pub fn survey(ticks: &[u32], values: &[i16], lengths: &[usize], c: Criterion) ->
         kept: 0,
         p: 0,
         q: 1,
+        sample: 0,
         number: 0,
     };
     let mut rows = [none; 64];
@@ -159,6 +164,7 @@ pub fn refuse(x: Refusal) -> Sheet
         kept: 0,
         p: 0,
         q: 1,
+        sample: 0,
         number: 0,
     };
     Sheet {

@@ -38,7 +38,7 @@ pub fn greatest(tolerances: &[Ratio]) -> Option<Ratio> {
 }
 
 /// By cross multiplication.
-fn compared(one: &Ratio, other: &Ratio) -> Ordering {
+pub fn compared(one: &Ratio, other: &Ratio) -> Ordering {
     let product = |p, q| u128::from(p) * u128::from(q);
     product(one.p, other.q).cmp(&product(other.p, one.q))
 }

@@ -2,14 +2,14 @@
 //! the first and the last among them, and every link is valid at its own tolerance and the gap limit.
 
 use crate::failure::{Failure, Status};
-use crate::holes::crossing;
 use crate::line::{Limits, Line, GAP};
 use crate::name::joined;
 use crate::records::{self, Record};
 use crate::source::Source;
+use crate::stray::{crosses, lies};
 use crate::text::Text;
 use crate::{help, output};
-use kovrelna::{judge, Ratio, Tolerance, Verdict};
+use kovrelna::{judge, Ratio, Side, Tolerance, Verdict};
 use std::ffi::OsString;
 
 pub fn check(arguments: &[OsString]) -> Result<Status, Failure> {
@@ -48,14 +48,17 @@ fn fault(record: &Record, trace: &Text, gap: Option<u32>) -> Result<Option<OsStr
         gap,
     };
     let verdict = judge(&trace.ticks, &trace.values, &list, limits);
-    let Verdict::Outside { link } = verdict.map_err(|refusal| trace.refused(refusal))? else {
+    let verdict = verdict.map_err(|refusal| trace.refused(refusal))?;
+    let Verdict::Outside { link, measure } = verdict else {
         return Ok(None);
     };
     let tick = |sample: u16| trace.ticks[usize::from(sample)];
     let end = |sample| format!("sample {sample} at tick {}", tick(sample));
     let ends = format!("{} to {}", end(list[link]), end(list[link + 1]));
-    let cause = crossing(&trace.ticks, &list[link..], gap);
-    let cause = cause.unwrap_or_else(|| format!("is not within {p}/{q}"));
+    let cause = match measure.side {
+        Side::Gap => crosses(&trace.ticks, measure),
+        _ => format!("is not within {p}/{q}: {}", lies(&trace.ticks, measure)),
+    };
     Ok(Some(joined(&[
         &format!("link {link}, from {ends} of "),
         &trace.name,

@@ -1,15 +1,15 @@
 //! One function for each command. It takes the arguments after the command's name.
 
 use crate::failure::{Failure, Status};
-use crate::holes::crossing;
 use crate::line::{each, Kept, Line, METHODS};
 use crate::line::{ALLOWANCE, BUDGET, GAP, LIST, LIST_FILE, METHOD, OUTPUT, TOLERANCE};
 use crate::name::{joined, placed};
 use crate::records;
 use crate::source::Source;
+use crate::stray::{crosses, lies};
 use crate::text::{self, List, Text};
-use crate::{budget, check, draw, help, near, output, pedestals, probes, report, summary};
-use kovrelna::{Least, Ratio, Refusal, Tolerance, Verdict, GAP_MAX};
+use crate::{budget, check, draw, help, measure, near, output, pedestals, probes, report, summary};
+use kovrelna::{Least, Ratio, Refusal, Side, Tolerance, Verdict, GAP_MAX};
 use std::ffi::{OsStr, OsString};
 use std::fmt::Display;
 
@@ -22,6 +22,7 @@ pub fn find(name: &str) -> Option<Command> {
         "show" => show,
         "judge" => judge,
         "check" => check::check,
+        "measure" => measure::measure,
         "least" => least,
         "near" => near::near,
         "probes" => probes::probes,
@@ -98,10 +99,14 @@ fn judge(arguments: &[OsString]) -> Result<Status, Failure> {
     let text = Text::read(Source::open(line.input()?)?)?.original()?;
     match kovrelna::judge(&text.ticks, &text.values, &list.entries, limits) {
         Ok(Verdict::Within) => output::print("yes\n"),
-        Ok(Verdict::Outside { link }) => {
-            let cause = crossing(&text.ticks, &list.entries[link..], limits.gap);
-            let cause = cause.map_or(String::new(), |cause| format!(": it {cause}"));
-            output::print(format!("no at link {link}{cause}\n"))?;
+        Ok(Verdict::Outside { link, measure }) => {
+            let (from, to) = (list.entries[link], list.entries[link + 1]);
+            let cause = match measure.side {
+                Side::Gap => format!("it {}", crosses(&text.ticks, measure)),
+                _ => lies(&text.ticks, measure),
+            };
+            let link = format!("link {link}, from sample {from} to {to}");
+            output::print(format!("no at {link}: {cause}\n"))?;
             Ok(Status::No)
         }
         Err(Refusal::List(entry)) => Err(list.refused(entry)),

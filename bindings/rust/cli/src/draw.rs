@@ -1,15 +1,15 @@
 //! The command `draw`.
 
-use crate::budget::ratio;
+use crate::budget::{compared, ratio};
 use crate::failure::{Failure, Status};
 use crate::holes::holes;
 use crate::line::{and_gap, Kept, Line, FROM, GAP, METHOD, OUTPUT, TO, TOLERANCE};
 use crate::name::{placed, shown};
 use crate::source::Source;
-use crate::svg::{self, Picture};
+use crate::svg::{self, Picture, Worst};
 use crate::text::Text;
 use crate::{help, output, records};
-use kovrelna::Ratio;
+use kovrelna::{measure, Measure, Ratio};
 use std::ffi::OsString;
 use std::path::Path;
 
@@ -92,6 +92,7 @@ fn picture_of_trace(line: &Line, source: Source) -> Result<(String, Picture), Fa
         return Err(line.wrong(placed(&text.name, cause)));
     };
     let holes = holes(&text.ticks, kept.limits.gap);
+    let worst = worst(&text, &kept.list)?;
     let trace: Vec<_> = text.ticks.into_iter().zip(text.values).collect();
     let counts = match kept.method {
         Some(method) => format!(
@@ -106,6 +107,28 @@ fn picture_of_trace(line: &Line, source: Source) -> Result<(String, Picture), Fa
         Some(_) => trace,
         None => Vec::new(),
     };
-    let picture = Picture::whole(samples, lines, kept.limits.held, holes);
+    let picture = Picture {
+        worst,
+        ..Picture::whole(samples, lines, kept.limits.held, holes)
+    };
     Ok((counts, picture))
+}
+
+/// The sample of the first link whose error is the list's, unless that is 0.
+fn worst(text: &Text, list: &[u16]) -> Result<Option<Worst>, Failure> {
+    let of_link = |link: &[u16]| {
+        let (i, j) = (link[0].into(), link[1].into());
+        measure(&text.ticks, &text.values, i, j).map_err(|refusal| text.refused(refusal))
+    };
+    let measures: Vec<Measure> = list.windows(2).map(of_link).collect::<Result<_, _>>()?;
+    // The greatest error counts as the least: of several, the first is taken.
+    let worst = measures
+        .iter()
+        .min_by(|one, other| compared(&other.error, &one.error));
+    let worst = worst.filter(|worst| worst.error.p > 0);
+    Ok(worst.map(|worst| Worst {
+        tick: text.ticks[worst.sample],
+        error: worst.error,
+        side: worst.side,
+    }))
 }

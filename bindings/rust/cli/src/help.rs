@@ -13,6 +13,7 @@ Usage: kovrelna COMMAND [OPTION..] [FILE..]
   show      print records as text
   judge     say whether a list of samples is within a tolerance
   check     say whether a record may stand for a trace
+  measure   say how far a link strays from its trace, and at which sample
   least     say how near a list of so many samples can come
   near      say how near the lists of walk and gallop are to the shortest
   probes    say how many probes gallop takes
@@ -85,10 +86,18 @@ Exit status: 0 done, 2 error.
 
 pub const JUDGE: &str = "\
 Says whether a list of samples is within a tolerance: prints `yes`, or `no at
-link N` with the first link that some sample is too far from, or `no at link N:
-it crosses the hole from tick A to tick B`. Samples and links are counted from
-0; the list begins with 0, rises, and ends with the last one. INPUT is the
-original trace: samples with a line `# tolerance p/q` are refused.
+link N, from sample I to J: CAUSE` with the first link that is invalid. CAUSE
+is one of
+
+  sample K at tick T lies p/q above the line
+  sample K at tick T lies p/q below the line
+  it crosses the hole from tick A to tick B, and its error is p/q
+
+Of the samples that are farthest from the straight line between the link's
+ends, K is the first, and p/q is its exact distance. A hole is named only if
+every sample is within the tolerance. Samples and links are counted from 0; the
+list begins with 0, rises, and ends with the last one. INPUT is the original
+trace: samples with a line `# tolerance p/q` are refused.
 
 Usage: kovrelna judge -t TOLERANCE [--gap G] -l LIST [INPUT]
        kovrelna judge -t TOLERANCE [--gap G] -f FILE [INPUT]
@@ -108,9 +117,10 @@ Says whether a record may stand for a trace, before the trace is erased: its
 samples are samples of the trace, with the same values, the first and the last
 among them, and every link is valid at the record's own tolerance. No record
 has a gap limit: --gap asks for one here. Prints `yes`, or `no: RECORD: cause`
-with the first sample or link that is wrong. Samples and links are counted from
-0. TRACE is the original trace as text: samples with a line `# tolerance p/q`
-are refused. One of the two may be - for standard input.
+with the first sample or link that is wrong, and where the link strays, as
+`kovrelna judge` does. Samples and links are counted from 0. TRACE is the
+original trace as text: samples with a line `# tolerance p/q` are refused. One
+of the two may be - for standard input.
 
 Usage: kovrelna check [--gap G] RECORD TRACE
 
@@ -119,6 +129,26 @@ Usage: kovrelna check [--gap G] RECORD TRACE
 
 Exit status: 0 yes, 1 no, 2 error (the record is faulty, TRACE is no trace, or
 one of them cannot be read).
+";
+
+pub const MEASURE: &str = "\
+Prints the measure of a link, the straight line from sample I of a trace to
+sample J:
+
+  error p/q    how far the samples between them are from the line at most
+  sample K     the first sample that is so far from it
+  tick T       its tick
+  value V      its value
+  side above   it lies above the line; `side below`: it lies below
+
+Where every sample is on the line, or there is none between, the error is 0/1,
+the sample is I and the side is `on`. Nothing is rounded. Samples are counted
+from 0, as in the lists of `kovrelna judge`; J is above I. INPUT is the
+original trace: samples with a line `# tolerance p/q` are refused.
+
+Usage: kovrelna measure [INPUT] I J
+
+Exit status: 0 done, 2 error.
 ";
 
 pub const LEAST: &str = "\
@@ -203,8 +233,10 @@ Exit status: 0 done, 2 error (also if one record is faulty).
 pub const REPORT: &str = "\
 Prints the sheet of a crate of up to 64 channels: a line for each, with its
 samples, how many of them walk keeps at the tolerance, the error of what is
-kept, 0 or the number of a refusal, and the file; then the totals, with the
-largest error.
+kept, the worst sample, 0 or the number of a refusal, and the file; then the
+totals, with the largest error. The worst sample is the first whose distance
+from its line is the error, counted from 0 in its channel; where the error is 0
+there is none.
 
 Usage: kovrelna report -t TOLERANCE [--gap G] [--csv] [FILE..]
 
@@ -212,7 +244,8 @@ Usage: kovrelna report -t TOLERANCE [--gap G] [--csv] [FILE..]
       --gap G         a link longer than one step crosses no two neighbouring
                       samples more than G ticks apart; default: no limit
       --csv           print CSV for a spreadsheet, with two columns for a ratio
-                      and, if it is given, a last one for the gap limit
+                      and, if it is given, a last one for the gap limit; where
+                      the error is 0, the sample is 0
 
 Each of several files is the trace of a channel; channels are counted from 0.
 One file may have all of them, with the channel's number (0 to 4294967295) in a
@@ -266,7 +299,9 @@ Exit status: 0 nothing is listed, 1 a channel is listed, 2 error.
 pub const DRAW: &str = "\
 Draws a trace with the lines that are kept of it and their tolerance band, as
 SVG, and below it how far the trace is above or below the lines, in the same
-band. With a gap limit nothing but a line that is kept goes across a hole. Of a
+band. An arrowhead points at the worst sample, the first that is farthest from
+its line, with the exact distance below, unless every sample is on the lines.
+With a gap limit nothing but a line that is kept goes across a hole. Of a
 record, or its text as `kovrelna show` prints it, the lines and the band are
 drawn at its own tolerance; its holes are not known.
 

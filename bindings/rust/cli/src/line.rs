@@ -140,7 +140,12 @@ impl Line {
 
     /// The only operand, if there is one.
     pub fn input(&self) -> Result<Option<&OsStr>, Failure> {
-        match &self.arguments.operands[..] {
+        self.only(&self.arguments.operands)
+    }
+
+    /// The only one of these operands, if there is one.
+    pub fn only<'a>(&self, operands: &'a [OsString]) -> Result<Option<&'a OsStr>, Failure> {
+        match operands {
             [] => Ok(None),
             [input] => Ok(Some(input)),
             [_, more, ..] => Err(self.wrong(placed(shown(more), "only one input is read"))),

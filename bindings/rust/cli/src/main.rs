@@ -20,16 +20,18 @@
 //! - `levels`: pictures of two pedestal runs.
 //! - `line`: what the commands share.
 //! - `holes`: holes of a trace.
+//! - `stray`: why a link is invalid, in words.
 //! - `table`: columns, and fields of CSV.
 //! - `counts`: tables of counts.
 //! - `rounded`: numbers that are rounded in print.
 //! - `budget`: what an error budget may say.
 //! - `commands`: one function for each command.
-//! - `check`, `draw`, `near`, `pedestals`, `probes`, `report`, `summary`: commands with a file of their
-//!   own.
+//! - `check`, `draw`, `measure`, `near`, `pedestals`, `probes`, `report`, `summary`: commands with a
+//!   file of their own.
 //!
-//! Which samples are kept, whether a list is within a tolerance, what a tolerance is held as, what is in
-//! a record and which channels have moved or are noisy: all this is asked of the library.
+//! Which samples are kept, whether a list is within a tolerance and where it strays, what a tolerance is
+//! held as, what is in a record and which channels have moved or are noisy: all this is asked of the
+//! library.
 #![deny(unsafe_code)]
 
 mod args;
@@ -48,6 +50,7 @@ mod help;
 mod holes;
 mod levels;
 mod line;
+mod measure;
 mod name;
 mod near;
 mod number;
@@ -59,6 +62,7 @@ mod report;
 mod rounded;
 mod runs;
 mod source;
+mod stray;
 mod summary;
 mod svg;
 mod table;

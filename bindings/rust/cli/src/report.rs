@@ -49,6 +49,8 @@ struct Row {
     samples: usize,
     kept: usize,
     error: Ratio,
+    /// Where the error occurs first, a sample of the channel's own trace, or 0; none for the total.
+    sample: Option<usize>,
     /// The number of the channel's refusal, or 0; none for the total.
     refusal: Option<u32>,
     /// Empty for the total.
@@ -72,6 +74,7 @@ fn rows(channels: &[(u32, Text)], limits: Limits) -> Result<Vec<Row>, Refusal> {
         samples: summary.samples,
         kept: summary.kept,
         error: summary.error,
+        sample: Some(summary.sample),
         refusal: Some(summary.number),
         file: text.name.clone(),
         cause: match text.must_be_a_trace() {
@@ -86,6 +89,7 @@ fn rows(channels: &[(u32, Text)], limits: Limits) -> Result<Vec<Row>, Refusal> {
         samples: totals.samples,
         kept: totals.kept,
         error: totals.error,
+        sample: None,
         refusal: None,
         file: OsString::new(),
         cause: format!("{refused} of {} refused", channels.len()).into(),
@@ -95,14 +99,17 @@ fn rows(channels: &[(u32, Text)], limits: Limits) -> Result<Vec<Row>, Refusal> {
 
 /// The sheet with columns of equal width.
 fn aligned(rows: &[Row], Limits { held, gap, .. }: Limits) -> OsString {
-    let heading = ["channel", "samples", "kept", "error", "refusal"].map(String::from);
-    let mut lines = vec![(heading, OsStr::new("file"))];
+    let heading = ["channel", "samples", "kept", "error", "worst at", "refusal"];
+    let mut lines = vec![(heading.map(String::from), OsStr::new("file"))];
     for row in rows {
+        // Where the error is 0 no sample is the worst.
+        let sample = row.sample.filter(|_| row.error.p > 0);
         let fields = [
             row.channel.clone(),
             row.samples.to_string(),
             row.kept.to_string(),
             ratio(row.error),
+            sample.map_or("-".to_string(), |sample| sample.to_string()),
             row.refusal
                 .map_or("-".to_string(), |number| number.to_string()),
         ];
@@ -120,20 +127,24 @@ fn aligned(rows: &[Row], Limits { held, gap, .. }: Limits) -> OsString {
 /// The sheet for a spreadsheet. A ratio has two columns, as p/q would be taken for a date. The gap limit
 /// has the last one, if it is given.
 fn csv(rows: &[Row], Limits { held, gap, .. }: Limits) -> OsString {
-    let heading = "channel,samples,kept,error p,error q,tolerance p,tolerance q,refusal,file,cause";
+    let heading = "channel,samples,kept,error p,error q,sample,\
+                   tolerance p,tolerance q,refusal,file,cause";
     let (name, gap) = match gap {
         Some(gap) => (",gap limit", format!(",{gap}")),
         None => ("", String::new()),
     };
     let mut sheet = joined(&[&heading, &name, &"\n"]);
     for row in rows {
-        let numbers = [row.error.p, row.error.q, held.p, held.q];
-        let numbers = numbers.map(|number| number.to_string()).join(",");
+        let (channel, samples, kept) = (&row.channel, row.samples, row.kept);
+        let pair = |Ratio { p, q }: Ratio| format!("{p},{q}");
+        let (error, tolerance) = (pair(row.error), pair(held));
+        let sample = row
+            .sample
+            .map_or(String::new(), |sample| sample.to_string());
         let refusal = row
             .refusal
             .map_or(String::new(), |number| number.to_string());
-        let (channel, samples, kept) = (&row.channel, row.samples, row.kept);
-        let fields = format!("{channel},{samples},{kept},{numbers},{refusal},");
+        let fields = format!("{channel},{samples},{kept},{error},{sample},{tolerance},{refusal},");
         let (file, cause) = (quoted(&row.file), quoted(&row.cause));
         sheet.push(joined(&[&fields, &file, &",", &cause, &gap, &"\n"]));
     }

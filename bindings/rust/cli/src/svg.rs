@@ -6,7 +6,16 @@ use crate::chart::{self, dots, path, Axis, Mark, Panel};
 use crate::chart::{BAND, KEPT, LEFT, LINE, RIGHT, SAMPLE};
 use crate::curve::{parts, Curve, Point, Sample, Stretch};
 use crate::holes::Hole;
-use kovrelna::Ratio;
+use kovrelna::{Ratio, Side};
+use std::fmt::Write;
+
+/// The first sample that is farthest from its line.
+pub struct Worst {
+    pub tick: u32,
+    /// How far it is; not 0.
+    pub error: Ratio,
+    pub side: Side,
+}
 
 /// What is drawn.
 pub struct Picture {
@@ -17,12 +26,14 @@ pub struct Picture {
     pub tolerance: Ratio,
     /// The holes of the trace.
     pub holes: Vec<Hole>,
+    /// None if all samples are on the lines, or only the kept ones are known.
+    pub worst: Option<Worst>,
     /// The first and the last tick to be drawn; both are from the first kept sample to the last.
     pub stretch: (u32, u32),
 }
 
 impl Picture {
-    /// All of it.
+    /// All of it, with no worst sample.
     pub fn whole(
         samples: Vec<Sample>,
         kept: Vec<Sample>,
@@ -36,6 +47,7 @@ impl Picture {
             kept,
             tolerance,
             holes,
+            worst: None,
         }
     }
 }
@@ -43,6 +55,8 @@ impl Picture {
 /// The top and the bottom of the trace's panel, and of the distances' below it.
 const TRACE: (f64, f64) = (60.0, 420.0);
 const DISTANCES: (f64, f64) = (440.0, 560.0);
+/// The foot of the words between them.
+const BETWEEN: f64 = 434.5;
 /// Up to so many samples a line joins them.
 const JOINED: usize = 600;
 /// How the band of one sample is drawn, alone and beside other parts of the band.
@@ -119,12 +133,22 @@ pub fn draw(title: &str, picture: &Picture) -> String {
     panel.scales(&mut svg);
     let lines = [stretch];
     curves(&panel, &mut svg, &samples, &kept, tolerance, &parts, &lines);
+    let (from, to) = picture.stretch;
+    let worst = picture.worst.as_ref();
+    let worst = worst.filter(|worst| (from..=to).contains(&worst.tick));
+    if let Some(worst) = worst {
+        point_at(&panel, &mut svg, &samples, worst);
+    }
     if with_samples {
         let panel = distances_panel(&x, picture.tolerance, tolerance);
         panel.scales(&mut svg);
         // The lines are at 0.
         let (samples, kept) = (samples.above(&kept), kept.above(&kept));
         curves(&panel, &mut svg, &samples, &kept, tolerance, &parts, &parts);
+        if let Some(worst) = worst {
+            point_at(&panel, &mut svg, &samples, worst);
+            draw_words(&x, &mut svg, worst);
+        }
     }
     chart::end(&mut svg, &x, bottom, "tick", |tick| tick.to_string());
     svg
@@ -180,6 +204,29 @@ fn curves(
     dots(svg, "kept", width, &places(&drawn, 0.0));
 }
 
+/// An arrowhead at the worst of these samples, from the side where it lies.
+fn point_at(panel: &Panel, svg: &mut String, samples: &Curve, worst: &Worst) {
+    let down = if worst.side == Side::Below { 1.0 } else { -1.0 };
+    let tick = f64::from(worst.tick);
+    for &(tick, height) in samples.between((tick, tick)) {
+        let (x, y) = (panel.x.place(tick), panel.y.place(height) + 4.0 * down);
+        let head = format!("M{x:.1} {y:.1}l-4.5 {}h9Z", 8.0 * down);
+        path(svg, "ink", "", &head);
+    }
+}
+
+/// How far the worst sample is from its line, at its tick as far as there is room.
+fn draw_words(x: &Axis, svg: &mut String, worst: &Worst) {
+    let &Worst { tick, error, side } = worst;
+    let words = format!("worst: {} at tick {tick}, {side}", ratio(error.p, error.q));
+    let half = 3.5 * words.len() as f64;
+    let at = x.place(tick.into()).clamp(LEFT + half, RIGHT - half);
+    let _ = writeln!(
+        svg,
+        "<text class=\"ink\" x=\"{at:.1}\" y=\"{BETWEEN}\" text-anchor=\"middle\">{words}</text>"
+    );
+}
+
 #[cfg(test)]
 mod tests {
     use super::*;
@@ -202,11 +249,17 @@ mod tests {
                 (true, vec![(u32::MAX - 1, u32::MAX)]),
             ] {
                 let drawn = if known { samples.clone() } else { Vec::new() };
-                let picture = Picture::whole(drawn, samples.clone(), Ratio { p, q }, holes);
+                let error = Ratio { p: 1, q: 1_048_575 };
+                let (tick, side) = (samples[0].0, Side::Below);
+                let picture = Picture {
+                    worst: Some(Worst { tick, error, side }),
+                    ..Picture::whole(drawn, samples.clone(), Ratio { p, q }, holes)
+                };
                 let svg = draw("a<b>&\"c\"", &picture);
                 well_formed(&svg);
                 assert_eq!(svg.contains(ALONE), samples.len() == 1);
                 assert_eq!(svg.contains("trace minus lines"), known);
+                assert_eq!(svg.contains(">worst: 1/1048575 at tick "), known);
                 assert_eq!(svg, draw("a<b>&\"c\"", &picture));
             }
         }

@@ -224,10 +224,10 @@ impl List {
             let cause = "no kept list: it does not end with the last sample";
             return Failure::at(&self.name, cause);
         }
-        let refusal = Refusal::List(entry);
+        let cause = format!("no kept list: entry {entry} is bad");
         match self.lines.get(entry) {
-            Some(&line) => Failure::at_line(&self.name, line, refusal),
-            None => Failure::at(&self.name, refusal),
+            Some(&line) => Failure::at_line(&self.name, line, cause),
+            None => Failure::at(&self.name, cause),
         }
     }
 }
@@ -595,9 +595,7 @@ mod tests {
             .contains("is not from 0 to 65535"));
         let list = List::read(Source::of("in", b"0 # first\n3\n\n4")).unwrap();
         assert_eq!(list.entries, [0, 3, 4]);
-        let told = |words: &str| {
-            Failure::Told(format!("{words} is bad, or the list stops short there").into())
-        };
+        let told = |words: &str| Failure::Told(format!("{words} is bad").into());
         assert_eq!(list.refused(2), told("in:4: no kept list: entry 2"));
         let short = "in: no kept list: it does not end with the last sample";
         assert_eq!(list.refused(3), Failure::Told(short.into()));

@@ -8,6 +8,7 @@ use std::cell::RefCell;
 #[derive(Clone, Copy, Debug, PartialEq, Eq)]
 pub enum Call {
     Hold,
+    Measure,
     Judge,
     Walk,
     Gallop,
@@ -23,8 +24,9 @@ pub enum Call {
 }
 
 /// Every call.
-pub const CALLS: [Call; 13] = [
+pub const CALLS: [Call; 14] = [
     Call::Hold,
+    Call::Measure,
     Call::Judge,
     Call::Walk,
     Call::Gallop,
@@ -49,6 +51,7 @@ impl Call {
     pub fn name(self) -> &'static str {
         match self {
             Call::Hold => "hold",
+            Call::Measure => "measure",
             Call::Judge => "judge",
             Call::Walk => "walk",
             Call::Gallop => "gallop",
@@ -69,6 +72,7 @@ impl Call {
     pub fn rows(self) -> &'static [u32] {
         match self {
             Call::Hold => &[4],
+            Call::Measure => &[1, 2, 3, 6],
             Call::Judge => &[1, 2, 3, 4, 15, 6],
             Call::Walk | Call::Gallop | Call::Minimum => &[1, 2, 3, 4, 15, 10],
             Call::Least => &[1, 2, 3, 15, 5, 16, 10],

@@ -2,27 +2,29 @@
 //! is checked. A check that fails panics, with its input.
 //!
 //! - [`FAMILIES`], [`any`]: every sort, and one drawn from them.
-//! - [`held_tolerances`], [`judge_list`], [`codes`], [`codes_with_tables`], [`round_trip`],
-//!   [`random_commands`], [`comparison`], [`random_faults`], [`crates`], [`pedestal_runs`]: sorts that
-//!   the tests run by themselves too.
+//! - [`held_tolerances`], [`links_measured`], [`judge_list`], [`codes`], [`codes_with_tables`],
+//!   [`round_trip`], [`random_commands`], [`comparison`], [`random_faults`], [`crates`],
+//!   [`pedestal_runs`]: sorts that the tests run by themselves too.
 //! - [`codes_and_room`]: codes, and the entries of their output.
 
 use crate::compare::{
-    exactly, expand, expand_with, form, hold, judge, least, noise, pedestals, ratio, read, reduce,
-    report, same, write,
+    exactly, expand, expand_with, form, hold, judge, least, measure, noise, pedestals, ratio, read,
+    reduce, report, same, write,
 };
+use crate::measures::{self, judged};
 use crate::reductions::{
     any_tolerance, least_list, lists, shortest_lists, size_bounds, tolerances,
 };
 use kovrelna::Tolerance::{self, Counts};
 use kovrelna::GAP_MAX;
 use kovrelna_reference::generate::{
-    any_limited, any_list, channels, content, crate_of, damage_crate, damage_trace, damaged,
-    damaged_table, gap_limit, just_below, range_table, runs, Random, Runs, Trace,
+    any_limited, any_list, any_trace, channels, content, crate_of, damage_crate, damage_trace,
+    damaged, damaged_table, gap_limit, just_below, range_table, runs, tied, Random, Runs, Trace,
 };
 use kovrelna_reference::record::{encode, end, first, long, short, tolerance, Content};
 use kovrelna_reference::{
-    beside_holes, held, link_error, list_error, list_obeys, trace_refusal, Fraction, METHODS, TRIED,
+    beside_holes, held, link_error, link_obeys, list_error, list_obeys, trace_refusal, Fraction,
+    Invalid, Measure, Side, METHODS, TRIED,
 };
 
 /// A sort of case: its name, how often it is drawn, and one case of it.
@@ -33,16 +35,30 @@ pub struct Family {
 }
 
 /// Every sort.
-pub const FAMILIES: [Family; 20] = [
+pub const FAMILIES: [Family; 22] = [
     Family {
         name: "tolerances",
         weight: 40,
         case: held_tolerances,
     },
     Family {
+        name: "links measured",
+        weight: 100,
+        case: |random| {
+            links_measured(40, random);
+        },
+    },
+    Family {
+        name: "links of the longest traces measured",
+        weight: 1,
+        case: |random| {
+            links_measured(4_096, random);
+        },
+    },
+    Family {
         name: "lists judged",
         weight: 100,
-        case: judged,
+        case: lists_judged,
     },
     Family {
         name: "traces reduced",
@@ -168,6 +184,22 @@ pub fn held_tolerances(random: &mut Random) {
     let _ = hold(ratio(random.below(65_540 * q + 2), q));
 }
 
+/// Measures links of a trace of up to so many samples, with equal deviations or any: from end to end,
+/// between opposite samples, between any, and of one step.
+pub fn links_measured(most: i64, random: &mut Random) -> [Measure; 4] {
+    let samples = random.within(2, most) as usize;
+    let trace = match random.below(2) {
+        0 => any_trace(samples, random),
+        _ => tied(samples, random),
+    };
+    let last = samples - 1;
+    let near = random.below(samples as u64 / 2) as usize;
+    let i = random.below(last as u64) as usize;
+    let j = random.within(i as i64 + 1, last as i64) as usize;
+    let links = [(0, last), (near, last - near), (i, j), (i, i + 1)];
+    links.map(|(i, j)| measures::link(&trace, i, j))
+}
+
 fn error(Trace { ticks, values }: &Trace, link: &[u16]) -> Fraction {
     link_error(ticks, values, link[0].into(), link[1].into())
 }
@@ -182,18 +214,22 @@ fn longest_crossed(ticks: &[u32], list: &[u16]) -> Option<u32> {
     steps.max()
 }
 
+/// How often judge said yes; and no for a link that the tolerance alone makes invalid, that the gap limit
+/// alone does, with an error of 0 and with one above, and that both do.
+pub type Answers = [usize; 5];
+
 /// Judges the list at an arbitrary tolerance, and for one of its links and the worst at the error
 /// itself, one unit of the link's own fraction below it, and just below it, all under the gap limit.
 /// At its error it passes without a gap limit, under its longest step that is crossed, and under the gap
-/// limit if it obeys that; one tick below that step it does not. Counts the answers yes and no.
+/// limit if it obeys that; one tick below that step it does not. Counts the answers.
 pub fn judge_list(
     trace: &Trace,
     gap: u32,
     list: &[u16],
     random: &mut Random,
-    answers: &mut [usize; 2],
+    answers: &mut Answers,
 ) {
-    let Trace { ticks, values } = trace;
+    let ticks = &trace.ticks;
     let mut tolerances = vec![any_tolerance(random)];
     let mut links: Vec<&[u16]> = list.windows(2).collect();
     links.sort_by(|a, b| {
@@ -202,13 +238,14 @@ pub fn judge_list(
     });
     if let Some(&worst) = links.last() {
         let at_error = exactly(error(trace, worst));
-        let passes = |gap| judge(ticks, values, list, at_error.with_gap(gap)) == Ok(None);
+        let passes = |gap| judged(trace, list, at_error.with_gap(gap)).is_none();
         assert!(passes(GAP_MAX), "{list:?} {trace:?}");
         let obeys = list_obeys(ticks, list, Some(gap));
         assert_eq!(passes(gap), obeys, "{gap} {list:?} {trace:?}");
         if let Some(step) = longest_crossed(ticks, list) {
             assert!(passes(step), "{step} {list:?} {trace:?}");
-            assert!(!passes(step - 1), "{step} {list:?} {trace:?}");
+            let below = step > 1 && passes(step - 1);
+            assert!(!below, "{step} {list:?} {trace:?}");
         }
         for link in [worst, random.choose(&links)] {
             let Fraction { p, q } = error(trace, link);
@@ -223,20 +260,29 @@ pub fn judge_list(
             }
         }
     }
+    let obeys = |link: usize| {
+        let (i, j) = (list[link].into(), list[link + 1].into());
+        link_obeys(ticks, i, j, Some(gap))
+    };
     for tolerance in tolerances {
-        match judge(ticks, values, list, tolerance.with_gap(gap)) {
-            Ok(None) => answers[0] += 1,
-            Ok(Some(_)) => answers[1] += 1,
-            Err(row) => panic!("refused {row:?}"),
-        }
+        let answer = match judged(trace, list, tolerance.with_gap(gap)) {
+            None => 0,
+            Some(Invalid { link, measure }) => match measure.side {
+                Side::Gap if measure.error.p == 0 => 2,
+                Side::Gap => 3,
+                _ if obeys(link) => 1,
+                _ => 4,
+            },
+        };
+        answers[answer] += 1;
     }
 }
 
-fn judged(random: &mut Random) {
+fn lists_judged(random: &mut Random) {
     let samples = random.within(1, 40) as usize;
     let (trace, gap) = any_limited(samples, random);
     let list = any_list(&trace.ticks, gap, random);
-    judge_list(&trace, gap, &list, random, &mut [0; 2]);
+    judge_list(&trace, gap, &list, random, &mut [0; 5]);
 }
 
 fn reduced(most: i64, random: &mut Random) {
@@ -335,8 +381,8 @@ pub fn round_trip(Trace { ticks, values }: &Trace, gap: u32, random: &mut Random
         let record = match write(ticks, values, &list, limits, size, place) {
             Ok(record) => record,
             Err((7, link)) => {
-                let judged = judge(ticks, values, &list, limits);
-                assert_eq!(judged, Ok(Some(link as usize)));
+                let invalid = judge(ticks, values, &list, limits).unwrap();
+                assert_eq!(invalid.map(|invalid| invalid.link), Some(link as usize));
                 seen.refused += 1;
                 continue;
             }
@@ -443,8 +489,8 @@ pub fn comparison(random: &mut Random) {
     same(&record, &encode(&other)).unwrap();
 }
 
-/// A trace, a list, a tolerance, a gap limit and an output with none, one or two faults, for every call
-/// that takes a trace.
+/// A trace, a list, a tolerance, a gap limit and an output with none, one or two faults, and two samples that
+/// may be none of the trace, for every call that takes a trace.
 pub fn random_faults(random: &mut Random) {
     let samples = random.within(1, 12) as usize;
     let (Trace { mut ticks, values }, mut gap) = any_limited(samples, random);
@@ -467,6 +513,9 @@ pub fn random_faults(random: &mut Random) {
             break;
         }
     }
+    let sample = |random: &mut Random| random.choose(&[0, at, samples - 1, samples, usize::MAX]);
+    let (i, j) = (sample(random), sample(random));
+    let _ = measure(&ticks, &values, i, j);
     let limits = tolerance.with_gap(gap);
     let _ = judge(&ticks, &values, &list, limits);
     for method in METHODS {
@@ -570,7 +619,7 @@ mod tests {
     fn every_row_comes_up() {
         let random = &mut Random::new(24);
         for family in &FAMILIES {
-            (0..3 * family.weight).for_each(|_| (family.case)(random));
+            (0..5 * family.weight).for_each(|_| (family.case)(random));
         }
         for call in CALLS {
             let counts = call.counts();

@@ -8,7 +8,7 @@ use kovrelna_reference::generate::Channels;
 use kovrelna_reference::pedestals::{self, Pedestals};
 use kovrelna_reference::record::{self, Content};
 use kovrelna_reference::report::{self, Report};
-use kovrelna_reference::{Form, Fraction, Least, Method, Reduced, Row};
+use kovrelna_reference::{Form, Fraction, Invalid, Least, Measure, Method, Reduced, Row, Side};
 use std::hint::black_box;
 
 /// The tolerance p/q.
@@ -45,6 +45,24 @@ pub fn asked(limits: Limits) -> kovrelna_reference::Limits<Form> {
     kovrelna_reference::Limits {
         tolerance: form(limits.tolerance),
         gap: gap(limits.gap),
+    }
+}
+
+/// The reference's word for a measure.
+fn measured(measure: kovrelna::Measure) -> Measure {
+    let Ratio { p, q } = measure.error;
+    Measure {
+        error: Fraction {
+            p: p.into(),
+            q: q.into(),
+        },
+        sample: measure.sample,
+        side: match measure.side {
+            kovrelna::Side::On => Side::On,
+            kovrelna::Side::Above => Side::Above,
+            kovrelna::Side::Below => Side::Below,
+            kovrelna::Side::Gap => Side::Gap,
+        },
     }
 }
 
@@ -118,15 +136,35 @@ impl<T: Copy + PartialEq> Guarded<T> {
     }
 }
 
+/// Calls `measure` between two kinds of guard elements, compares with the reference, sees that no
+/// element changed, and returns the measure or the refusal's row.
+pub fn measure(ticks: &[u32], values: &[i16], i: usize, j: usize) -> Result<Measure, Row> {
+    let expected = kovrelna_reference::measure(ticks, values, i, j);
+    Call::Measure.count(&expected);
+    for guards in GUARDS {
+        let ticks = Guarded::new(ticks, guards.0);
+        let values = Guarded::new(values, guards.1);
+        let (t, v) = (ticks.slice(), values.slice());
+        let answer = kovrelna::measure(t, v, i, j).map(measured).map_err(row);
+        let input = || format!("measure {i} to {j} of ticks, values: {t:?} {v:?}");
+        assert_eq!(answer, expected, "{}", input());
+        assert!(
+            ticks.as_expected() && values.as_expected(),
+            "an input or an element beside it was changed\n{}",
+            input()
+        );
+    }
+    expected
+}
+
 /// Calls `judge` between two kinds of guard elements, compares with the reference, sees that no
-/// element changed, and returns the position of the first invalid link, if any, or the refusal's
-/// row.
+/// element changed, and returns the first invalid link, if any, or the refusal's row.
 pub fn judge(
     ticks: &[u32],
     values: &[i16],
     list: &[u16],
     limits: impl Into<Limits>,
-) -> Result<Option<usize>, Row> {
+) -> Result<Option<Invalid>, Row> {
     let limits = limits.into();
     let expected = kovrelna_reference::judge(ticks, values, list, asked(limits));
     Call::Judge.count(&expected);
@@ -136,7 +174,10 @@ pub fn judge(
         let list = Guarded::new(list, guards.2);
         let answer = match kovrelna::judge(ticks.slice(), values.slice(), list.slice(), limits) {
             Ok(Verdict::Within) => Ok(None),
-            Ok(Verdict::Outside { link }) => Ok(Some(link)),
+            Ok(Verdict::Outside { link, measure }) => Ok(Some(Invalid {
+                link,
+                measure: measured(measure),
+            })),
             Err(refusal) => Err(row(refusal)),
         };
         let input = || {
@@ -450,6 +491,7 @@ pub fn report(channels: &Channels, limits: impl Into<Limits>, room: usize) -> Re
             samples: !k,
             kept: !k,
             error: Ratio { p: 7, q: 0 },
+            sample: !k,
             number: u32::MAX ^ guards.0,
         };
         let before: Vec<Summary> = (0..room).map(other).collect();
@@ -490,6 +532,7 @@ fn summary(channel: &report::Channel) -> Summary {
         samples: channel.samples,
         kept: channel.kept,
         error: ratio_of(channel.error),
+        sample: channel.sample,
         number: channel.number,
     }
 }

@@ -3,6 +3,7 @@
 //!
 //! - [`calls`]: the calls, their refusals, and how often each was compared.
 //! - [`compare`]: each call, compared with the reference.
+//! - [`measures`]: what holds of the measures of links, and of judge's no.
 //! - [`reductions`]: what holds of the lists of the reductions.
 //! - [`cases`]: random cases of every sort.
 //! - [`run`]: many cases from one seed.
@@ -11,5 +12,6 @@
 pub mod calls;
 pub mod cases;
 pub mod compare;
+pub mod measures;
 pub mod reductions;
 pub mod run;

@@ -5,6 +5,7 @@
 //! - [`Trace`], [`Kind`], [`trace`]: traces within the limits, of several kinds.
 //! - [`Shape`], [`adversarial`]: traces on which a wrong method differs from a right one.
 //! - [`any_trace`]: of either sort.
+//! - [`tied`], [`repeated`]: traces with equal deviations, and with equally bad links.
 //! - [`Holes`], [`with_holes`], [`gap_limit`], [`any_limited`]: traces and gap limits that matter to them.
 //! - [`kept_list`], [`obeying_list`], [`any_list`], [`damaged`]: kept lists, and lists with one or more
 //!   faults.
@@ -243,6 +244,54 @@ fn any_on(ticks: Vec<u32>, random: &mut Random) -> Trace {
         _ => shaped(random.choose(&SHAPES), &ticks, random),
     };
     Trace { ticks, values }
+}
+
+/// A trace with steps that are the same backwards, so that links between opposite samples have their
+/// deviations in equal pairs: on one side of the line where the values are the same backwards, on either
+/// where they are so and turned over (-1 - v for v). In some the span is the greatest; in some one value or
+/// one tick is one off.
+pub fn tied(samples: usize, random: &mut Random) -> Trace {
+    let Trace { ticks, mut values } = any_trace(samples, random);
+    let last = samples - 1;
+    let mut offsets = vec![0];
+    for k in 0..last {
+        let same = k.min(last - 1 - k);
+        offsets.push(offsets[k] + (ticks[same + 1] - ticks[same]));
+    }
+    let more = random.choose(&[0, 0, (SPAN - offsets[last]) / 2]);
+    let turned = random.below(2) == 0;
+    for k in samples / 2..samples {
+        let opposite = values[last - k];
+        if 2 * k == last {
+            offsets[k] += more;
+        } else {
+            offsets[k] += 2 * more;
+            values[k] = if turned { !opposite } else { opposite };
+        }
+    }
+    let at = random.below(samples as u64) as usize;
+    match random.below(6) {
+        0 => values[at] = values[at].saturating_add(random.choose(&[-1, 1])),
+        1 if at > 0 && offsets[at] - offsets[at - 1] > 1 => offsets[at] -= 1,
+        _ => (),
+    }
+    let ticks = begun(&offsets, random);
+    Trace { ticks, values }
+}
+
+/// A trace of a few samples over and over, in some with a longer step after each time: kept lists have
+/// equally bad links.
+pub fn repeated(samples: usize, random: &mut Random) -> Trace {
+    let few = any_trace(random.within(3, 8) as usize, random).values;
+    let longer = random.choose(&[0, 1, 9]);
+    let offsets: Vec<u32> = (0..samples)
+        .map(|k| (k + longer * (k / few.len())) as u32)
+        .collect();
+    let values = few.iter().copied().cycle().take(samples);
+    Trace {
+        ticks: begun(&offsets, random),
+        values: values.collect(),
+    }
 }
 
 /// Where a trace has holes.
@@ -515,13 +564,16 @@ pub fn crate_of(traces: &[Trace]) -> Channels {
     channels
 }
 
-/// A crate with so many channels: traces of up to `most` samples of any kind or shape, and among them
-/// channels that are none.
+/// A crate with so many channels: traces of up to `most` samples of any kind or shape, some of which repeat a
+/// few samples, and among them channels that are none.
 pub fn channels(count: usize, most: usize, random: &mut Random) -> Channels {
     let mut channels = Channels::default();
     for _ in 0..count {
         let samples = random.within(1, most as i64) as usize;
-        let mut trace = any_trace(samples, random);
+        let mut trace = match random.below(4) {
+            0 => repeated(samples, random),
+            _ => any_trace(samples, random),
+        };
         if random.below(24) < 9 {
             damage_trace(&mut trace, random);
         }
@@ -666,7 +718,7 @@ mod tests {
     use super::*;
     use crate::pedestals::{shift_over, spread_over};
     use crate::record::table_fault;
-    use crate::{link_error, link_valid, list_obeys, list_refusal, trace_refusal};
+    use crate::{above_line, link_error, link_valid, list_obeys, list_refusal, trace_refusal};
 
     #[test]
     fn traces_and_lists_are_within_the_limits() {
@@ -681,7 +733,44 @@ mod tests {
                 let Trace { ticks, values } = adversarial(shape, samples, random);
                 assert_eq!(trace_refusal(&ticks, &values), None, "{shape:?} {samples}");
             }
+            let Trace { ticks, values } = repeated(samples, random);
+            assert_eq!(trace_refusal(&ticks, &values), None, "{samples}");
         }
+    }
+
+    /// Links from end to end whose error occurs once, more than once on one side, and on either; and with a
+    /// deviation at most one count below it. Spans that are the greatest, or one less.
+    #[test]
+    fn ties_of_every_sort() {
+        let random = &mut Random::new(14);
+        let (mut seen, mut spans) = ([0; 4], [0; 2]);
+        for samples in (1..=40).flat_map(|n| [n; 60]).chain([4_095, 4_096]) {
+            let Trace { ticks, values } = tied(samples, random);
+            assert_eq!(trace_refusal(&ticks, &values), None, "{samples}");
+            let last = samples - 1;
+            let span = ticks[last] - ticks[0];
+            if span + 1 >= SPAN {
+                spans[(SPAN - span) as usize] += 1;
+            }
+            let heights: Vec<i128> = (1..last)
+                .map(|k| above_line(&ticks, &values, 0, last, k).p)
+                .collect();
+            let Some(most) = heights.iter().map(|height| height.abs()).max() else {
+                continue;
+            };
+            let is = |height: i128| heights.iter().filter(|&&here| here == height).count();
+            if most > 0 {
+                match (is(most), is(-most)) {
+                    (1, 0) | (0, 1) => seen[0] += 1,
+                    (0, _) | (_, 0) => seen[1] += 1,
+                    _ => seen[2] += 1,
+                }
+            }
+            let near = |height: &i128| (1..=i128::from(span)).contains(&(most - height.abs()));
+            seen[3] += usize::from(heights.iter().any(near));
+        }
+        let seen = seen.iter().chain(&spans);
+        assert!(seen.clone().min() > Some(&100), "{seen:?}");
     }
 
     /// Traces have holes where they should, of one tick and of more, and other steps of exactly the gap

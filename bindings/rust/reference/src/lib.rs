@@ -1,14 +1,16 @@
-//! The slow reference: document 01 and the first, third, fourth and sixth request of document 02 once
-//! more, in exact whole numbers, clear before fast. It knows nothing of the library that is compared with
-//! it.
+//! The slow reference: document 01 and what document 02 says of the calls once more, in exact whole
+//! numbers, clear before fast. It knows nothing of the library that is compared with it.
 //!
 //! - [`Fraction`]: exact fractions, compared by cross multiplication.
 //! - [`Limits`]: what a link is asked to meet.
-//! - [`deviation`], [`link_error`], [`link_obeys`], [`link_valid`], [`valid_ends`]: links of a trace.
-//! - [`list_error`], [`list_obeys`], [`beside_holes`]: kept lists.
+//! - [`above_line`], [`deviation`], [`link_error`], [`link_obeys`], [`link_valid`], [`valid_ends`]: links
+//!   of a trace.
+//! - [`Side`], [`Measure`], [`link_measure`]: a link's error, the sample where it occurs, and its side.
+//! - [`list_error`], [`worst_sample`], [`list_obeys`], [`beside_holes`]: kept lists.
 //! - [`Form`], [`held`]: the three forms of a tolerance.
 //! - [`trace_refusal`], [`list_refusal`]: rows 1 to 3 and row 6 of the table of refusals.
-//! - [`judge`]: the call.
+//! - [`measure`]: the call.
+//! - [`Invalid`], [`judge`]: the call.
 //! - [`Method`], [`Reduced`], [`reduce`]: the calls walk, gallop and minimum.
 //! - [`Least`], [`least`]: the call.
 //! - [`kept_lists`]: every kept list.
@@ -125,14 +127,20 @@ fn check_gap(gap: Option<u32>) -> Result<(), Row> {
     }
 }
 
-/// The vertical distance from value k to the straight line through samples i and j.
-pub fn deviation(ticks: &[u32], values: &[i16], i: usize, j: usize, k: usize) -> Fraction {
+/// By how much value k lies above the straight line through samples i and j; negative if it lies below.
+pub fn above_line(ticks: &[u32], values: &[i16], i: usize, j: usize, k: usize) -> Fraction {
     let t = |sample: usize| i128::from(ticks[sample]);
     let v = |sample: usize| i128::from(values[sample]);
     Fraction {
-        p: ((v(k) - v(i)) * (t(j) - t(i)) - (v(j) - v(i)) * (t(k) - t(i))).abs(),
+        p: (v(k) - v(i)) * (t(j) - t(i)) - (v(j) - v(i)) * (t(k) - t(i)),
         q: t(j) - t(i),
     }
+}
+
+/// The vertical distance from value k to the straight line through samples i and j.
+pub fn deviation(ticks: &[u32], values: &[i16], i: usize, j: usize, k: usize) -> Fraction {
+    let Fraction { p, q } = above_line(ticks, values, i, j, k);
+    Fraction { p: p.abs(), q }
 }
 
 /// The greatest deviation between samples i and j, 0 where nothing lies between; in lowest terms.
@@ -147,6 +155,49 @@ pub fn link_error(ticks: &[u32], values: &[i16], i: usize, j: usize) -> Fraction
     error.lowest()
 }
 
+/// Where a sample lies beside a link: on its line, above it, below it, or before a hole that alone makes
+/// the link invalid.
+#[derive(Clone, Copy, Debug, PartialEq, Eq)]
+pub enum Side {
+    On,
+    Above,
+    Below,
+    Gap,
+}
+
+/// A link's error in lowest terms, a sample, and where it lies.
+#[derive(Clone, Copy, Debug, PartialEq, Eq)]
+pub struct Measure {
+    pub error: Fraction,
+    pub sample: usize,
+    pub side: Side,
+}
+
+/// The link's error, and the first sample whose deviation it is; sample i if it is 0.
+pub fn link_measure(ticks: &[u32], values: &[i16], i: usize, j: usize) -> Measure {
+    let error = link_error(ticks, values, i, j);
+    if error.p == 0 {
+        return Measure {
+            error,
+            sample: i,
+            side: Side::On,
+        };
+    }
+    // No deviation is above the error.
+    let sample = (i + 1..j)
+        .find(|&k| error.at_most(deviation(ticks, values, i, j, k)))
+        .expect("some deviation is the error");
+    let side = match above_line(ticks, values, i, j, sample).p {
+        1.. => Side::Above,
+        _ => Side::Below,
+    };
+    Measure {
+        error,
+        sample,
+        side,
+    }
+}
+
 /// The error of the list's worst link, 0 where there is none.
 pub fn list_error(ticks: &[u32], values: &[i16], list: &[u16]) -> Fraction {
     let mut worst = Fraction { p: 0, q: 1 };
@@ -157,6 +208,16 @@ pub fn list_error(ticks: &[u32], values: &[i16], list: &[u16]) -> Fraction {
         }
     }
     worst
+}
+
+/// The sample of the measure of the first link whose error is the list's, 0 where there is no link.
+pub fn worst_sample(ticks: &[u32], values: &[i16], list: &[u16]) -> usize {
+    let error = list_error(ticks, values, list);
+    let mut measures = list
+        .windows(2)
+        .map(|link| link_measure(ticks, values, link[0].into(), link[1].into()));
+    let worst = measures.find(|measure| measure.error == error);
+    worst.map_or(0, |measure| measure.sample)
 }
 
 /// Whether samples k and k + 1 lie more ticks apart than the gap limit.
@@ -329,13 +390,56 @@ pub fn list_refusal(samples: usize, list: &[u16]) -> Option<Row> {
     }
 }
 
-/// The first row that fits, or the position of the first invalid link, or nothing if all are valid.
+/// The first row that fits, or the measure of the link from sample i to sample j.
+pub fn measure(ticks: &[u32], values: &[i16], i: usize, j: usize) -> Result<Measure, Row> {
+    if let Some(row) = trace_refusal(ticks, values) {
+        return Err(row);
+    }
+    let samples = 0..ticks.len();
+    if !samples.contains(&i) {
+        return Err((6, 0));
+    }
+    if !samples.contains(&j) || j <= i {
+        return Err((6, 1));
+    }
+    Ok(link_measure(ticks, values, i, j))
+}
+
+/// A list's first invalid link: its position, and where it strays.
+#[derive(Clone, Copy, Debug, PartialEq, Eq)]
+pub struct Invalid {
+    pub link: usize,
+    pub measure: Measure,
+}
+
+/// Where an invalid link strays: its measure, if some sample is not within the tolerance. Otherwise only
+/// the gap limit makes it invalid: its error, and the sample before its first hole.
+fn strays(
+    ticks: &[u32],
+    values: &[i16],
+    i: usize,
+    j: usize,
+    Limits { tolerance, gap }: Limits<Fraction>,
+) -> Measure {
+    let measure = link_measure(ticks, values, i, j);
+    if !link_valid(ticks, values, i, j, tolerance) {
+        return measure;
+    }
+    let hole = (i..j).find(|&k| is_hole(ticks, k, gap));
+    Measure {
+        sample: hole.expect("an invalid link within the tolerance crosses a hole"),
+        side: Side::Gap,
+        ..measure
+    }
+}
+
+/// The first row that fits, or the first invalid link, or nothing if all are valid.
 pub fn judge(
     ticks: &[u32],
     values: &[i16],
     list: &[u16],
     limits: impl Into<Limits<Form>>,
-) -> Result<Option<usize>, Row> {
+) -> Result<Option<Invalid>, Row> {
     if let Some(row) = trace_refusal(ticks, values) {
         return Err(row);
     }
@@ -343,15 +447,14 @@ pub fn judge(
     if let Some(row) = list_refusal(ticks.len(), list) {
         return Err(row);
     }
-    Ok(list.windows(2).position(|link| {
-        !link_valid(
-            ticks,
-            values,
-            usize::from(link[0]),
-            usize::from(link[1]),
-            limits,
-        )
-    }))
+    for (link, ends) in list.windows(2).enumerate() {
+        let (i, j) = (usize::from(ends[0]), usize::from(ends[1]));
+        if !link_valid(ticks, values, i, j, limits) {
+            let measure = strays(ticks, values, i, j, limits);
+            return Ok(Some(Invalid { link, measure }));
+        }
+    }
+    Ok(None)
 }
 
 /// How a kept list is found.
@@ -615,7 +718,7 @@ fn fewest_of(samples: usize, link: impl Fn(usize, usize) -> bool) -> usize {
 #[cfg(test)]
 mod tests {
     use super::*;
-    use generate::{any_limited, any_trace, Random, Trace};
+    use generate::{any_limited, any_trace, tied, Random, Trace};
 
     const EVEN: [u32; 5] = [0, 1, 2, 3, 4];
 
@@ -640,6 +743,112 @@ mod tests {
         assert_eq!(trace_refusal(&[0, 1_048_575], &[0, 0]), None);
         assert_eq!(trace_refusal(&[0, 1_048_576], &[0, 0]), Some((3, 1)));
         assert_eq!(trace_refusal(&[5, 5], &[0, 0]), Some((2, 1)));
+    }
+
+    #[test]
+    fn measures() {
+        use Side::{Above, Below, On};
+        let (wave, zigzag) = ([0, 2, 0, -2, 0], [0, 3, 0, 3, 0]);
+        type Case<'a> = (
+            &'a [u32],
+            &'a [i16],
+            (usize, usize),
+            (i128, i128),
+            usize,
+            Side,
+        );
+        let cases: [Case; 9] = [
+            (&[0, 1, 3], &[0, 1, 1], (0, 2), (2, 3), 1, Above),
+            (&[0, 1, 3], &[0, 0, 0], (0, 2), (0, 1), 0, On),
+            (&[0, 1, 3], &[0, 1, 1], (1, 2), (0, 1), 1, On),
+            (&EVEN, &wave, (0, 4), (2, 1), 1, Above),
+            (&EVEN, &wave, (2, 4), (2, 1), 3, Below),
+            (&EVEN, &wave, (1, 4), (8, 3), 3, Below),
+            (&EVEN, &zigzag, (0, 3), (2, 1), 1, Above),
+            (&EVEN, &zigzag, (1, 4), (2, 1), 2, Below),
+            (&EVEN[..4], &[1, 0, 1, -1], (0, 3), (4, 3), 2, Above),
+        ];
+        for (ticks, values, (i, j), (p, q), sample, side) in cases {
+            let expected = Measure {
+                error: fraction(p, q),
+                sample,
+                side,
+            };
+            assert_eq!(measure(ticks, values, i, j), Ok(expected), "{values:?}");
+        }
+        for (i, j, value) in [(5, 5, 0), (5, 0, 0), (4, 5, 1), (3, 3, 1), (3, 2, 1)] {
+            assert_eq!(measure(&EVEN, &wave, i, j), Err((6, value)), "{i} {j}");
+        }
+        assert_eq!(measure(&[7], &[7], 0, 0), Err((6, 1)));
+        assert_eq!(measure(&[5, 5], &[0, 0], 9, 9), Err((2, 1)));
+    }
+
+    /// Every deviation by itself: the first of the greatest is the measure's, and its sample lies above the
+    /// line exactly if the slope to it from sample i is greater than that of the line.
+    #[test]
+    fn measures_by_all_deviations() {
+        let random = &mut Random::new(15);
+        for _ in 0..1_500 {
+            let samples = random.within(2, 12) as usize;
+            let trace = match random.below(2) {
+                0 => any_trace(samples, random),
+                _ => tied(samples, random),
+            };
+            let Trace { ticks, values } = &trace;
+            for (i, j) in (1..samples).flat_map(|j| (0..j).map(move |i| (i, j))) {
+                let mut deviations: Vec<(usize, Fraction)> = (i + 1..j)
+                    .map(|k| (k, deviation(ticks, values, i, j, k)))
+                    .collect();
+                // They have the same denominator.
+                deviations.sort_by_key(|&(k, Fraction { p, .. })| (Reverse(p), k));
+                let slope = |k: usize| Fraction {
+                    p: i128::from(values[k]) - i128::from(values[i]),
+                    q: i128::from(ticks[k] - ticks[i]),
+                };
+                let (sample, error, side) = match deviations.first() {
+                    Some(&(k, error)) if error.p > 0 => match slope(k).at_most(slope(j)) {
+                        false => (k, error, Side::Above),
+                        true => (k, error, Side::Below),
+                    },
+                    _ => (i, fraction(0, 1), Side::On),
+                };
+                let expected = Measure {
+                    error: error.lowest(),
+                    sample,
+                    side,
+                };
+                let found = link_measure(ticks, values, i, j);
+                assert_eq!(found, expected, "{i} {j} {trace:?}");
+            }
+        }
+    }
+
+    /// A link that the tolerance makes invalid, one that only the gap limit does, with an error and without,
+    /// and one that both do.
+    #[test]
+    fn invalid_links() {
+        let (ticks, values) = ([0, 1, 2, 5, 6, 9], [0, 2, 0, 0, 0, 0]);
+        let judged = |list: &[u16], p, gap| {
+            let limits = Limits {
+                tolerance: Form::Ratio(p, 1),
+                gap: Some(gap),
+            };
+            judge(&ticks, &values, list, limits).unwrap()
+        };
+        let invalid = |link, p, sample, side| {
+            let error = fraction(p, 1);
+            let measure = Measure {
+                error,
+                sample,
+                side,
+            };
+            Some(Invalid { link, measure })
+        };
+        assert_eq!(judged(&[0, 5], 2, 3), None);
+        assert_eq!(judged(&[0, 5], 1, 3), invalid(0, 2, 1, Side::Above));
+        assert_eq!(judged(&[0, 5], 2, 2), invalid(0, 2, 2, Side::Gap));
+        assert_eq!(judged(&[0, 5], 1, 2), invalid(0, 2, 1, Side::Above));
+        assert_eq!(judged(&[0, 1, 2, 3, 5], 0, 2), invalid(3, 0, 4, Side::Gap));
     }
 
     #[test]
@@ -702,8 +911,14 @@ mod tests {
         // A link of one step is valid, also across a hole.
         let judged = |list: &[u16], gap| judge(&ticks, &values, list, under(gap));
         assert_eq!(judged(&[0, 2, 3, 5], 7), Ok(None));
-        assert_eq!(judged(&[0, 2, 5], 7), Ok(Some(1)));
-        assert_eq!(judged(&[0, 3, 5], 7), Ok(Some(0)));
+        let measure = Measure {
+            error: fraction(0, 1),
+            sample: 2,
+            side: Side::Gap,
+        };
+        let invalid = |link| Ok(Some(Invalid { link, measure }));
+        assert_eq!(judged(&[0, 2, 5], 7), invalid(1));
+        assert_eq!(judged(&[0, 3, 5], 7), invalid(0));
         assert_eq!(judged(&[0, 3, 5], 8), Ok(None));
         assert!(link_obeys(&ticks, 2, 3, Some(7)) && !link_obeys(&ticks, 2, 4, Some(7)));
         let kept = reduce(Method::Walk, &[0, 2, 3], &[0; 3], under(1), 3);

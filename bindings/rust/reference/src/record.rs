@@ -5,7 +5,7 @@
 //! - [`tolerance`], [`first`], [`short`], [`long`], [`end`]: the commands.
 //! - [`write()`], [`read`], [`same`]: the calls.
 
-use crate::{held, judge, Form, Fraction, Limits, Row, SAMPLES, SPAN};
+use crate::{held, judge, Form, Fraction, Invalid, Limits, Row, SAMPLES, SPAN};
 
 /// The value of a range code.
 pub fn code_value(code: u8) -> i16 {
@@ -212,7 +212,7 @@ pub fn write(
     place: usize,
 ) -> Result<Vec<u8>, Row> {
     let limits = limits.into();
-    if let Some(link) = judge(ticks, values, list, limits)? {
+    if let Some(Invalid { link, .. }) = judge(ticks, values, list, limits)? {
         return Err((7, link as u64));
     }
     let kept = |&k: &u16| (ticks[usize::from(k)], values[usize::from(k)]);

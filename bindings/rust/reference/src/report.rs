@@ -1,19 +1,20 @@
 //! The report on a crate: the first request of document 02.
 
-use crate::{list_error, reduce, Form, Fraction, Limits, Method, Row};
+use crate::{list_error, reduce, worst_sample, Form, Fraction, Limits, Method, Row};
 
 /// The most channels of a crate.
 pub const CHANNELS: usize = 64;
 
 const ZERO: Fraction = Fraction { p: 0, q: 1 };
 
-/// The summary of a channel: its samples, walk's kept number, the error of walk's list, and a refusal's
-/// number or 0.
+/// The summary of a channel: its samples, walk's kept number, the error of walk's list and the sample of
+/// its first worst link, and a refusal's number or 0.
 #[derive(Clone, Copy, Debug, PartialEq, Eq)]
 pub struct Channel {
     pub samples: usize,
     pub kept: usize,
     pub error: Fraction,
+    pub sample: usize,
     pub number: u32,
 }
 
@@ -78,12 +79,14 @@ fn channel(ticks: &[u32], values: &[i16], limits: Limits<Form>) -> Channel {
             samples,
             kept: walk.list.len(),
             error: list_error(ticks, values, &walk.list),
+            sample: worst_sample(ticks, values, &walk.list),
             number: 0,
         },
         Err((number, _)) => Channel {
             samples: 0,
             kept: 0,
             error: ZERO,
+            sample: 0,
             number,
         },
     }
@@ -102,18 +105,19 @@ mod tests {
         let report = |lengths: &[usize], limits: Limits<Form>, room| {
             report(&ticks, &values, lengths, limits, room)
         };
-        let row = |samples, kept, p, number| Channel {
+        let row = |samples, kept, p, sample, number| Channel {
             samples,
             kept,
             error: Fraction { p, q: 1 },
+            sample,
             number,
         };
         let expected = Report {
             channels: vec![
-                row(5, 3, 2, 0),
-                row(0, 0, 0, 1),
-                row(0, 0, 0, 2),
-                row(1, 1, 0, 0),
+                row(5, 3, 2, 1, 0),
+                row(0, 0, 0, 0, 1),
+                row(0, 0, 0, 0, 2),
+                row(1, 1, 0, 0, 0),
             ],
             samples: 6,
             kept: 4,
@@ -131,6 +135,21 @@ mod tests {
         for lengths in [&[5, 0, 2][..], &[5, 0, 2, 2], &[], &[usize::MAX, 9]] {
             assert_eq!(report(lengths, none, 0), Err((11, 0)));
         }
+    }
+
+    /// Three bursts, of which the last two are equally bad; the same turned over; and a line.
+    #[test]
+    fn worst_samples() {
+        let ticks = [[0, 1, 2, 5, 6, 7, 10, 11, 12]; 3].concat();
+        let bursts = [0, 1, 0, 0, 2, 0, 0, -2, 0];
+        let values = [bursts, bursts.map(|value| -value), [7; 9]].concat();
+        let limits = Limits {
+            tolerance: Form::Ratio(2, 1),
+            gap: Some(2),
+        };
+        let report = report(&ticks, &values, &[9; 3], limits, 3).unwrap();
+        let found = report.channels.iter().map(|row| (row.error.p, row.sample));
+        assert_eq!(found.collect::<Vec<_>>(), [(2, 4), (2, 4), (0, 0)]);
     }
 
     /// The same ticks in two channels, of which the second has a longer step.

@@ -1,9 +1,12 @@
 use kovrelna::{Tolerance, GAP_MAX};
 use kovrelna_evidence::compare::{
-    expand, expand_with, hold, judge, least, noise, ratio, read, reduce, write,
+    expand, expand_with, hold, judge, least, measure, noise, ratio, read, reduce, write,
 };
 use kovrelna_reference::record::{end, first, long, short, tolerance, Content};
-use kovrelna_reference::{list_error, Fraction, Method, Reduced, METHODS};
+use kovrelna_reference::Side::{Above, Below, Gap, On};
+use kovrelna_reference::{list_error, Fraction, Invalid, Method, Reduced, METHODS};
+
+use crate::{invalid, measure_of};
 
 const EVEN: [u32; 5] = [0, 1, 2, 3, 4];
 const ZIGZAG: [i16; 5] = [0, 3, 0, 3, 0];
@@ -12,16 +15,36 @@ const WAVE: [i16; 5] = [0, 2, 0, -2, 0];
 #[test]
 fn lists() {
     let all: &[u16] = &[0, 1, 2, 3, 4];
-    type Case<'a> = (&'a [i16; 5], &'a [u16], Tolerance, Option<usize>);
+    type Case<'a> = (&'a [i16; 5], &'a [u16], Tolerance, Option<Invalid>);
     let cases: [Case; 16] = [
         // Tolerance 2: what walk and gallop keep, the minimum, and what it avoids.
         (&ZIGZAG, all, ratio(2, 1), None),
         (&ZIGZAG, &[0, 3, 4], ratio(2, 1), None),
-        (&ZIGZAG, &[0, 2, 3, 4], ratio(2, 1), Some(0)),
+        (
+            &ZIGZAG,
+            &[0, 2, 3, 4],
+            ratio(2, 1),
+            Some(invalid(0, (3, 1), 1, Above)),
+        ),
         (&ZIGZAG, &[0, 1, 4], ratio(2, 1), None),
-        (&ZIGZAG, &[0, 1, 3, 4], ratio(2, 1), Some(1)),
-        (&ZIGZAG, &[0, 1, 2, 4], ratio(2, 1), Some(2)),
-        (&ZIGZAG, &[0, 4], ratio(2, 1), Some(0)),
+        (
+            &ZIGZAG,
+            &[0, 1, 3, 4],
+            ratio(2, 1),
+            Some(invalid(1, (3, 1), 2, Below)),
+        ),
+        (
+            &ZIGZAG,
+            &[0, 1, 2, 4],
+            ratio(2, 1),
+            Some(invalid(2, (3, 1), 3, Above)),
+        ),
+        (
+            &ZIGZAG,
+            &[0, 4],
+            ratio(2, 1),
+            Some(invalid(0, (3, 1), 1, Above)),
+        ),
         // Tolerance 3, in all forms.
         (&ZIGZAG, &[0, 4], ratio(3, 1), None),
         (&ZIGZAG, &[0, 4], Tolerance::Counts(3.0), None),
@@ -31,19 +54,24 @@ fn lists() {
             &ZIGZAG,
             &[0, 4],
             ratio(3 * 1_048_575 - 1, 1_048_575),
-            Some(0),
+            Some(invalid(0, (3, 1), 1, Above)),
         ),
         (
             &ZIGZAG,
             &[0, 3, 4],
             ratio(2 * 1_048_575 - 1, 1_048_575),
-            Some(0),
+            Some(invalid(0, (2, 1), 1, Above)),
         ),
         (&ZIGZAG, all, ratio(0, 1), None),
         // The fourth figure.
         (&WAVE, &[0, 2, 4], ratio(2, 1), None),
         (&WAVE, &[0, 4], ratio(2, 1), None),
-        (&WAVE, &[0, 2, 4], Tolerance::Counts(1.984_375), Some(0)),
+        (
+            &WAVE,
+            &[0, 2, 4],
+            Tolerance::Counts(1.984_375),
+            Some(invalid(0, (2, 1), 1, Above)),
+        ),
     ];
     for (values, list, tolerance, expected) in cases {
         let answer = judge(&EVEN, values, list, tolerance);
@@ -120,7 +148,7 @@ fn holes() {
         }
     }
     let ends = judge(&ticks, &values, &[0, 5], ratio(0, 1).with_gap(7));
-    assert_eq!(ends, Ok(Some(0)));
+    assert_eq!(ends, Ok(Some(invalid(0, (0, 1), 2, Gap))));
     let least = |gap, allowance| least(&ticks, &values, gap, allowance, 6);
     assert_eq!(least(7, 2), Err((16, 0)));
     assert_eq!(least(7, 3), Err((16, 0)));
@@ -149,23 +177,48 @@ fn a_shorter_list_that_does_not_obey() {
         list_error(&ticks, &values, &[0, 2]),
         Fraction { p: 0, q: 1 }
     );
-    assert_eq!(judge(&ticks, &values, &[0, 2], limits), Ok(Some(0)));
+    let gap = invalid(0, (0, 1), 0, Gap);
+    assert_eq!(judge(&ticks, &values, &[0, 2], limits), Ok(Some(gap)));
     assert_eq!(judge(&ticks, &values, &[0, 2], ratio(0, 1)), Ok(None));
 }
 
 #[test]
 fn two_thirds() {
     assert_eq!(hold(ratio(4, 6)), Ok((2, 3)));
+    let outside = Some(invalid(0, (2, 3), 1, Above));
     for (tolerance, expected) in [
         (ratio(4, 6), None),
         (ratio(2, 3), None),
-        (ratio(665, 1000), Some(0)),
+        (ratio(665, 1000), outside),
         (ratio(667, 1000), None),
         (Tolerance::Counts(0.671_875), None),
-        (Tolerance::Counts(0.656_25), Some(0)),
+        (Tolerance::Counts(0.656_25), outside),
     ] {
         let answer = judge(&[0, 1, 3], &[0, 1, 1], &[0, 2], tolerance);
         assert_eq!(answer, Ok(expected), "{tolerance:?}");
+    }
+}
+
+/// Document 02, "Where the line strays".
+#[test]
+fn measures() {
+    for (values, expected) in [
+        ([0, 1, 1], measure_of(2, 3, 1, Above)),
+        ([0, -1, -1], measure_of(2, 3, 1, Below)),
+        ([0, 0, 0], measure_of(0, 1, 0, On)),
+    ] {
+        assert_eq!(measure(&[0, 1, 3], &values, 0, 2), Ok(expected));
+    }
+    for (values, i, j, expected) in [
+        (&WAVE, 0, 4, measure_of(2, 1, 1, Above)),
+        (&WAVE, 2, 4, measure_of(2, 1, 3, Below)),
+        (&WAVE, 1, 4, measure_of(8, 3, 3, Below)),
+        (&WAVE, 1, 3, measure_of(0, 1, 1, On)),
+        (&WAVE, 3, 4, measure_of(0, 1, 3, On)),
+        (&ZIGZAG, 0, 3, measure_of(2, 1, 1, Above)),
+        (&ZIGZAG, 1, 4, measure_of(2, 1, 2, Below)),
+    ] {
+        assert_eq!(measure(&EVEN, values, i, j), Ok(expected), "{i} {j}");
     }
 }
 

@@ -6,9 +6,9 @@ use kovrelna_evidence::reductions::{
     any_tolerance, least_list, lists, shortest_lists, size_bounds, tolerances,
 };
 use kovrelna_reference::generate::{any_trace, gap_limit, with_holes, Holes, Random, Trace, HOLES};
-use kovrelna_reference::{kept_lists, METHODS, TRIED};
+use kovrelna_reference::{kept_lists, Side, METHODS, TRIED};
 
-use crate::SMALL_TOLERANCES;
+use crate::{invalid, SMALL_TOLERANCES};
 
 #[test]
 fn random_traces() {
@@ -107,7 +107,8 @@ fn from_the_longest_step_on() {
 
 /// A link of three steps, of which one is longer than the others: under a gap limit of exactly its ticks
 /// the link is valid, under one less it is not, wherever the step is and whatever its ticks. The link is
-/// the first, the second or the third of a list, and its position is named. Links of one step are valid.
+/// the first, the second or the third of a list, and its position is named, with the sample before the
+/// step. Links of one step are valid.
 #[test]
 fn exactly_the_limit() {
     for step in [2, 3, 255, 256, 65_536, 1_048_569] {
@@ -130,10 +131,41 @@ fn exactly_the_limit() {
                 assert_eq!(judged(step), Ok(None), "{}", input());
                 let record = written(step).unwrap();
                 assert_eq!(written(GAP_MAX).as_ref(), Ok(&record), "{}", input());
-                assert_eq!(judged(step - 1), Ok(Some(from)), "{}", input());
+                let hole = invalid(from, (0, 1), from + longer, Side::Gap);
+                assert_eq!(judged(step - 1), Ok(Some(hole)), "{}", input());
                 assert_eq!(written(step - 1), Err((7, from as u64)), "{}", input());
                 let all: Vec<u16> = (0..6).collect();
                 assert_eq!(judge(&ticks, &values, &all, under(1)), Ok(None));
+            }
+        }
+    }
+}
+
+/// A link of five steps with one hole or two and one sample beside the line: as long as that sample is within
+/// the tolerance, the first hole is named, otherwise the sample.
+#[test]
+fn holes_and_the_tolerance() {
+    for (one, two) in (0..5).flat_map(|one| (one..5).map(move |two| (one, two))) {
+        let mut ticks = vec![7];
+        for k in 0..5 {
+            let step = if k == one || k == two { 5 } else { 4 - k % 2 };
+            ticks.push(ticks[k] + step as u32);
+        }
+        for sample in 1..5 {
+            for height in [-3i16, -1, 0, 1, 3] {
+                let mut values = [-9; 6];
+                values[sample] += height;
+                let error = (height.abs().into(), 1);
+                for p in [0, 1, 2, 3, 65_535] {
+                    let expected = match height {
+                        _ if height.unsigned_abs() <= p => invalid(0, error, one, Side::Gap),
+                        1.. => invalid(0, error, sample, Side::Above),
+                        _ => invalid(0, error, sample, Side::Below),
+                    };
+                    let limits = ratio(p.into(), 1).with_gap(4);
+                    let judged = judge(&ticks, &values, &[0, 5], limits);
+                    assert_eq!(judged, Ok(Some(expected)), "{ticks:?} {values:?} {p}");
+                }
             }
         }
     }
@@ -146,20 +178,20 @@ fn the_first_invalid_link() {
     let ticks = [0, 1, 2, 5, 6, 7, 8, 9, 13];
     let values = [0, 1, 0, 0, 0, 1, 0, 0, 0];
     let list = [0, 2, 4, 6, 8];
-    for (p, gap, link) in [
-        (0, 1, Some(0)),
-        (0, 4, Some(0)),
-        (1, 2, Some(1)),
-        (1, 3, Some(3)),
+    for (p, gap, expected) in [
+        (0, 1, Some(invalid(0, (1, 1), 1, Side::Above))),
+        (0, 4, Some(invalid(0, (1, 1), 1, Side::Above))),
+        (1, 2, Some(invalid(1, (0, 1), 2, Side::Gap))),
+        (1, 3, Some(invalid(3, (0, 1), 7, Side::Gap))),
         (1, 4, None),
     ] {
         let limits = ratio(p, 1).with_gap(gap);
         assert_eq!(
             judge(&ticks, &values, &list, limits),
-            Ok(link),
+            Ok(expected),
             "{limits:?}"
         );
-        let row = link.map(|link| (7, link as u64));
+        let row = expected.map(|invalid| (7, invalid.link as u64));
         let written = write(&ticks, &values, &list, limits, 50, 0);
         assert_eq!(written.err(), row, "{limits:?}");
     }

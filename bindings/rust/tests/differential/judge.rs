@@ -2,14 +2,17 @@ use kovrelna::GAP_MAX;
 use kovrelna_evidence::cases::judge_list;
 use kovrelna_evidence::compare::{judge, ratio};
 use kovrelna_reference::generate::{any_list, gap_limit, trace, Random, Trace, KINDS};
+use kovrelna_reference::Side;
 
-use crate::SMALL_TOLERANCES;
+use crate::{invalid, SMALL_TOLERANCES};
 
 #[test]
 fn random_traces() {
     let random = &mut Random::new(5);
+    // Traces of some kinds have no straight part.
+    let mut without_error = 0;
     for kind in KINDS {
-        let mut answers = [0; 2];
+        let mut answers = [0; 5];
         for _ in 0..4_000 {
             let samples = random.within(1, 40) as usize;
             let trace = trace(kind, samples, random);
@@ -17,17 +20,22 @@ fn random_traces() {
             let list = any_list(&trace.ticks, gap, random);
             judge_list(&trace, gap, &list, random, &mut answers);
         }
+        let [yes, tolerance, gap_without_error, gap, both] = answers;
         assert!(
-            answers.iter().all(|&count| count > 2_000),
+            [yes, tolerance, gap, both]
+                .iter()
+                .all(|&count| count > 1_000),
             "{kind:?} {answers:?}"
         );
+        without_error += gap_without_error;
     }
+    assert!(without_error > 1_000, "{without_error}");
 }
 
 #[test]
 fn long_traces() {
     let random = &mut Random::new(6);
-    let mut answers = [0; 2];
+    let mut answers = [0; 5];
     for samples in [1_000, 4_095, 4_096] {
         for kind in KINDS {
             let trace = trace(kind, samples, random);
@@ -40,7 +48,11 @@ fn long_traces() {
             }
         }
     }
-    assert!(answers.iter().all(|&count| count > 200), "{answers:?}");
+    let [yes, tolerance, _, gap, both] = answers;
+    assert!(
+        [yes, tolerance, gap, both].iter().all(|&count| count > 100),
+        "{answers:?}"
+    );
 }
 
 /// One and two samples: no link has anything between its ends.
@@ -94,17 +106,18 @@ fn exactly_at_the_tolerance() {
     ] {
         let (least, greatest) = middle;
         for (value, expected) in [
-            (least - 1, Some(0)),
+            (least - 1, Some((0, 1, Side::Below))),
             (least, None),
             (greatest, None),
-            (greatest + 1, Some(0)),
+            (greatest + 1, Some((0, 1, Side::Above))),
         ] {
             let Ok(value) = i16::try_from(value) else {
                 continue;
             };
             let values = [ends[0], value, ends[1]];
-            let answer = judge(&ticks, &values, &[0, 2], ratio(p, q));
-            assert_eq!(answer, Ok(expected), "{ticks:?} {values:?} {p}/{q}");
+            let answer = judge(&ticks, &values, &[0, 2], ratio(p, q)).unwrap();
+            let answer = answer.map(|at| (at.link, at.measure.sample, at.measure.side));
+            assert_eq!(answer, expected, "{ticks:?} {values:?} {p}/{q}");
         }
     }
 }
@@ -116,16 +129,17 @@ fn the_first_invalid_link() {
     let values = [0, 1, 0, 2, 0, 3, 0, 4, 0];
     let list = [0, 2, 4, 6, 8];
     for (p, expected) in [
-        (0, Some(0)),
-        (1, Some(1)),
-        (2, Some(2)),
-        (3, Some(3)),
+        (0, Some(invalid(0, (1, 1), 1, Side::Above))),
+        (1, Some(invalid(1, (2, 1), 3, Side::Above))),
+        (2, Some(invalid(2, (3, 1), 5, Side::Above))),
+        (3, Some(invalid(3, (4, 1), 7, Side::Above))),
         (4, None),
     ] {
         assert_eq!(judge(&ticks, &values, &list, ratio(p, 1)), Ok(expected));
     }
     let falling: Vec<i16> = values.iter().rev().copied().collect();
-    for (p, expected) in [(0, Some(0)), (1, Some(0)), (3, Some(0)), (4, None)] {
+    let first = Some(invalid(0, (4, 1), 1, Side::Above));
+    for (p, expected) in [(0, first), (1, first), (3, first), (4, None)] {
         assert_eq!(judge(&ticks, &falling, &list, ratio(p, 1)), Ok(expected));
     }
 }

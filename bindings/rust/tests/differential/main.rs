@@ -3,6 +3,7 @@
 //! - `figures`: the figures of documents 01 and 02.
 //! - `refusals`: every row of the table that a call has, its value and its place in the order.
 //! - `hold`: tolerances in all forms.
+//! - `measure`: links on random and adversarial traces.
 //! - `judge`: lists on random and adversarial traces.
 //! - `reduce`: walk, gallop and minimum on random and adversarial traces.
 //! - `least`: least errors on random and adversarial traces.
@@ -18,11 +19,31 @@ mod gaps;
 mod hold;
 mod judge;
 mod least;
+mod measure;
 mod pedestals;
 mod records;
 mod reduce;
 mod refusals;
 mod report;
+
+use kovrelna_reference::{Fraction, Invalid, Measure, Side};
+
+/// The error p/q, at this sample on this side.
+fn measure_of(p: i128, q: i128, sample: usize, side: Side) -> Measure {
+    Measure {
+        error: Fraction { p, q },
+        sample,
+        side,
+    }
+}
+
+/// The first invalid link of a list: its position, its error p/q, the sample and its side.
+fn invalid(link: usize, (p, q): (i128, i128), sample: usize, side: Side) -> Invalid {
+    Invalid {
+        link,
+        measure: measure_of(p, q, sample, side),
+    }
+}
 
 /// Tolerances from 0 to 7/2, as p and q, for the tests of every small trace.
 const SMALL_TOLERANCES: [(u64, u64); 8] = [

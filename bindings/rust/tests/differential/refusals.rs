@@ -6,8 +6,8 @@ use kovrelna_evidence::calls::Call::{self, *};
 use kovrelna_evidence::calls::CALLS;
 use kovrelna_evidence::cases::random_faults;
 use kovrelna_evidence::compare::{
-    expand, expand_with, hold, judge, least, noise, pedestals, ratio, read, reduce, report, same,
-    write,
+    expand, expand_with, hold, judge, least, measure, noise, pedestals, ratio, read, reduce,
+    report, same, write,
 };
 use kovrelna_reference::generate::{crate_of, Channels, Random, Trace};
 use kovrelna_reference::record::{end, first, short, tolerance};
@@ -18,6 +18,8 @@ use kovrelna_reference::{Method, Row};
 struct Input {
     ticks: Vec<u32>,
     values: Vec<i16>,
+    /// The two samples of a link.
+    link: (usize, usize),
     list: Vec<u16>,
     tolerance: Tolerance,
     gap: u32,
@@ -53,6 +55,7 @@ fn accepted() -> Input {
     Input {
         ticks: (10..18).collect(),
         values: vec![0; 8],
+        link: (0, 7),
         list: vec![0, 7],
         tolerance: ratio(0, 1),
         gap: 1,
@@ -89,6 +92,7 @@ fn refused(call: Call, input: &Input) -> Option<Row> {
     let reduced = |method| reduce(method, ticks, values, limits, room).err();
     match call {
         Hold => hold(tolerance).err(),
+        Measure => measure(ticks, values, input.link.0, input.link.1).err(),
         Judge => judge(ticks, values, list, limits).err(),
         Walk => reduced(Method::Walk),
         Gallop => reduced(Method::Gallop),
@@ -114,9 +118,9 @@ fn refused(call: Call, input: &Input) -> Option<Row> {
     }
 }
 
-/// The calls that take a trace, one of up to 4,096 samples, a tolerance, a gap limit, a list, codes; and
-/// those with an output of an entry for each sample, code or channel.
-const TRACES: &[Call] = &[Judge, Walk, Gallop, Minimum, Least, Write];
+/// The calls that take a trace, one of any number of samples from 1 to 4,096, a tolerance, a gap limit, a
+/// list, codes; and those with an output of an entry for each sample, code or channel.
+const TRACES: &[Call] = &[Measure, Judge, Walk, Gallop, Minimum, Least, Write];
 const LONG_TRACES: &[Call] = &[Judge, Walk, Gallop, Minimum, Write];
 const TOLERANCES: &[Call] = &[Hold, Judge, Walk, Gallop, Minimum, Write, Report, Pedestals];
 const GAPS: &[Call] = &[Judge, Walk, Gallop, Minimum, Least, Write, Report];
@@ -174,6 +178,7 @@ const FAULTS: &[Fault] = &[
     (&[Least], (16, 0), |input| {
         input.ticks[1..].iter_mut().for_each(|tick| *tick += 1)
     }),
+    (&[Measure], (6, 1), |input| input.link = (3, 3)),
     (LISTS, (6, 1), |input| input.list = vec![0, 0, 7]),
     (&[Write], (7, 0), |input| input.values[3] = 9),
     (&[Read, Same], (8, 16), |input| input.record.truncate(18)),
@@ -234,6 +239,7 @@ fn limits() {
         gaps(),
         allowances(),
         holes(),
+        pairs(),
         lists(),
         links(),
         records(),
@@ -261,16 +267,21 @@ fn lengths() -> Vec<Entry> {
             let input = Input {
                 ticks: (0..samples as u32).collect(),
                 values: vec![7; values],
+                link: (0, samples.saturating_sub(1)),
                 list: list.clone(),
                 rooms: (samples, samples),
                 size: 100,
                 ..accepted()
             };
             entries.push((LONG_TRACES, input.clone(), row));
+            // One sample is no link.
+            let no_link = (samples == 1).then_some((6, 1));
+            entries.push((&[Measure], input.clone(), row.or(no_link)));
             if !allowed {
                 // Later rows fail too.
                 let input = Input {
                     ticks: vec![5; samples],
+                    link: (usize::MAX, 0),
                     list: Vec::new(),
                     tolerance: ratio(0, 0),
                     gap: 0,
@@ -278,7 +289,8 @@ fn lengths() -> Vec<Entry> {
                     size: 0,
                     ..input
                 };
-                entries.push((LONG_TRACES, input, row));
+                entries.push((LONG_TRACES, input.clone(), row));
+                entries.push((&[Measure], input, row));
             }
         }
         let allowed = (1..=4_096).contains(&samples);
@@ -373,6 +385,7 @@ fn ticks() -> Vec<Entry> {
         let input = Input {
             ticks: ticks.to_vec(),
             values: vec![0; 4],
+            link: (0, 3),
             list: vec![0, 3],
             gap: GAP_MAX,
             size: 100,
@@ -530,6 +543,70 @@ fn holes() -> Vec<Entry> {
                 let row = if enough { short } else { Some((number, 0)) };
                 entries.push((&[Least], input, row));
             }
+        }
+    }
+    entries
+}
+
+/// Two samples, of the trace and not: equal, the wrong way round, and beyond it, also by so much that they
+/// are samples of it if cut to 16 or 32 bits, or if one is added.
+fn pairs() -> Vec<Entry> {
+    const MAX: usize = usize::MAX;
+    let mut entries: Vec<Entry> = Vec::new();
+    let mut add = |samples: usize, i: usize, j: usize, value: Option<u64>| {
+        let input = Input {
+            ticks: (0..samples as u32).collect(),
+            values: vec![0; samples],
+            link: (i, j),
+            ..accepted()
+        };
+        entries.push((&[Measure], input.clone(), value.map(|value| (6, value))));
+        if samples == 8 {
+            // Each earlier row fails too.
+            let mut short = input.clone();
+            short.values.pop();
+            entries.push((&[Measure], short, Some((1, 0))));
+            let mut equal = input.clone();
+            equal.ticks[1] = 0;
+            entries.push((&[Measure], equal, Some((2, 1))));
+            let mut long = input;
+            long.ticks[7] = 1_048_576;
+            entries.push((&[Measure], long, Some((3, 7))));
+        }
+    };
+    for samples in [1, 2, 3, 8, 4_095, 4_096] {
+        let last = samples - 1;
+        // Beyond the trace of so many samples.
+        let beyond = [
+            samples,
+            samples + 1,
+            1 << 16,
+            1 << 16 | last,
+            1 << 32,
+            1 << 32 | last,
+            1 << 63,
+            MAX - last,
+            MAX - 1,
+            MAX,
+        ];
+        for far in beyond {
+            for i in [0, last / 2, last] {
+                add(samples, far, i, Some(0));
+                add(samples, i, far, Some(1));
+            }
+            for other in beyond {
+                add(samples, far, other, Some(0));
+            }
+        }
+        for i in [0, last / 2, last] {
+            add(samples, i, i, Some(1));
+        }
+        if last > 0 {
+            add(samples, 0, last, None);
+            add(samples, last - 1, last, None);
+            add(samples, 0, 1, None);
+            add(samples, last, 0, Some(1));
+            add(samples, last, last - 1, Some(1));
         }
     }
     entries
@@ -954,6 +1031,10 @@ fn numbers() {
         (
             Refusal::Holes,
             "every list that obeys the gap limit has more samples than the allowance",
+        ),
+        (
+            Refusal::List(1),
+            "two samples that are no link of the trace",
         ),
         (Refusal::Table(0), "256 values"),
         (channel(1, 5), "channel 5: no samples"),

@@ -3,14 +3,14 @@
 use kovrelna::GAP_MAX;
 use kovrelna_evidence::calls::Call;
 use kovrelna_evidence::cases::crates;
-use kovrelna_evidence::compare::{exactly, judge, ratio, reduce, report};
+use kovrelna_evidence::compare::{exactly, judge, measure, ratio, reduce, report};
 use kovrelna_evidence::reductions::any_tolerance;
 use kovrelna_reference::generate::{
     channels, crate_of, gap_limit, just_below, trace, with_holes, Channels, Random, Trace, HOLES,
     KINDS,
 };
 use kovrelna_reference::report::{Channel, Report, CHANNELS};
-use kovrelna_reference::{list_error, Fraction, Method, TOLERANCE};
+use kovrelna_reference::{list_error, Fraction, Measure, Method, TOLERANCE};
 
 fn whole(p: i128) -> Fraction {
     Fraction { p, q: 1 }
@@ -24,18 +24,19 @@ fn example() {
         values: vec![0, 2, 0, -2, 0, 1, 1, 9],
         lengths: vec![5, 0, 2, 1],
     };
-    let row = |samples, kept, p, number| Channel {
+    let row = |samples, kept, p, sample, number| Channel {
         samples,
         kept,
         error: whole(p),
+        sample,
         number,
     };
     let expected = Report {
         channels: vec![
-            row(5, 3, 2, 0),
-            row(0, 0, 0, 1),
-            row(0, 0, 0, 2),
-            row(1, 1, 0, 0),
+            row(5, 3, 2, 1, 0),
+            row(0, 0, 0, 0, 1),
+            row(0, 0, 0, 0, 2),
+            row(1, 1, 0, 0, 0),
         ],
         samples: 6,
         kept: 4,
@@ -59,8 +60,9 @@ fn random_crates() {
 }
 
 /// Each summary is that of a crate of this channel alone. It has the number with which walk refuses the
-/// trace; or walk's kept number, and the least tolerance at which judge passes walk's list, all under the
-/// same gap limit. The totals are those of the summaries.
+/// trace; or walk's kept number, the least tolerance at which judge passes walk's list, all under the same
+/// gap limit, and the sample that judge names just below it, which is that of the first of the worst links.
+/// The totals are those of the summaries.
 #[test]
 fn each_channel() {
     let random = &mut Random::new(32);
@@ -69,6 +71,8 @@ fn each_channel() {
     let (mut numbers, mut largest) = ([0; 4], [0; 3]);
     // Reports to which the gap limit matters.
     let mut matters = 0;
+    // Lists without a link; with the error 0; with one worst link, and with several.
+    let mut worst = [0; 4];
     for _ in 0..1_000 {
         let count = random.within(1, 6) as usize;
         let channels = channels(count, 30, random);
@@ -87,11 +91,12 @@ fn each_channel() {
                 Ok(reduced) => reduced.list,
                 Err((number, _)) => {
                     let error = whole(0);
-                    let (samples, kept) = (0, 0);
+                    let (samples, kept, sample) = (0, 0, 0);
                     let row = Channel {
                         samples,
                         kept,
                         error,
+                        sample,
                         number,
                     };
                     assert_eq!(*channel, row);
@@ -99,13 +104,27 @@ fn each_channel() {
                 }
             };
             assert_eq!((channel.samples, channel.kept), (ticks.len(), list.len()));
-            let passes = |error| {
+            let judged = |error| {
                 let limits = exactly(error).with_gap(limits.gap);
-                judge(ticks, values, &list, limits).map(|link| link.is_none())
+                judge(ticks, values, &list, limits).unwrap()
             };
-            assert_eq!(passes(channel.error), Ok(true));
+            assert_eq!(judged(channel.error), None);
+            let measures: Vec<Measure> = list
+                .windows(2)
+                .map(|link| measure(ticks, values, link[0].into(), link[1].into()).unwrap())
+                .collect();
+            let mut worst_links = measures
+                .iter()
+                .filter(|measure| measure.error == channel.error);
+            let first = worst_links.next();
+            assert_eq!(channel.sample, first.map_or(0, |measure| measure.sample));
             if channel.error.p > 0 {
-                assert_eq!(passes(just_below(channel.error)), Ok(false));
+                let named = judged(just_below(channel.error)).map(|invalid| invalid.measure);
+                assert_eq!(named.as_ref(), first);
+                worst[2 + usize::from(worst_links.next().is_some())] += 1;
+            } else {
+                assert_eq!(channel.sample, 0);
+                worst[usize::from(!measures.is_empty())] += 1;
             }
         }
         let sum = |number: fn(&Channel) -> usize| all.channels.iter().map(number).sum::<usize>();
@@ -122,6 +141,47 @@ fn each_channel() {
     assert!(numbers.iter().all(|&seen| seen > 100), "{numbers:?}");
     assert!(largest.iter().all(|&seen| seen > 100), "{largest:?}");
     assert!(matters > 100, "{matters}");
+    assert!(worst.iter().all(|&seen| seen > 60), "{worst:?}");
+}
+
+/// Bursts of four samples with holes between them, beginning and ending with 0: walk keeps both ends of each,
+/// and the sample is the first of all that is furthest from 0.
+#[test]
+fn worst_samples() {
+    let random = &mut Random::new(42);
+    for bursts in (1..=20).flat_map(|n| [n; 30]) {
+        let most = random.choose(&[0, 1, 2, 30_000]);
+        let values = (0..bursts).flat_map(|_| {
+            let [one, two] = [(); 2].map(|_| random.within(-most, most) as i16);
+            [0, one, two, 0]
+        });
+        let values: Vec<i16> = values.collect();
+        let ticks = (0..bursts).flat_map(|burst| (0..4).map(move |k| 7 * burst + k));
+        let trace = Trace {
+            ticks: ticks.collect(),
+            values,
+        };
+        // Each row has its own trace's number, wherever it is in the crate.
+        let one = Trace {
+            ticks: vec![9],
+            values: vec![9],
+        };
+        let channels = crate_of(&[one.clone(), trace.clone(), trace.clone(), one]);
+        let limits = ratio(65_535, 1).with_gap(3);
+        let rows = report(&channels, limits, 4).unwrap().channels;
+        let heights: Vec<i32> = trace.values.iter().map(|&v| i32::from(v).abs()).collect();
+        let greatest = *heights.iter().max().unwrap();
+        let sample = heights.iter().position(|&height| height == greatest);
+        let expected = Channel {
+            samples: 4 * bursts as usize,
+            kept: 2 * bursts as usize,
+            error: whole(greatest.into()),
+            sample: sample.unwrap(),
+            number: 0,
+        };
+        assert_eq!(rows[1..3], [expected; 2], "{trace:?}");
+        assert_eq!((rows[0].sample, rows[3].sample), (0, 0));
+    }
 }
 
 /// A crate of traces with holes in every place, under each of their gap limits.

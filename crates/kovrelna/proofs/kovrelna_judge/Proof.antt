@@ -12,8 +12,8 @@ limits-of-requires c κs = search needs
 judge-requires : tie.Need-judge-requires
 judge-requires c κs = search needs
 
-verdict-of-requires : tie.Need-verdict-of-requires
-verdict-of-requires c κs = search needs
+judged-of-requires : tie.Need-judged-of-requires
+judged-of-requires c κs = search needs
 
 returns : tie.Need-returns
 returns c =
@@ -21,10 +21,10 @@ returns c =
     let a = called .before .before .before .before .args in
     record {
       answer = called .judge .result;
-      is = c .verdict-of .ensures;
+      is = c .judged-of .ensures;
       outcome = subst (λ (x : Limits). JudgeOutcome (a .ticks .now) (a .values .now) (a .list .now) x (called .judge .result)) (called .before .limits-of .ensures) (called .judge .ensures);
     }
 
 pub kovrelna-judge-spec : {M : Type 1} → statement M
 kovrelna-judge-spec =
-    tie.close (tie.spec limits-of-requires judge-requires verdict-of-requires returns)
+    tie.close (tie.spec limits-of-requires judge-requires judged-of-requires returns)

@@ -81,7 +81,7 @@ abbrev slice : Ty
 slice = sliceTy (tyRef (named 0) mut (pointee (R .written)))
 
 -- the byte at which a record of a list begins fits, and so does the number after it
-offset-fits : {i l : ℕ} → l * 40 < 2 ^ 63 → i < l → i * 40 < 2 ^ 64
+offset-fits : {i l : ℕ} → l * 48 < 2 ^ 63 → i < l → i * 48 < 2 ^ 64
 offset-fits room within = omega arith
 
 next-fits : {i n : ℕ} → n < 2 ^ 64 → i < n → i + 1 < 2 ^ 64
@@ -195,7 +195,7 @@ module _ {M : Type 1} (𝓤 : URA M) (H : Heap 𝓤) (A : Atoms 𝓤) (W : Given
         -- [what the record owns; the list; the open borrow; obs; auth; _7; …; _0; …]
         assigns ! (bin ! (load ! (from ! (stop !)) (look ! 13 refl)) (lit ! tt) (record { fits = offset-fits (room .1) in-list })) (from ! (stop !)) (init ! 7 refl (tt, record { fits = offset-fits (room .1) in-list })) $
         assigns ! (bin ! (load ! (from ! (fld ! refl (stop !))) (look-in ! 17 (sub ! 0 refl (whole !)))) (load ! (from ! (stop !)) (look ! 7 refl)) tt) (from ! (stop !)) (init ! 5 refl (tt, tt)) $
-        rewrite ! 5 (λ (p : ℕ). ‵ (fat fullShare tyPtr l₇ 0 (vptr b p))) (sym (place-is 40 o (i .0))) refl $
+        rewrite ! 5 (λ (p : ℕ). ‵ (fat fullShare tyPtr l₇ 0 (vptr b p))) (sym (place-is 48 o (i .0))) refl $
         move ! (1 ∷ []) $ elem-out ! R (Is R) (shows 𝓤 H A R) (LL.vals T.the-type T′.the-laws) (LL.tells T.the-type T′.the-laws) fullShare (zs (i .0)) (i .0) zeros b o within (λ _.
         -- [out[i]; what it owns; the others; what the record owns; the open borrow; obs; auth; _7; …; _0; …]
         assigns ! (of-opd ! (load ! (from ! (stop !)) (look ! 11 refl))) (from ! (hop ! (look ! 7 refl) (stop !))) (store-raw ! 0 refl (LL.lawful T.the-type T′.the-laws 𝓤 H A W .typed (rowAt h (i .0)) _ made .0)) $

@@ -13,11 +13,11 @@ walk-requires c κs = search needs
 array-share-prefix-list : tie.Need-array-share-prefix-list
 array-share-prefix-list c = let a = c .before .before .before .before .args in walked-room (a .ticks .now) (a .values .now) (a .c) (c .before .walk .ensures)
 
-slice-aggregate-list-error : tie.Need-slice-aggregate-list-error
-slice-aggregate-list-error c = let a = c .before .before .before .before .before .args in walked-length (a .ticks .now) (a .values .now) (a .c) (c .before .before .walk .ensures)
+slice-aggregate-list-stray : tie.Need-slice-aggregate-list-stray
+slice-aggregate-list-stray c = let a = c .before .before .before .before .before .args in walked-length (a .ticks .now) (a .values .now) (a .c) (c .before .before .walk .ensures)
 
-list-error-requires : tie.Need-list-error-requires
-list-error-requires c κs =
+list-stray-requires : tie.Need-list-stray-requires
+list-stray-requires c κs =
     let s = c .before .before .before .before .before in
     (s .pre .0, walked-kept (s .args .ticks .now) (s .args .values .now) (s .args .c) (c .before .before .walk .ensures))
 
@@ -25,7 +25,7 @@ returns : tie.Need-returns
 returns c =
     let s = c .before .before .before .before .before .before in
     let w = c .before .before .before .walk .ensures in
-    let e = c .list-error .ensures in
+    let e = c .list-stray .ensures in
     (walked-row (s .args .ticks .now) (s .args .values .now) (s .args .c) w (e .0), record { samples = s .pre .0 .few; kept = walked-few (s .args .ticks .now) (s .args .values .now) (s .args .c) w (s .pre .0); allowed = e .1 })
 
 pub walked-spec : {M : Type 1} → statement M
@@ -35,6 +35,6 @@ walked-spec =
     slice-aggregate-walk
     walk-requires
     array-share-prefix-list
-    slice-aggregate-list-error
-    list-error-requires
+    slice-aggregate-list-stray
+    list-stray-requires
     returns)

@@ -1,8 +1,9 @@
 //! Whether a record may stand for a trace, beside the slow reference.
 
+use super::measure::lies;
 use super::{done, fails, folder, path, run, shipped, told, WAVE};
 use kovrelna_reference::record::decode;
-use kovrelna_reference::{judge, Form};
+use kovrelna_reference::{judge, Form, Invalid};
 use std::fs;
 
 /// The ticks and the values of the pulse.
@@ -73,13 +74,14 @@ fn answers_no() {
     recorded(file, &["-t2"], WAVE);
     let cause = "the last sample of the trace, at tick 5 in <stdin>:6, is not kept";
     says_no(file, &format!("{WAVE}5,0\n"), cause);
-    let cause =
-        "link 1, from sample 2 at tick 2 to sample 4 at tick 4 of <stdin>, is not within 2/1";
+    let cause = "link 1, from sample 2 at tick 2 to sample 4 at tick 4 of <stdin>, \
+                 is not within 2/1: sample 3 at tick 3 lies 3/1 below the line";
     says_no(file, "0,0\n1,2\n2,0\n3,-3\n4,0\n", cause);
     // The tolerance is the record's own: the same samples at another one.
     let kept = "# tolerance 65535/32768\n0,0\n2,0\n4,0\n";
     recorded(file, &[], kept);
-    let cause = "link 0, from sample 0 at tick 0 to sample 2 at tick 2 of <stdin>, is not within 65535/32768";
+    let cause = "link 0, from sample 0 at tick 0 to sample 2 at tick 2 of <stdin>, \
+                 is not within 65535/32768: sample 1 at tick 1 lies 2/1 above the line";
     says_no(file, WAVE, cause);
 }
 
@@ -117,15 +119,19 @@ fn changed_traces() {
                         assert_eq!((status, &printed[..]), (0, "yes\n"));
                         continue;
                     }
-                    Some(link) => {
+                    Some(Invalid { link, measure }) => {
                         outside += 1;
-                        format!("link {link}, from sample {} at tick", list[link])
+                        let end = |entry: u16| {
+                            format!("sample {entry} at tick {}", ticks[usize::from(entry)])
+                        };
+                        let ends = format!("{} to {}", end(list[link]), end(list[link + 1]));
+                        let cause = format!("is not within 8/1: {}", lies(&ticks, measure));
+                        format!("link {link}, from {ends} of <stdin>, {cause}")
                     }
                 },
             };
             assert_eq!(status, 1);
-            let expected = format!("no: {}: {expected}", path(&file));
-            assert!(printed.starts_with(&expected), "{printed} {expected}");
+            assert_eq!(printed, format!("no: {}: {expected}\n", path(&file)));
         }
     }
     assert!(within > 0 && outside > 0, "{within} {outside}");

@@ -1,6 +1,10 @@
 //! Pictures.
 
-use super::{done, fails, folder, path, shipped, WAVE};
+use super::measure::word;
+use super::{done, fails, folder, path, shipped, written, WAVE};
+use kovrelna_reference::generate::{any_limited, Random};
+use kovrelna_reference::{list_error, measure, reduce, worst_sample};
+use kovrelna_reference::{Form, Fraction, Limits, Method};
 use std::fs;
 
 /// The picture that the tool draws.
@@ -63,6 +67,131 @@ fn draws() {
     let svg = drawn(&["draw", "-t1", path(&odd)], "");
     let title = "<title>1 sample, 1 kept by walk, tolerance 1: a&lt;b&gt;&amp;c.csv</title>";
     assert!(svg.contains(title), "{svg}");
+}
+
+/// The tip of each arrowhead, and whether it points down.
+fn arrowheads(svg: &str) -> Vec<(f64, f64, bool)> {
+    let head = |line: &str| {
+        let place = line.strip_prefix("<path class=\"ink\" d=\"M")?;
+        let (tip, sides) = place.split_once('l').unwrap();
+        let (x, y) = tip.split_once(' ').unwrap();
+        let down = sides.starts_with("-4.5 -");
+        Some((x.parse().unwrap(), y.parse().unwrap(), down))
+    };
+    svg.lines().filter_map(head).collect()
+}
+
+/// What the picture says of the worst sample, and the middle of its words.
+fn worst(svg: &str) -> Option<(&str, f64)> {
+    let line = svg.lines().find(|line| line.contains(">worst: "))?;
+    let (place, words) = line.trim_end_matches("</text>").split_once('>').unwrap();
+    let (_, x) = place.split_once(" x=\"").unwrap();
+    let (x, _) = x.split_once('"').unwrap();
+    Some((words, x.parse().unwrap()))
+}
+
+/// The worst sample is pointed at in both panels from the side where it lies.
+#[test]
+fn worst_samples() {
+    for (trace, sample, words) in [
+        (WAVE, 1, "worst: 2 at tick 1, above"),
+        ("0,0\n1,1\n2,0\n3,-2\n4,0\n", 3, "worst: 2 at tick 3, below"),
+        ("0,0\n1,1\n3,1\n", 1, "worst: 2/3 at tick 1, above"),
+    ] {
+        let svg = drawn(&["draw", "-t2", "-mminimum"], trace);
+        let mut expected = Vec::new();
+        for samples in points(&svg, "sample") {
+            let (x, y) = samples[sample];
+            let down = words.ends_with("above");
+            expected.push((x, y + if down { -4.0 } else { 4.0 }, down));
+        }
+        assert_eq!(arrowheads(&svg), expected, "{words}");
+        let (x, ..) = expected[0];
+        assert_eq!(worst(&svg), Some((words, x)));
+    }
+    // Every sample is on the lines, or nothing is known of the others.
+    let kept = "# tolerance 2/1\n0,0\n1,1\n2,0\n";
+    let record = done(&["record", "-t2"], WAVE);
+    for svg in [
+        drawn(&["draw", "-t2"], "0,0\n1,1\n2,2\n"),
+        drawn(&["draw", "-t0"], WAVE),
+        drawn(&["draw", "-t2"], "7,9\n"),
+        drawn(&["draw"], kept),
+        drawn(&["draw"], record),
+    ] {
+        assert_eq!((arrowheads(&svg), worst(&svg)), (vec![], None), "{svg}");
+    }
+    // Only where the sample is drawn.
+    let part = |from, to| drawn(&["draw", "-t2", "--from", from, "--to", to], WAVE);
+    for (from, to, heads) in [("0", "1", 2), ("1", "1", 2), ("1", "4", 2), ("2", "4", 0)] {
+        let svg = part(from, to);
+        assert_eq!(arrowheads(&svg).len(), heads, "{from} {to}");
+        assert_eq!(worst(&svg).is_some(), heads > 0, "{from} {to}");
+    }
+}
+
+/// The words have room at both ends.
+#[test]
+fn worst_words() {
+    let far = "4293918720,-32768\n4293918721,32767\n4294967294,-32767\n4294967295,32766\n";
+    let svg = drawn(&["draw", "-t65535"], far);
+    let words = "worst: 2216719261/33825 at tick 4293918721, above";
+    let half = 3.5 * words.len() as f64;
+    assert_eq!(worst(&svg), Some((words, 84.0 + half)));
+    let near = far.replace("1,32767", "1,-32768");
+    let svg = drawn(&["draw", "-t65535"], near);
+    let (words, middle) = worst(&svg).unwrap();
+    assert!(words.ends_with(" at tick 4294967294, below"), "{words}");
+    assert_eq!(middle, 936.0 - 3.5 * words.len() as f64);
+}
+
+/// The worst sample of any list, beside the slow reference.
+#[test]
+fn worst_as_the_reference() {
+    let random = &mut Random::new(23);
+    let mut seen = [0; 3];
+    for samples in (2..=40).flat_map(|samples| [samples; 4]) {
+        let (trace, gap) = any_limited(samples, random);
+        let (ticks, values) = (&trace.ticks, &trace.values);
+        let (p, q) = random.choose(&[(0, 1), (2, 1), (7, 3), (500, 1)]);
+        let limits = Limits {
+            tolerance: Form::Ratio(p, q),
+            gap: Some(gap),
+        };
+        for (name, method) in [
+            ("walk", Method::Walk),
+            ("gallop", Method::Gallop),
+            ("minimum", Method::Minimum),
+        ] {
+            let (tolerance, gap) = (format!("-t{p}/{q}"), format!("--gap={gap}"));
+            let svg = drawn(&["draw", &tolerance, &gap, "-m", name], written(&trace));
+            let list = reduce(method, ticks, values, limits, samples).unwrap().list;
+            let Fraction { p, q } = list_error(ticks, values, &list);
+            if p == 0 {
+                assert_eq!((arrowheads(&svg), worst(&svg)), (vec![], None));
+                seen[0] += 1;
+                continue;
+            }
+            let sample = worst_sample(ticks, values, &list);
+            let link = list.windows(2).find(|link| usize::from(link[1]) > sample);
+            let (i, j) = link.map(|link| (link[0].into(), link[1].into())).unwrap();
+            let side = measure(ticks, values, i, j).unwrap().side;
+            seen[side as usize] += 1;
+            let error = match q {
+                1 => p.to_string(),
+                _ => format!("{p}/{q}"),
+            };
+            let (tick, side) = (ticks[sample], word(side));
+            let expected = format!("worst: {error} at tick {tick}, {side}");
+            let (words, _) = worst(&svg).unwrap();
+            assert_eq!(words, expected, "{trace:?} {name}");
+            let dots = points(&svg, "sample").into_iter();
+            let places: Vec<f64> = dots.map(|panel| panel[sample].0).collect();
+            let heads: Vec<f64> = arrowheads(&svg).iter().map(|head| head.0).collect();
+            assert_eq!(heads, places, "{words}");
+        }
+    }
+    assert!(seen.iter().min() > Some(&9), "{seen:?}");
 }
 
 /// Below the trace are the distances from the lines, in a band as high as the tolerance: at 2 the lines

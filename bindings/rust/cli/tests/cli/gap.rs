@@ -52,36 +52,46 @@ fn judges() {
     };
     let yes = (0, "yes\n".to_string());
     let no = |link| {
-        let cause = "it crosses the hole from tick 2 to tick 10";
+        let cause = "it crosses the hole from tick 2 to tick 10, and its error is 0/1";
         (1, format!("no at link {link}: {cause}\n"))
     };
     assert_eq!(judge("7", "0,2,3,5"), yes);
     assert_eq!(judge("7", "0,1,2,3,4,5"), yes);
-    for (list, link) in [("0,5", 0), ("0,2,5", 1), ("0,1,3,5", 1), ("0,1,2,4,5", 2)] {
+    for (list, link) in [
+        ("0,5", "0, from sample 0 to 5"),
+        ("0,2,5", "1, from sample 2 to 5"),
+        ("0,1,3,5", "1, from sample 1 to 3"),
+        ("0,1,2,4,5", "2, from sample 2 to 4"),
+    ] {
         assert_eq!(judge("7", list), no(link), "{list}");
         assert_eq!(judge("8", list), yes, "{list}");
     }
     // The first of two holes.
     let answer = run(&["judge", "-t0", "--gap=4", "-l0,2"], "0,0\n5,0\n10,0\n");
-    let expected = b"no at link 0: it crosses the hole from tick 0 to tick 5\n";
-    assert_eq!(answer.stdout, expected);
+    let hole = "it crosses the hole from tick 0 to tick 5, and its error is 0/1";
+    let expected = format!("no at link 0, from sample 0 to 2: {hole}\n");
+    assert_eq!(String::from_utf8(answer.stdout).unwrap(), expected);
 }
 
-/// A link that crosses no hole is too far from a sample, whatever the gap limit.
+/// A hole is named only if every sample is within the tolerance.
 #[test]
 fn other_causes() {
-    let trace = HOLE.replace("11,0", "11,4");
-    for (arguments, answer) in [
-        (&["-l0,2,3,5", "--gap=7"][..], "no at link 2\n"),
-        (&["-l0,5", "--gap=8"], "no at link 0\n"),
-        (&["-l0,5"], "no at link 0\n"),
+    let trace = HOLE.replace("11,0", "11,-4");
+    let far = "sample 4 at tick 11 lies 4/1 below the line";
+    let hole = "it crosses the hole from tick 2 to tick 10, and its error is 4/1";
+    for (arguments, link, cause) in [
         (
-            &["-l0,5", "--gap=7"],
-            "no at link 0: it crosses the hole from tick 2 to tick 10\n",
+            &["-t3", "-l0,2,3,5", "--gap=7"][..],
+            "2, from sample 3 to 5",
+            far,
         ),
+        (&["-t3", "-l0,5", "--gap=8"], "0, from sample 0 to 5", far),
+        (&["-t3", "-l0,5"], "0, from sample 0 to 5", far),
+        (&["-t3", "-l0,5", "--gap=7"], "0, from sample 0 to 5", far),
+        (&["-t4", "-l0,5", "--gap=7"], "0, from sample 0 to 5", hole),
     ] {
-        let arguments = [&["judge", "-t3"], arguments].concat();
-        let expected = (1, answer.to_string(), String::new());
+        let arguments = [&["judge"], arguments].concat();
+        let expected = (1, format!("no at link {link}: {cause}\n"), String::new());
         assert_eq!(told(&run(&arguments, &trace)), expected, "{arguments:?}");
     }
 }
@@ -104,14 +114,15 @@ fn checks() {
     assert_eq!(check(&[]), yes);
     assert_eq!(check(&["--gap=8"]), yes);
     let link = "no: record: link 0, from sample 0 at tick 0 to sample 5 at tick 12 of trace";
-    let cause = "crosses the hole from tick 2 to tick 10";
+    let cause = "crosses the hole from tick 2 to tick 10, and its error is 0/1";
     assert_eq!(check(&["--gap=7"]), (1, format!("{link}, {cause}\n")));
     // A value that the record is too far from comes with the tolerance.
     fs::write(folder.join("trace"), HOLE.replace("1,0", "1,1")).unwrap();
-    assert_eq!(
-        check(&["--gap=8"]),
-        (1, format!("{link}, is not within 0/1\n"))
-    );
+    let cause = "is not within 0/1: sample 1 at tick 1 lies 1/1 above the line";
+    for gap in ["7", "8"] {
+        let answer = check(&["--gap", gap]);
+        assert_eq!(answer, (1, format!("{link}, {cause}\n")), "{gap}");
+    }
     fs::write(folder.join("trace"), HOLE).unwrap();
     record("7");
     assert_eq!(check(&["--gap=7"]), yes);
@@ -200,19 +211,19 @@ fn reports() {
     };
     let sheet = "\
 # kept by walk at 2/1, gap limit 7
-channel  samples  kept  error  refusal  file
-      0        6     4    0/1        0  hole
-      1        5     3    2/1        0  wave
-      2        0     0    0/1        1  none: no samples
-  total       11     7    2/1        -  1 of 3 refused
+channel  samples  kept  error  worst at  refusal  file
+      0        6     4    0/1         -        0  hole
+      1        5     3    2/1         1        0  wave
+      2        0     0    0/1         -        1  none: no samples
+  total       11     7    2/1         -        -  1 of 3 refused
 ";
     assert_eq!(report(&["--gap", "7"]), sheet);
     let sheet = "\
-channel,samples,kept,error p,error q,tolerance p,tolerance q,refusal,file,cause,gap limit
-0,6,4,0,1,2,1,0,\"hole\",\"\",7
-1,5,3,2,1,2,1,0,\"wave\",\"\",7
-2,0,0,0,1,2,1,1,\"none\",\"none: no samples\",7
-total,11,7,2,1,2,1,,\"\",\"1 of 3 refused\",7
+channel,samples,kept,error p,error q,sample,tolerance p,tolerance q,refusal,file,cause,gap limit
+0,6,4,0,1,0,2,1,0,\"hole\",\"\",7
+1,5,3,2,1,1,2,1,0,\"wave\",\"\",7
+2,0,0,0,1,0,2,1,1,\"none\",\"none: no samples\",7
+total,11,7,2,1,,2,1,,\"\",\"1 of 3 refused\",7
 ";
     assert_eq!(report(&["--csv", "--gap", "7"]), sheet);
     let without = report(&[]);
@@ -338,7 +349,7 @@ fn refusals() {
     for command in ["judge", "near", "probes", "report"] {
         fails(&[command, "--gap=7"], HOLE, "--gap needs --tolerance\nTry");
     }
-    for command in ["show", "summary", "pedestals"] {
+    for command in ["show", "measure", "summary", "pedestals"] {
         fails(
             &[command, "--gap=7"],
             "",

@@ -5,6 +5,7 @@
 //! - `counts`: tables of counts.
 //! - `draw`: pictures.
 //! - `gap`: gap limits.
+//! - `measure`: how far a link strays, and where.
 //! - `names`: names of files that are not UTF-8.
 //! - `near`: how near lists are to the shortest.
 //! - `pedestals`: two runs of a crate.
@@ -17,6 +18,7 @@ mod check;
 mod counts;
 mod draw;
 mod gap;
+mod measure;
 mod names;
 mod near;
 mod pedestals;
@@ -178,7 +180,8 @@ fn judges() {
     let zigzag = "0 0\n1 3\n2 0\n3 3\n4 0\n";
     let judge = |list: &str| told(&run(&["judge", "-t", "2", "--list", list], zigzag));
     assert_eq!(judge("0,3,4"), (0, "yes\n".into(), "".into()));
-    assert_eq!(judge("0 1 2 4"), (1, "no at link 2\n".into(), "".into()));
+    let no = "no at link 2, from sample 2 to 4: sample 3 at tick 3 lies 3/1 above the line\n";
+    assert_eq!(judge("0 1 2 4"), (1, no.into(), "".into()));
     let (status, printed, error) = judge("0,3");
     assert_eq!((status, &printed[..]), (2, ""));
     assert_eq!(
@@ -188,7 +191,7 @@ fn judges() {
     let folder = folder("judges");
     let list = folder.join("list");
     fs::write(&list, "0\n# c\n3 3\n4\n").unwrap();
-    let message = format!("{}:3: no kept list: entry 2 is bad", path(&list));
+    let message = format!("{}:3: no kept list: entry 2 is bad\n", path(&list));
     fails(&["judge", "-t2", "-f", path(&list)], zigzag, &message);
     fs::write(&list, "0 # the first\n3\n4\n").unwrap();
     let answer = done(&["judge", "-t2", "-f", path(&list)], zigzag);
@@ -211,6 +214,7 @@ fn judges() {
     let message = "<stdin>:1: samples are reduced already at 2/1";
     fails(&["judge", "-t2", "-l0,4"], &kept, message);
     fails(&["least", "-a2"], &kept, message);
+    fails(&["measure", "0", "4"], &kept, message);
 }
 
 #[test]
@@ -338,9 +342,10 @@ fn places_of_errors() {
         (long.as_bytes(), ":4097: too many samples"),
     ] {
         fs::write(&file, text).unwrap();
-        for command in ["record", "draw", "judge"] {
+        for command in ["record", "draw", "judge", "measure"] {
             let arguments = match command {
                 "judge" => vec![command, "-t1", "-l0", path(&file)],
+                "measure" => vec![command, path(&file), "0", "1"],
                 _ => vec![command, "-t1", path(&file)],
             };
             fails(&arguments, "", &format!("{}{cause}", path(&file)));
@@ -383,6 +388,7 @@ fn the_other_kind() {
     for arguments in [
         &["record", "-t1"][..],
         &["judge", "-t1", "-l0"],
+        &["measure", "0", "1"],
         &["least", "-a2"],
     ] {
         fails(
@@ -420,6 +426,7 @@ fn noise() {
             &["probes", "-t1"],
             &["check", "-", path(&pulse)],
             &["check", path(&wave), "-"],
+            &["measure", "0", "1"],
             &["pedestals", "-t1", "-k1", "-", path(&pulse)],
             &["pedestals", "-t1", "-k1", path(&pulse), "-"],
         ] {
@@ -504,6 +511,7 @@ fn help() {
         "show",
         "judge",
         "check",
+        "measure",
         "least",
         "near",
         "probes",
@@ -541,6 +549,7 @@ fn full_output() {
         &["draw", "-t1"],
         &["judge", "-t1", "-l0,4"],
         &["check", wave, "-"],
+        &["measure", "0", "1"],
         &["near", "-t1"],
         &["probes", "-t1"],
         &["pedestals", "-t1", "-k1", pulse, pulse],

@@ -31,32 +31,32 @@ fn columns() {
     let names = CHANNELS.map(|(name, _)| name);
     let sheet = "\
 # kept by walk at 5/2
-channel  samples  kept  error  refusal  file
-      0        5     3    2/1        0  wave
-      1        0     0    0/1        1  none: no samples
-      2        0     0    0/1        2  equal:3: the tick is not above the one before
-      3        1     1    0/1        0  a \"one\", quoted
-      4        0     0    0/1        3  span:2: the tick is over 1,048,575 above that of the first sample
-  total        6     4    2/1        -  3 of 5 refused
+channel  samples  kept  error  worst at  refusal  file
+      0        5     3    2/1         1        0  wave
+      1        0     0    0/1         -        1  none: no samples
+      2        0     0    0/1         -        2  equal:3: the tick is not above the one before
+      3        1     1    0/1         -        0  a \"one\", quoted
+      4        0     0    0/1         -        3  span:2: the tick is over 1,048,575 above that of the first sample
+  total        6     4    2/1         -        -  3 of 5 refused
 ";
     let arguments = [&["--tolerance", "10/4"], &names[..]].concat();
     assert_eq!(printed(&folder, &arguments), sheet);
     let sheet = "\
-channel,samples,kept,error p,error q,tolerance p,tolerance q,refusal,file,cause
-0,5,3,2,1,5,2,0,\"wave\",\"\"
-1,0,0,0,1,5,2,1,\"none\",\"none: no samples\"
-2,0,0,0,1,5,2,2,\"equal\",\"equal:3: the tick is not above the one before\"
-3,1,1,0,1,5,2,0,\"a \"\"one\"\", quoted\",\"\"
-4,0,0,0,1,5,2,3,\"span\",\"span:2: the tick is over 1,048,575 above that of the first sample\"
-total,6,4,2,1,5,2,,\"\",\"3 of 5 refused\"
+channel,samples,kept,error p,error q,sample,tolerance p,tolerance q,refusal,file,cause
+0,5,3,2,1,1,5,2,0,\"wave\",\"\"
+1,0,0,0,1,0,5,2,1,\"none\",\"none: no samples\"
+2,0,0,0,1,0,5,2,2,\"equal\",\"equal:3: the tick is not above the one before\"
+3,1,1,0,1,0,5,2,0,\"a \"\"one\"\", quoted\",\"\"
+4,0,0,0,1,0,5,2,3,\"span\",\"span:2: the tick is over 1,048,575 above that of the first sample\"
+total,6,4,2,1,,5,2,,\"\",\"3 of 5 refused\"
 ";
     let arguments = [&["--csv", "-t", "2.5"], &names[..]].concat();
     assert_eq!(printed(&folder, &arguments), sheet);
 }
 
-/// The numbers of each line of a report as CSV: channel, samples, kept, error, refusal. That of the
-/// total has the channel -1 and the refusal 0.
-fn numbers(sheet: &str) -> Vec<[i128; 6]> {
+/// The numbers of each line of a report as CSV: channel, samples, kept, error, sample, refusal. That of
+/// the total has the channel -1, the sample 0 and the refusal 0.
+fn numbers(sheet: &str) -> Vec<[i128; 7]> {
     let row = |line: &str| {
         let fields: Vec<&str> = line.split(',').collect();
         let number = |field: &str| match field {
@@ -64,13 +64,13 @@ fn numbers(sheet: &str) -> Vec<[i128; 6]> {
             "" => 0,
             number => number.parse().unwrap(),
         };
-        [0, 1, 2, 3, 4, 7].map(|column: usize| number(fields[column]))
+        [0, 1, 2, 3, 4, 5, 8].map(|column: usize| number(fields[column]))
     };
     sheet.lines().skip(1).map(row).collect()
 }
 
 /// The same of a report by the reference on channels with these numbers.
-fn expected(report: &Report, channels: &[i128]) -> Vec<[i128; 6]> {
+fn expected(report: &Report, channels: &[i128]) -> Vec<[i128; 7]> {
     let mut rows = Vec::new();
     for (&channel, row) in channels.iter().zip(&report.channels) {
         let (samples, kept) = (row.samples as i128, row.kept as i128);
@@ -80,11 +80,12 @@ fn expected(report: &Report, channels: &[i128]) -> Vec<[i128; 6]> {
             kept,
             row.error.p,
             row.error.q,
+            row.sample as i128,
             row.number.into(),
         ]);
     }
     let (samples, kept) = (report.samples as i128, report.kept as i128);
-    rows.push([-1, samples, kept, report.error.p, report.error.q, 0]);
+    rows.push([-1, samples, kept, report.error.p, report.error.q, 0, 0]);
     rows
 }
 
@@ -167,16 +168,20 @@ fn lines_of_one_file() {
     let sheet = String::from_utf8(done(&["report", "-t1"], text)).unwrap();
     let lines: Vec<&str> = sheet.lines().skip(2).collect();
     let expected = [
-        "         1        2     2    0/1        0  <stdin>",
-        "4294967295        0     0    0/1        2  <stdin>:3: the tick is not above the one before",
-        "     total        2     2    0/1        -  1 of 2 refused",
+        "         1        2     2    0/1         -        0  <stdin>",
+        "4294967295        0     0    0/1         -        2  <stdin>:3: the tick is not above the one before",
+        "     total        2     2    0/1         -        -  1 of 2 refused",
     ];
     assert_eq!(lines, expected);
     // Too many samples of one channel, and others after them.
     let mut text: String = (0..5_000).map(|tick| format!("{tick},0,0\n")).collect();
     text += "0,0,1\n1,0,1\n";
     let sheet = String::from_utf8(done(&["report", "-t1", "--csv"], &text)).unwrap();
-    let rows = [[0, 0, 0, 0, 1, 1], [1, 2, 2, 0, 1, 0], [-1, 2, 2, 0, 1, 0]];
+    let rows = [
+        [0, 0, 0, 0, 1, 0, 1],
+        [1, 2, 2, 0, 1, 0, 0],
+        [-1, 2, 2, 0, 1, 0, 0],
+    ];
     assert_eq!(numbers(&sheet), rows);
     let cause = "\"<stdin>:4097: too many samples: at most 4096 are allowed\"";
     assert!(sheet.contains(cause), "{sheet}");
@@ -189,8 +194,8 @@ fn one_channel() {
         let printed = done(&["report", "-t2", "--csv", "-"], text);
         numbers(&String::from_utf8(printed).unwrap())
     };
-    assert_eq!(sheet(WAVE), [[0, 5, 3, 2, 1, 0], [-1, 5, 3, 2, 1, 0]]);
-    let none = [[0, 0, 0, 0, 1, 1], [-1, 0, 0, 0, 1, 0]];
+    assert_eq!(sheet(WAVE), [[0, 5, 3, 2, 1, 1, 0], [-1, 5, 3, 2, 1, 0, 0]]);
+    let none = [[0, 0, 0, 0, 1, 0, 1], [-1, 0, 0, 0, 1, 0, 0]];
     assert_eq!(sheet(""), none);
     assert_eq!(sheet("tick,value,channel\n"), none);
     let mut command = Command::new("sh");
@@ -218,7 +223,7 @@ fn sixty_four_channels() {
     let of = |count| [&["report", "-t2"], &vec![path(&file); count][..]].concat();
     let sheet = String::from_utf8(done(&of(64), "")).unwrap();
     let total = sheet.lines().last().unwrap();
-    let expected = "  total      320   192    2/1        -  0 of 64 refused";
+    let expected = "  total      320   192    2/1         -        -  0 of 64 refused";
     assert_eq!(total, expected);
     fails(
         &of(65),

@@ -1,0 +1,37 @@
+-- `kovrelna::measured_of` meets its contract. Assumes nothing.
+use borrow.Author.Needs.{needs}
+use Rattle.kovrelna.proofs.measured_of.Statement.{statement}
+use Rattle.kovrelna.proofs.measured_of.Tie as tie
+
+enum-known-a : tie.Need-enum-known-a
+enum-known-a c = search needs
+
+side-of-requires : tie.Need-side-of-requires
+side-of-requires c κs = search needs
+
+enum-known-a-2 : tie.Need-enum-known-a-2
+enum-known-a-2 c = search needs
+
+number-requires : tie.Need-number-requires
+number-requires c κs = search needs
+
+returned-requires : tie.Need-returned-requires
+returned-requires c κs = search needs
+
+returns : tie.Need-returns
+returns c = rw (c .before .before .before .a .given .1, c .side-of .ensures)
+
+returns-2 : tie.Need-returns-2
+returns-2 c = rw (c .before .before .before .a2 .given .1, c .returned .ensures, c .before .number .ensures)
+
+pub measured-of-spec : {M : Type 1} → statement M
+measured-of-spec =
+    tie.close
+    (tie.spec
+    enum-known-a
+    side-of-requires
+    enum-known-a-2
+    number-requires
+    returned-requires
+    returns
+    returns-2)
