@@ -1,6 +1,5 @@
 // The public call `measure`: where a link strays (document 02, "Where the line strays").
 ghost use mathlib.Core.Path.{_≡_};
-ghost use lib.ListN.{length};
 ghost use Rattle.trace.specs.Trace.{Trace};
 ghost use Rattle.engine.specs.Measure.{linkRow, measuredAt, MeasureOutcome};
 use crate::Measured;

@@ -26,6 +26,7 @@ mod reduce;
 mod refusals;
 mod report;
 
+use kovrelna_reference::generate::Trace;
 use kovrelna_reference::{Fraction, Invalid, Measure, Side};
 
 /// The error p/q, at this sample on this side.
@@ -56,3 +57,22 @@ const SMALL_TOLERANCES: [(u64, u64); 8] = [
     (2, 1),
     (7, 2),
 ];
+
+/// Every trace of five samples with values from -1 to 1, and of four with values from -2 to 2, at three
+/// lists of ticks.
+fn small_traces() -> Vec<Trace> {
+    let mut traces = Vec::new();
+    for (samples, values) in [(5, 3), (4, 5i16)] {
+        for ticks in [[0, 1, 2, 3, 4], [5, 6, 8, 9, 12], [0, 2, 3, 6, 7]] {
+            for digits in 0..values.pow(samples) {
+                traces.push(Trace {
+                    ticks: ticks[..samples as usize].to_vec(),
+                    values: (0..samples)
+                        .map(|k| digits / values.pow(k) % values - values / 2)
+                        .collect(),
+                });
+            }
+        }
+    }
+    traces
+}

@@ -6,7 +6,7 @@ use kovrelna_evidence::measures::link;
 use kovrelna_reference::generate::{adversarial, tied, trace, Random, Trace, KINDS, SHAPES};
 use kovrelna_reference::Side::{Above, Below, On};
 
-use crate::measure_of;
+use crate::{measure_of, small_traces};
 
 const MIN: i16 = i16::MIN;
 const MAX: i16 = i16::MAX;
@@ -51,23 +51,13 @@ fn every_link() {
     }
 }
 
-/// Every trace of five samples with values from -1 to 1, and of four with values from -2 to 2, every link.
+/// Every link of every small trace.
 #[test]
 fn every_small_trace() {
-    for (samples, values) in [(5, 3), (4, 5i16)] {
-        for ticks in [[0, 1, 2, 3, 4], [5, 6, 8, 9, 12], [0, 2, 3, 6, 7]] {
-            for digits in 0..values.pow(samples) {
-                let trace = Trace {
-                    ticks: ticks[..samples as usize].to_vec(),
-                    values: (0..samples)
-                        .map(|k| digits / values.pow(k) % values - values / 2)
-                        .collect(),
-                };
-                for j in 1..samples as usize {
-                    for i in 0..j {
-                        link(&trace, i, j);
-                    }
-                }
+    for trace in small_traces() {
+        for j in 1..trace.ticks.len() {
+            for i in 0..j {
+                link(&trace, i, j);
             }
         }
     }

@@ -6,7 +6,7 @@ use kovrelna_reference::generate::{just_below, trace, Kind, Random, Trace, KINDS
 use kovrelna_reference::Method::Gallop;
 use kovrelna_reference::{link_error, METHODS};
 
-use crate::SMALL_TOLERANCES;
+use crate::{small_traces, SMALL_TOLERANCES};
 
 #[test]
 fn random_traces() {
@@ -223,23 +223,12 @@ fn greatest_numbers() {
     }
 }
 
-/// Every trace of five samples with values from -1 to 1, and of four with values from -2 to 2.
 #[test]
 fn every_small_trace() {
-    for (samples, values) in [(5, 3), (4, 5i16)] {
-        for ticks in [[0, 1, 2, 3, 4], [5, 6, 8, 9, 12], [0, 2, 3, 6, 7]] {
-            for digits in 0..values.pow(samples) {
-                let trace = Trace {
-                    ticks: ticks[..samples as usize].to_vec(),
-                    values: (0..samples)
-                        .map(|k| digits / values.pow(k) % values - values / 2)
-                        .collect(),
-                };
-                for (p, q) in SMALL_TOLERANCES {
-                    let tolerance = ratio(p, q);
-                    size_bounds(&trace, tolerance, &lists(&trace, tolerance, 5));
-                }
-            }
+    for trace in small_traces() {
+        for (p, q) in SMALL_TOLERANCES {
+            let tolerance = ratio(p, q);
+            size_bounds(&trace, tolerance, &lists(&trace, tolerance, 5));
         }
     }
 }
