@@ -858,7 +858,8 @@ lies 5/3 above the line'
     >>> check(record, ticks, values, gap=2)
     Checked(passed=True, cause=None)
     >>> check(record, ticks, values, gap=1).cause
-    'link 0, from sample 0 at tick 0 to sample 2 at tick 3, crosses the hole from tick 1 to tick 3'
+    'link 0, from sample 0 at tick 0 to sample 2 at tick 3, crosses the hole from tick 1 to tick 3, \
+and its error is 2/3'
     """
     content = read(record)
     try:

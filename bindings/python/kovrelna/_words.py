@@ -89,7 +89,8 @@ def strays(ticks: Sequence[int], bound: object, error: Fraction, sample: int, si
     crosses, or the sample that is farther from its line than the bound."""
     tick = ticks[sample]
     if side == "gap":
-        return f"crosses the hole from tick {tick} to tick {ticks[sample + 1]}"
+        hole = f"the hole from tick {tick} to tick {ticks[sample + 1]}"
+        return f"crosses {hole}, and its error is {error}"
     where = f"sample {sample} at tick {tick} lies {error} {side} the line"
     return f"is not within {bound}: {where}"
 

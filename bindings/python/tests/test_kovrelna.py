@@ -882,7 +882,7 @@ class Words(Case):
             ([0, 1, 3, 6], "link 1, from sample 1 to sample 3", "from tick 9 to tick 18"),
             ([0, 1, 2, 6], "link 2, from sample 2 to sample 6", "from tick 20 to tick 30"),
         ]:
-            words = f"{link}, crosses the hole {hole}"
+            words = f"{link}, crosses the hole {hole}, and its error is 0"
             self.says(7, words, kovrelna.write, parts, [0] * 7, kept, 0, gap=8)
         # The tolerance alone, and both.
         link, place = "link 0, from sample 0 to sample 2", "sample 1 at tick 9"
@@ -890,7 +890,7 @@ class Words(Case):
         for gap in (9, 8):
             given = parts, [0, 9, 0, 0, 0, 0, 0], [0, 2, 6], Ratio(17, 2)
             self.says(7, words, kovrelna.write, *given, gap=gap)
-        words = f"{link}, crosses the hole from tick 0 to tick 9"
+        words = f"{link}, crosses the hole from tick 0 to tick 9, and its error is 9"
         self.says(7, words, kovrelna.write, parts, [0, 9, 0, 0, 0, 0, 0], [0, 2, 6], 9, gap=8)
 
     def test_long_numbers(self):
@@ -1912,7 +1912,8 @@ class Checks(Case):
         parts = kovrelna.write(PARTS, [0] * 6, [0, 2, 5], 0)
         link = "link 1, from sample 2 at tick 2 to sample 5 at tick 12"
         checked = kovrelna.check(parts, PARTS, [0] * 6, gap=7)
-        self.assertEqual(checked.cause, f"{link}, crosses the hole from tick 2 to tick 10")
+        cause = f"{link}, crosses the hole from tick 2 to tick 10, and its error is 0"
+        self.assertEqual(checked.cause, cause)
         self.assertTrue(kovrelna.check(parts, PARTS, [0] * 6, gap=8))
         cause = f"{link}, is not within 0: sample 4 at tick 11 lies 1 above the line"
         for gap in (8, 7):

@@ -24,29 +24,29 @@ use Rattle.trace.proofs.MeasureLaws.{measure-strays}
 use Rattle.engine.specs.declared.Measured.{Measured}
 use Rattle.engine.specs.declared.Measured.the-variants.{Link, Refused as Declined}
 use Rattle.engine.specs.Checks.{ownRows}
-use Rattle.engine.specs.Measure.{linkRow, measureRows, declineMeasure, measuredBy, measuredAt, MeasureOutcome}
+use Rattle.engine.specs.Measure.{endsRow, measureRows, declineMeasure, measuredBy, measuredAt, MeasureOutcome}
 
 -- ---- row 6
 
 module _ (n i j : ℕ) where
-  pub first-beyond : n ≤ i → Refused (NoKeptList 0) ≡ linkRow n i j
-  unfolding linkRow
+  pub first-beyond : n ≤ i → Refused (NoKeptList 0) ≡ endsRow n i j
+  unfolding endsRow
   first-beyond h = rw (le-ltb i n h)
 
-  pub second-beyond : i < n → n ≤ j → Refused (NoKeptList 1) ≡ linkRow n i j
-  unfolding linkRow
+  pub second-beyond : i < n → n ≤ j → Refused (NoKeptList 1) ≡ endsRow n i j
+  unfolding endsRow
   second-beyond h k = rw (lt-ltb i n h, le-ltb j n k)
 
-  pub second-below : i < n → j < n → j ≤ i → Refused (NoKeptList 1) ≡ linkRow n i j
-  unfolding linkRow
+  pub second-below : i < n → j < n → j ≤ i → Refused (NoKeptList 1) ≡ endsRow n i j
+  unfolding endsRow
   second-below h k l = rw (lt-ltb i n h, lt-ltb j n k, le-ltb i j l)
 
-  pub link-fine : i < n → j < n → i < j → Fine ≡ linkRow n i j
-  unfolding linkRow
+  pub link-fine : i < n → j < n → i < j → Fine ≡ endsRow n i j
+  unfolding endsRow
   link-fine h k l = rw (lt-ltb i n h, lt-ltb j n k, lt-ltb i j l)
 
-  fine-link : linkRow n i j ≡ Fine → (i < j) × (j < n)
-  unfolding linkRow
+  fine-link : endsRow n i j ≡ Fine → (i < j) × (j < n)
+  unfolding endsRow
   fine-link e =
       let a = row-fine _ _ (then-fine (row (ltb i n) (NoKeptList 0)) _ e .1) in
       (ltb-true i j (and-second (ltb j n) (ltb i j) a), ltb-true j n (and-first (ltb j n) (ltb i j) a))
@@ -54,24 +54,24 @@ module _ (n i j : ℕ) where
 -- ---- the answer, where a check passes and where it does not
 
 module _ (ts : List ℕ) (vs : List ℤ) (i j : ℕ) where
-  pub row-link : Trace ts vs → linkRow (length ts) i j ≡ Fine → Linked ts vs i j
+  pub row-link : Trace ts vs → endsRow (length ts) i j ≡ Fine → Linked ts vs i j
   row-link t e = let l = fine-link (length ts) i j e in record { trace = t; forward = l .0; inside = l .1 }
 
-  pub measured-fine : {m : Measure} → linkRow (length ts) i j ≡ Fine → m ≡ measureOf ts vs i j → Link m ≡ measuredAt ts vs i j
+  pub measured-fine : {m : Measure} → endsRow (length ts) i j ≡ Fine → m ≡ measureOf ts vs i j → Link m ≡ measuredAt ts vs i j
   unfolding measuredAt
   measured-fine h e = rw (h, e)
 
-  pub measured-refused : {x : Refusal} → linkRow (length ts) i j ≡ Refused x → Declined x ≡ measuredAt ts vs i j
+  pub measured-refused : {x : Refusal} → endsRow (length ts) i j ≡ Refused x → Declined x ≡ measuredAt ts vs i j
   unfolding measuredAt
   measured-refused h = rw h
 
-  pub trace-fine : ownRows ts vs ≡ Fine → measuredAt ts vs i j ≡ measuredBy ts vs i j
+  pub own-fine : ownRows ts vs ≡ Fine → measuredAt ts vs i j ≡ measuredBy ts vs i j
   unfolding measuredAt measuredBy measureRows
-  trace-fine h = rw h
+  own-fine h = rw h
 
-  pub trace-refused : {x : Refusal} → ownRows ts vs ≡ Refused x → Declined x ≡ measuredBy ts vs i j
+  pub own-refused : {x : Refusal} → ownRows ts vs ≡ Refused x → Declined x ≡ measuredBy ts vs i j
   unfolding measuredBy measureRows
-  trace-refused h = rw h
+  own-refused h = rw h
 
   rows-link : measureRows ts vs i j ≡ Fine → Linked ts vs i j
   unfolding measureRows

@@ -1,5 +1,5 @@
 -- The outcome of `measure` (document 02, "Where the line strays").
---   linkRow          row 6, of two samples that are no link of a trace of n samples: 0 names the first, 1 the second
+--   endsRow          row 6, of two samples that are no link of a trace of n samples: 0 names the first, 1 the second
 --   measureRows      the first of the rows 1, 2, 3, 6 that applies
 --   declineMeasure   a refusal, or else the measure
 --   measuredBy       what `measure` answers
@@ -25,11 +25,11 @@ use Rattle.engine.specs.declared.Measured.the-variants.{Link, Refused as
 use Rattle.engine.specs.Checks.{ownRows}
 
 -- 6: the first sample is beyond the trace; the second is beyond it, or not above the first
-unfoldable pub linkRow : ℕ → ℕ → ℕ → Checked
-linkRow n i j = row (ltb i n) (NoKeptList 0) thenCheck row (ltb j n && ltb i j) (NoKeptList 1)
+unfoldable pub endsRow : ℕ → ℕ → ℕ → Checked
+endsRow n i j = row (ltb i n) (NoKeptList 0) thenCheck row (ltb j n && ltb i j) (NoKeptList 1)
 
 unfoldable pub measureRows : List ℕ → List ℤ → ℕ → ℕ → Checked
-measureRows ts vs i j = ownRows ts vs thenCheck linkRow (length ts) i j
+measureRows ts vs i j = ownRows ts vs thenCheck endsRow (length ts) i j
 
 abbrev pub declineMeasure : Checked → Measure → Measured
 declineMeasure Fine m = Link m
@@ -44,4 +44,4 @@ pub record MeasureOutcome (ts : List ℕ) (vs : List ℤ) (i j : ℕ) (r : Measu
   pub strays : (m : Measure) → r ≡ Link m → Linked ts vs i j × Strays ts vs i j m
 
 unfoldable pub measuredAt : List ℕ → List ℤ → ℕ → ℕ → Measured
-measuredAt ts vs i j = declineMeasure (linkRow (length ts) i j) (measureOf ts vs i j)
+measuredAt ts vs i j = declineMeasure (endsRow (length ts) i j) (measureOf ts vs i j)

@@ -1,14 +1,14 @@
 // The public call `measure`: where a link strays (document 02, "Where the line strays").
 ghost use mathlib.Core.Path.{_≡_};
 ghost use Rattle.trace.specs.Trace.{Trace};
-ghost use Rattle.engine.specs.Measure.{linkRow, measuredAt, MeasureOutcome};
+ghost use Rattle.engine.specs.Measure.{endsRow, measuredAt, MeasureOutcome};
 use crate::Measured;
 use refusal::Checked;
 use refusal::Refusal;
 
 // Check 6, of two samples i and j of a trace of n samples.
 fn check_link(n: usize, i: usize, j: usize) -> Checked
-    ensures { λ r. ⌜ r ≡ linkRow n i j ⌝ }
+    ensures { λ r. ⌜ r ≡ endsRow n i j ⌝ }
 {
     if n <= i {
         return Checked::Refused(Refusal::List(0));

@@ -38,7 +38,7 @@ use Rattle.engine.specs.declared.Limits.{Limits}
 use Rattle.engine.specs.declared.Measured.the-variants.{Link as Measured}
 use Rattle.engine.specs.declared.Verdict.the-variants.{No}
 use Rattle.engine.specs.Prepare.{unlimited, commonRows, criterionOf, outputRows}
-use Rattle.engine.specs.Measure.{linkRow, measureRows, measuredBy}
+use Rattle.engine.specs.Measure.{endsRow, measureRows, measuredBy}
 use Rattle.engine.specs.Judge.{judgeRows, listVerdict, judgeOf}
 use Rattle.engine.specs.Least.{allowedRows, leastRows}
 use Rattle.engine.specs.Write.{writeRows}
@@ -347,11 +347,11 @@ abbrev slopeTicks : List ℕ
 slopeTicks = 0 ∷ 1 ∷ 3 ∷ []
 
 slope-measured : measuredBy slopeTicks (pos 0 ∷ pos 1 ∷ pos 1 ∷ []) 0 2 ≡ Measured (record { error = over 2 3; sample = 1; side = Above })
-unfolding measuredBy measureRows linkRow traceRows worstSample first firstOf linkError farthest greatest deviation gcd euclid
+unfolding measuredBy measureRows endsRow traceRows worstSample first firstOf linkError farthest greatest deviation gcd euclid
 slope-measured = refl
 
 level-measured : measuredBy slopeTicks (pos 0 ∷ pos 0 ∷ pos 0 ∷ []) 0 2 ≡ Measured (record { error = over 0 1; sample = 0; side = On })
-unfolding measuredBy measureRows linkRow traceRows worstSample first firstOf linkError farthest greatest deviation gcd euclid
+unfolding measuredBy measureRows endsRow traceRows worstSample first firstOf linkError farthest greatest deviation gcd euclid
 level-measured = refl
 
 -- of two samples with one deviation the first, on its own side
@@ -369,23 +369,23 @@ tie-below = refl
 -- 6 with 0 for a first sample beyond the trace, with 1 for a second beyond it, equal to the first or below it; 2 comes first
 
 beyond-first : measureRows fourTicks (pos 0 ∷ pos 0 ∷ pos 0 ∷ pos 0 ∷ []) 4 9 ≡ Refused (NoKeptList 0)
-unfolding measureRows linkRow traceRows first firstOf
+unfolding measureRows endsRow traceRows first firstOf
 beyond-first = refl
 
 beyond-second : measureRows fourTicks (pos 0 ∷ pos 0 ∷ pos 0 ∷ pos 0 ∷ []) 3 4 ≡ Refused (NoKeptList 1)
-unfolding measureRows linkRow traceRows first firstOf
+unfolding measureRows endsRow traceRows first firstOf
 beyond-second = refl
 
 equal-samples : measureRows fourTicks (pos 0 ∷ pos 0 ∷ pos 0 ∷ pos 0 ∷ []) 3 3 ≡ Refused (NoKeptList 1)
-unfolding measureRows linkRow traceRows first firstOf
+unfolding measureRows endsRow traceRows first firstOf
 equal-samples = refl
 
 swapped-samples : measureRows fourTicks (pos 0 ∷ pos 0 ∷ pos 0 ∷ pos 0 ∷ []) 2 1 ≡ Refused (NoKeptList 1)
-unfolding measureRows linkRow traceRows first firstOf
+unfolding measureRows endsRow traceRows first firstOf
 swapped-samples = refl
 
 trace-before-link : measureRows (0 ∷ 1 ∷ 1 ∷ []) (pos 0 ∷ pos 0 ∷ pos 0 ∷ []) 9 0 ≡ Refused (Tick 2)
-unfolding measureRows linkRow traceRows first firstOf
+unfolding measureRows endsRow traceRows first firstOf
 trace-before-link = refl
 
 -- a link that crosses a hole and is not within the tolerance has its plain measure

@@ -1,6 +1,6 @@
 -- The measure of a link (document 02, "Where the line strays"): its error, the sample where that error occurs first, and its side.
 --   sideOf        the sign of a deviation: above, below or on the line
---   farthestAt      sample k deviates by as much as any of the link's samples
+--   farthestAt    sample k deviates by as much as any of the link's samples
 --   worstSample   the first sample from i on that does: sample i itself, which lies on the line, where the error is 0
 --   deviationOf   the deviation of a stray
 --   strayOf       the greatest deviation, which need not be in lowest terms, and that sample

@@ -3,7 +3,7 @@ use mathlib.Core.Path.{sym, _∙_}
 use native.Mathlib.Omega.{arith}
 use borrow.Author.Needs.{needs}
 use Rattle.trace.proofs.TraceLaws.{rows-trace}
-use Rattle.engine.proofs.MeasureLaws.{trace-fine, trace-refused, measure-outcome}
+use Rattle.engine.proofs.MeasureLaws.{own-fine, own-refused, measure-outcome}
 use Rattle.engine.proofs.measure.measure.Statement.{statement}
 use Rattle.engine.proofs.measure.measure.Tie as tie
 
@@ -24,14 +24,14 @@ returns c =
     let k = c .before .before .before in
     let a = k .before .before .args in
     measure-outcome (a .ticks .now) (a .values .now) (a .i) (a .j)
-    (c .measure-at .ensures ∙ trace-fine (a .ticks .now) (a .values .now) (a .i) (a .j) (sym (k .check .ensures) ∙ c .before .enum-told .given .1))
+    (c .measure-at .ensures ∙ own-fine (a .ticks .now) (a .values .now) (a .i) (a .j) (sym (k .check .ensures) ∙ c .before .enum-told .given .1))
 
 returns-2 : tie.Need-returns-2
 returns-2 c =
     let k = c .before .before .before in
     let a = k .before .before .args in
     measure-outcome (a .ticks .now) (a .values .now) (a .i) (a .j)
-    (trace-refused (a .ticks .now) (a .values .now) (a .i) (a .j) (sym (k .check .ensures) ∙ c .before .checked .given .1))
+    (own-refused (a .ticks .now) (a .values .now) (a .i) (a .j) (sym (k .check .ensures) ∙ c .before .checked .given .1))
 
 pub measure-spec : {M : Type 1} → statement M
 measure-spec =
