@@ -2,61 +2,29 @@
 -- Assumes nothing.
 use mathlib.Core.Path.{_≡_, refl, sym}
 use mathlib.Core.List.{List}
-use Prim.Native.Nat.{ℕ, _≤_, _<_}
+use Prim.Native.Nat.{ℕ}
 use native.Mathlib.Omega.{arith}
-use lib.Dec.{ltb}
 use lib.IntN.{ℤ}
 use lib.ListN.{length}
-use borrow.Author.Tests.{le-ltb, lt-ltb, ltb-true}
-use Rattle.lists.proofs.Tests.{and-first, and-second}
 use Rattle.refusal.specs.declared.Refusal.{Refusal}
-use Rattle.refusal.specs.declared.Refusal.the-variants.{List as NoKeptList}
 use Rattle.refusal.specs.declared.Checked.{Checked}
 use Rattle.refusal.specs.declared.Checked.the-variants.{Fine, Refused}
-use Rattle.refusal.specs.Table.{row}
-use Rattle.refusal.proofs.TableLaws.{row-fine, then-fine}
+use Rattle.refusal.proofs.TableLaws.{then-fine}
 use Rattle.trace.specs.declared.Measure.{Measure}
-use Rattle.trace.specs.Trace.{Trace}
 use Rattle.trace.specs.Link.{Linked}
 use Rattle.trace.specs.Measure.{measureOf, Strays}
 use Rattle.trace.proofs.TraceLaws.{rows-trace}
 use Rattle.trace.proofs.MeasureLaws.{measure-strays}
+use Rattle.proposed.specs.Proposed.{endsRow}
+use Rattle.proposed.proofs.ProposedLaws.{ends-linked}
 use Rattle.engine.specs.declared.Measured.{Measured}
 use Rattle.engine.specs.declared.Measured.the-variants.{Link, Refused as Declined}
 use Rattle.engine.specs.Checks.{ownRows}
-use Rattle.engine.specs.Measure.{endsRow, measureRows, declineMeasure, measuredBy, measuredAt, MeasureOutcome}
-
--- ---- row 6
-
-module _ (n i j : ℕ) where
-  pub first-beyond : n ≤ i → Refused (NoKeptList 0) ≡ endsRow n i j
-  unfolding endsRow
-  first-beyond h = rw (le-ltb i n h)
-
-  pub second-beyond : i < n → n ≤ j → Refused (NoKeptList 1) ≡ endsRow n i j
-  unfolding endsRow
-  second-beyond h k = rw (lt-ltb i n h, le-ltb j n k)
-
-  pub second-below : i < n → j < n → j ≤ i → Refused (NoKeptList 1) ≡ endsRow n i j
-  unfolding endsRow
-  second-below h k l = rw (lt-ltb i n h, lt-ltb j n k, le-ltb i j l)
-
-  pub link-fine : i < n → j < n → i < j → Fine ≡ endsRow n i j
-  unfolding endsRow
-  link-fine h k l = rw (lt-ltb i n h, lt-ltb j n k, lt-ltb i j l)
-
-  fine-link : endsRow n i j ≡ Fine → (i < j) × (j < n)
-  unfolding endsRow
-  fine-link e =
-      let a = row-fine _ _ (then-fine (row (ltb i n) (NoKeptList 0)) _ e .1) in
-      (ltb-true i j (and-second (ltb j n) (ltb i j) a), ltb-true j n (and-first (ltb j n) (ltb i j) a))
+use Rattle.engine.specs.Measure.{measureRows, declineMeasure, measuredBy, measuredAt, MeasureOutcome}
 
 -- ---- the answer, where a check passes and where it does not
 
 module _ (ts : List ℕ) (vs : List ℤ) (i j : ℕ) where
-  pub row-link : Trace ts vs → endsRow (length ts) i j ≡ Fine → Linked ts vs i j
-  row-link t e = let l = fine-link (length ts) i j e in record { trace = t; forward = l .0; inside = l .1 }
-
   pub measured-fine : {m : Measure} → endsRow (length ts) i j ≡ Fine → m ≡ measureOf ts vs i j → Link m ≡ measuredAt ts vs i j
   unfolding measuredAt
   measured-fine h e = rw (h, e)
@@ -77,7 +45,7 @@ module _ (ts : List ℕ) (vs : List ℤ) (i j : ℕ) where
   unfolding measureRows
   rows-link h =
       let a = then-fine (ownRows ts vs) _ h in
-      row-link (rows-trace 4096 ts vs (omega arith) (a .0) .0) (a .1)
+      ends-linked i j (rows-trace 4096 ts vs (omega arith) (a .0) .0) (a .1)
 
   link-only : (x : Checked) {m k : Measure} → declineMeasure x m ≡ Link k → (x ≡ Fine) × (m ≡ k)
   link-only Fine e = (refl, cc)

@@ -1,5 +1,4 @@
 -- The outcome of `measure` (document 02, "Where the line strays").
---   endsRow          row 6, of two samples that are no link of a trace of n samples: 0 names the first, 1 the second
 --   measureRows      the first of the rows 1, 2, 3, 6 that applies
 --   declineMeasure   a refusal, or else the measure
 --   measuredBy       what `measure` answers
@@ -7,26 +6,20 @@
 --   measuredAt       the answer where the checks 1 to 3 pass
 -- Assumes nothing.
 use mathlib.Core.Path.{_≡_}
-use mathlib.Core.Bool.{_&&_}
 use mathlib.Core.List.{List}
 use Prim.Native.Nat.{ℕ}
-use lib.Dec.{ltb}
 use lib.IntN.{ℤ}
 use lib.ListN.{length}
-use Rattle.refusal.specs.declared.Refusal.the-variants.{List as NoKeptList}
 use Rattle.refusal.specs.declared.Checked.{Checked}
 use Rattle.refusal.specs.declared.Checked.the-variants.{Fine, Refused}
-use Rattle.refusal.specs.Table.{row, _thenCheck_}
+use Rattle.refusal.specs.Table.{_thenCheck_}
 use Rattle.trace.specs.declared.Measure.{Measure}
 use Rattle.trace.specs.Link.{Linked}
 use Rattle.trace.specs.Measure.{measureOf, Strays}
+use Rattle.proposed.specs.Proposed.{endsRow}
 use Rattle.engine.specs.declared.Measured.{Measured}
 use Rattle.engine.specs.declared.Measured.the-variants.{Link, Refused as Declined}
 use Rattle.engine.specs.Checks.{ownRows}
-
--- 6: the first sample is beyond the trace; the second is beyond it, or not above the first
-unfoldable pub endsRow : ℕ → ℕ → ℕ → Checked
-endsRow n i j = row (ltb i n) (NoKeptList 0) thenCheck row (ltb j n && ltb i j) (NoKeptList 1)
 
 unfoldable pub measureRows : List ℕ → List ℤ → ℕ → ℕ → Checked
 measureRows ts vs i j = ownRows ts vs thenCheck endsRow (length ts) i j

@@ -1,33 +1,16 @@
 // The public call `measure`: where a link strays (document 02, "Where the line strays").
 ghost use mathlib.Core.Path.{_≡_};
 ghost use Rattle.trace.specs.Trace.{Trace};
-ghost use Rattle.engine.specs.Measure.{endsRow, measuredAt, MeasureOutcome};
+ghost use Rattle.engine.specs.Measure.{measuredAt, MeasureOutcome};
 use crate::Measured;
 use refusal::Checked;
-use refusal::Refusal;
-
-// Check 6, of two samples i and j of a trace of n samples.
-fn check_link(n: usize, i: usize, j: usize) -> Checked
-    ensures { λ r. ⌜ r ≡ endsRow n i j ⌝ }
-{
-    if n <= i {
-        return Checked::Refused(Refusal::List(0));
-    }
-    if n <= j {
-        return Checked::Refused(Refusal::List(1));
-    }
-    if j <= i {
-        return Checked::Refused(Refusal::List(1));
-    }
-    Checked::Fine
-}
 
 // The answer where the checks 1 to 3 pass.
 fn measure_at(ticks: &[u32], values: &[i16], i: usize, j: usize) -> Measured
     requires { ⌜ Trace (now ticks) (now values) ⌝ }
     ensures { λ r. ⌜ r ≡ measuredAt (now (ticks .entry)) (now (values .entry)) i j ⌝ }
 {
-    let checked = check_link(ticks.len(), i, j);
+    let checked = proposed::check_ends(ticks.len(), i, j);
     match checked {
         Checked::Fine => Measured::Link(trace::measures::link_measure(ticks, values, i, j)),
         Checked::Refused(x) => Measured::Refused(x),

@@ -1,7 +1,7 @@
--- `engine::measure::check_link` meets its contract. Assumes nothing.
-use Rattle.engine.proofs.MeasureLaws.{first-beyond, second-beyond, second-below, link-fine}
-use Rattle.engine.proofs.measure.check_link.Statement.{statement}
-use Rattle.engine.proofs.measure.check_link.Tie as tie
+-- `proposed::check_ends` meets its contract. Assumes nothing.
+use Rattle.proposed.proofs.ProposedLaws.{first-beyond, second-beyond, second-below, link-fine}
+use Rattle.proposed.proofs.check_ends.Statement.{statement}
+use Rattle.proposed.proofs.check_ends.Tie as tie
 
 returns : tie.Need-returns
 returns c = first-beyond _ _ _ (c .if1 .taken)
@@ -15,5 +15,5 @@ returns-3 c = second-below _ _ _ (c .before .before .if1 .left) (c .before .if2 
 returns-4 : tie.Need-returns-4
 returns-4 c = link-fine _ _ _ (c .before .before .if1 .left) (c .before .if2 .left) (c .if3 .left)
 
-pub check-link-spec : {M : Type 1} → statement M
-check-link-spec = tie.close (tie.spec returns returns-2 returns-3 returns-4)
+pub check-ends-spec : {M : Type 1} → statement M
+check-ends-spec = tie.close (tie.spec returns returns-2 returns-3 returns-4)
