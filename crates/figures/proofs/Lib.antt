@@ -1,3 +1,4 @@
--- The figures of document 01, and an example of each request of document 02.
+-- The figures of document 01, and examples of the requests of document 02.
 pub mod Figures
 pub mod Requests
+pub mod Links
