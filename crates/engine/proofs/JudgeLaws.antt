@@ -1,11 +1,10 @@
 -- Laws of `judge`: a list is passed exactly if each of its links is valid, and a no names what makes the first invalid link invalid.
 -- Assumes nothing.
-use mathlib.Core.Path.{_≡_, refl, sym, ap, _∙_}
+use mathlib.Core.Path.{_≡_, refl, sym, _∙_}
 use mathlib.Core.Logic.{_↔_}
 use mathlib.Core.List.{List}
 use mathlib.Core.Bool.{false}
 use Prim.Native.Nat.{ℕ, suc, _-_, _≤_, _<_}
-use native.Mathlib.Numerals.{add-one}
 use native.Mathlib.Decide.{decLe}
 use native.Mathlib.Omega.{arith}
 use lib.IntN.{ℤ}
@@ -75,7 +74,7 @@ module _ (ts : List ℕ) (vs : List ℤ) (l : List ℕ) (c : Criterion) where
   no-offends : Trace ts vs → KeptList (length ts - 1) l → (k : ℕ) (m : Measure) → listVerdict ts vs l c ≡ No k m → Offends ts vs c (entry l k) (entry l (suc k)) m
   no-offends t kept k m e =
       let v = no-verdict e in
-      rw (v .2) (fault-offends (kept-link t kept (v .0) refl (ap (λ (n : ℕ). entry l n) (sym (add-one k)))) c (first-is-invalid (v .1) (v .0)))
+      rw (v .2) (fault-offends (kept-link k t kept (v .0)) c (first-is-invalid (v .1) (v .0)))
 
 -- ---- the answer, where a check passes and where it does not
 
