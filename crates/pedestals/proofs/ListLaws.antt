@@ -2,20 +2,16 @@
 -- Assumes nothing.
 use mathlib.Core.Path.{_≡_, refl, sym, _∙_, ap, subst}
 use mathlib.Core.Bool.{Bool, true, false, cond}
-use mathlib.Core.List.{List, [], _∷_, _++_, append-nil, List·Memᴰ, List·Memᴰ·head, List·Memᴰ·not-nil, List·Memᴰ·append-cases, List·Memᴰ·eq-of-singleton, Memᴰ·append-left, Memᴰ·append-right}
-use mathlib.Core.Logic.{_⊎_, inl, inr}
-use Prim.Native.Nat.{ℕ, zero, suc, _+_, _-_, _≤_, _<_}
-use native.Mathlib.Nat.{add-zero}
+use mathlib.Core.List.{List, [], _∷_, _++_, append-nil}
+use Prim.Native.Nat.{ℕ, _+_, _-_, _≤_, _<_}
 use native.Mathlib.Numerals.{add-one}
 use native.Mathlib.Omega.{arith}
 use lib.IntN.{ℤ}
-use lib.Dec.{ltb}
-use lib.ListN.{length, take, drop, getD, length-append, List·getD-append}
-use lib.Seq.{getD-append-add}
-use borrow.Author.Tests.{ltb-true, ltb-false}
-use Rattle.lists.proofs.Tests.{by-test}
+use lib.ListN.{length, take, drop, getD, length-append}
 use Rattle.lists.specs.Overwrite.{Wrote}
+use Rattle.lists.specs.Listed.{listed}
 use Rattle.lists.proofs.OverwriteLaws.{overwrite-length, overwrite-snoc}
+use Rattle.lists.proofs.ListedLaws.{listed-length}
 use Rattle.channels.specs.Channels.{sum, placeOf, part, ofChannel}
 use Rattle.channels.proofs.ChannelLaws.{lent-part, place-next, place-fits}
 use Rattle.ratio.specs.declared.Ratio.{Ratio}
@@ -23,19 +19,11 @@ use Rattle.tolerance.specs.declared.Tolerance.{Tolerance}
 use Rattle.pedestals.specs.declared.Counts.{Counts}
 use Rattle.pedestals.specs.declared.Verdict.{Verdict}
 use Rattle.pedestals.specs.Sums.{moved, noisy, Judged}
-use Rattle.pedestals.specs.Compare.{Run, valuesOf, listed, movedChannels, Listed}
+use Rattle.pedestals.specs.Compare.{Run, valuesOf, movedChannels, Listed}
 use Rattle.pedestals.specs.Checking.{Passed}
 use Rattle.pedestals.specs.Listing.{Put, PartFits, Listable, movedIn, noisyIn, BothListed}
 
 -- ---- a list
-
-pub listed-length : (f : ℕ → Bool) (m : ℕ) → length (listed f m) ≤ m
-listed-length f zero = omega arith
-listed-length f (suc m) = simp length-append (omega (arith, listed-length f m, one (f m)))
-  where
-    one : (t : Bool) → length (cond t (m ∷ []) []) ≤ 1
-    one true = omega arith
-    one false = omega arith
 
 module _ (f : ℕ → Bool) {o o₁ : List ℕ} {n c : ℕ} (w : Wrote (listed f c) o n o₁) (room : c < length o) where
   -- there is room for channel c
@@ -53,71 +41,6 @@ module _ (f : ℕ → Bool) {o o₁ : List ℕ} {n c : ℕ} (w : Wrote (listed f
 
   pub listed-more : {t : Bool} {r : ℕ} {o₂ : List ℕ} → t ≡ f c → Put o₁ n c t r o₂ → Wrote (listed f (c + 1)) o r o₂
   listed-more e p = rw (add-one c, ← e) (put-one _ p)
-
--- tests that agree below m list the same channels
-pub listed-alike : {f g : ℕ → Bool} (m : ℕ) → ((c : ℕ) → c < m → f c ≡ g c) → listed f m ≡ listed g m
-listed-alike zero h = refl
-listed-alike (suc m) h = rw (listed-alike m (λ c u. h c (omega arith)), h m (omega arith))
-
-pub listed-none : {f : ℕ → Bool} (m : ℕ) → ((c : ℕ) → c < m → f c ≡ false) → listed f m ≡ []
-listed-none zero h = refl
-listed-none (suc m) h = rw (listed-none m (λ c u. h c (omega arith)), h m (omega arith))
-
--- each entry is below m and above the one before
-pub record RisesBelow (m : ℕ) (l : List ℕ) : Type 0 where
-  pub below : (i : ℕ) → i < length l → getD l i 0 < m
-  pub rises : (i : ℕ) → suc i < length l → getD l i 0 < getD l (suc i) 0
-
-module _ {m : ℕ} {l : List ℕ} (h : RisesBelow m l) where
-  entry : (i : ℕ) → i < length l → getD (l ++ (m ∷ [])) i 0 ≡ getD l i 0
-  entry i = List·getD-append l (m ∷ []) 0 i
-
-  end : (i : ℕ) → i ≡ length l → getD (l ++ (m ∷ [])) i 0 ≡ m
-  end i e = rw (e, ← add-zero (length l)) (getD-append-add l (m ∷ []) 0 0)
-
-  with-last : RisesBelow (suc m) (l ++ (m ∷ []))
-  with-last = record {
-    below = λ i u. by-test (ltb i (length l))
-        (λ t. let lt = ltb-true i (length l) t in rw (entry i lt) (omega (arith, h .below i lt)))
-        (λ t. rw (end i (omega (arith, ltb-false i (length l) t, simp length-append at u))) (omega arith));
-    rises = λ i u.
-        let lt : i < length l = omega (arith, simp length-append at u) in
-        rw (entry i lt) (by-test (ltb (suc i) (length l))
-        (λ t. let up = ltb-true (suc i) (length l) t in rw (entry (suc i) up) (h .rises i up))
-        (λ t. rw (end (suc i) (omega (arith, lt, ltb-false (suc i) (length l) t))) (h .below i lt)));
-  }
-
-  without : RisesBelow (suc m) (l ++ [])
-  without = rw append-nil (record { below = λ i u. omega (arith, h .below i u); rises = h .rises })
-
-rises-more : (t : Bool) {m : ℕ} {l : List ℕ} → RisesBelow m l → RisesBelow (suc m) (l ++ cond t (m ∷ []) [])
-rises-more true h = with-last h
-rises-more false h = without h
-
-module _ (f : ℕ → Bool) where
-  -- a channel is listed exactly if it is below m and f holds of it
-  last-one : {c m : ℕ} (t : Bool) → f m ≡ t → List·Memᴰ c (cond t (m ∷ []) []) → (c < suc m) × (f c ≡ true)
-  last-one true e h = rw (List·Memᴰ·eq-of-singleton h) (omega arith, e)
-  last-one false e h = absurd (List·Memᴰ·not-nil h)
-
-  pub listed-only : {c : ℕ} (m : ℕ) → List·Memᴰ c (listed f m) → (c < m) × (f c ≡ true)
-  listed-only zero h = absurd (List·Memᴰ·not-nil h)
-  listed-only {c} (suc m) h = go (listed-only m) (List·Memᴰ·append-cases (listed f m) h)
-    where
-      go : (List·Memᴰ c (listed f m) → (c < m) × (f c ≡ true)) → List·Memᴰ c (listed f m) ⊎ List·Memᴰ c (cond (f m) (m ∷ []) []) → (c < suc m) × (f c ≡ true)
-      go before (inl k) = let p = before k in (omega (arith, p .0), p .1)
-      go before (inr k) = last-one (f m) refl k
-
-  pub listed-each : {c : ℕ} (m : ℕ) → c < m → f c ≡ true → List·Memᴰ c (listed f m)
-  listed-each zero h e = absurd (omega arith)
-  listed-each {c} (suc m) h e = by-test (ltb c m) (λ t. Memᴰ·append-left _ (listed-each m (ltb-true c m t) e)) (λ t. last (omega (arith, ltb-false c m t)))
-    where
-      last : c ≡ m → List·Memᴰ c (listed f (suc m))
-      last q = Memᴰ·append-right (listed f m) (rw (sym (ap f q) ∙ e) (List·Memᴰ·head q))
-
-  pub listed-rising : (m : ℕ) → RisesBelow m (listed f m)
-  listed-rising zero = record { below = λ i h. absurd (omega arith); rises = λ i h. absurd (omega arith) }
-  listed-rising (suc m) = rises-more (f m) (listed-rising m)
 
 -- ---- a channel
 

@@ -1,6 +1,6 @@
 -- Numbers of 16 and 32 bits with their sign, as they are computed.
 -- Assumes nothing.
-use mathlib.Core.Path.{_≡_, refl, sym, _∙_, ap, subst}
+use mathlib.Core.Path.{_≡_, refl, sym, _∙_, subst}
 use mathlib.Core.List.{List}
 use Prim.Native.Nat.{ℕ, _+_, _*_, _/_, _%_, _≤_, _<_}
 use native.Mathlib.Nat.{mul-le-mul, div-add-mod'}
@@ -11,32 +11,26 @@ use lib.Signed.{mag, natAbs-le, nonNeg, ltZ}
 use mathlib.Core.Bool.{true, false}
 use borrow.Author.Tests.{ltb-true}
 use Rattle.lists.proofs.Tests.{true-false}
+use Rattle.lists.proofs.Widths.{wide-is}
 use lib.Dec.{T}
 use mir.Syntax.{w16, w32}
 use mir.Val.{SFits, toZ, ofZ}
-use mir.Facts.{sfits-widen, toZ-ofZ}
+use mir.Facts.{toZ-ofZ}
 use Rattle.pedestals.proofs.SumLaws.{abs-plus, abs-minus, abs-negated, squared, mag-abs, Summing, summing-none, summing-more}
 
 pub fits32 : {z : ℤ} → natAbs z ≤ 1073741824 → SFits w32 z
 fits32 {z} h = record { sfits = omega (arith, mag-abs z) }
 
--- a value as a wider number
+-- a value, whose square has 32 bits
 module _ {v : ℤ} (h : SFits w16 v) where
-  pub wide-fits : SFits w32 (toZ w16 (ofZ w16 v))
-  wide-fits = rw (toZ-ofZ h) (sfits-widen tt h)
-
-  pub wide-is : toZ w32 (ofZ w32 (toZ w16 (ofZ w16 v))) ≡ v
-  wide-is = ap (λ (y : ℤ). toZ w32 (ofZ w32 y)) (toZ-ofZ h) ∙ toZ-ofZ {w = w32} (sfits-widen tt h)
-
   short : natAbs v ≤ 32768
   short = natAbs-le v (h .sfits)
 
-  -- its square
   pub square-small : natAbs v * natAbs v ≤ 1073741824
   square-small = mul-le-mul short short
 
   square-of : toZ w32 (ofZ w32 (toZ w16 (ofZ w16 v))) *ℤ toZ w32 (ofZ w32 (toZ w16 (ofZ w16 v))) ≡ pos (natAbs v * natAbs v)
-  square-of = rw wide-is (squared v)
+  square-of = rw (wide-is h) (squared v)
 
   pub square-fits : SFits w32 (toZ w32 (ofZ w32 (toZ w16 (ofZ w16 v))) *ℤ toZ w32 (ofZ w32 (toZ w16 (ofZ w16 v))))
   square-fits = rw square-of (fits32 square-small)
@@ -47,7 +41,7 @@ module _ {v : ℤ} (h : SFits w16 v) where
   -- a sum with it
   module _ (s : ℤ) (small : natAbs s ≤ 134217728) where
     sum-of : toZ w32 (ofZ w32 s) +ℤ toZ w32 (ofZ w32 (toZ w16 (ofZ w16 v))) ≡ s +ℤ v
-    sum-of = rw (toZ-ofZ {w = w32} {z = s} (fits32 (omega arith)), wide-is)
+    sum-of = rw (toZ-ofZ {w = w32} {z = s} (fits32 (omega arith)), wide-is h)
 
     pub sum-fits : SFits w32 (toZ w32 (ofZ w32 s) +ℤ toZ w32 (ofZ w32 (toZ w16 (ofZ w16 v))))
     sum-fits = rw sum-of (fits32 (omega (arith, abs-plus s v, short)))

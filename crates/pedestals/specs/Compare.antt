@@ -7,20 +7,20 @@
 --   factorRow, runsRow            rows 14 and 11
 --   channelRow, channelRows       the first row that applies to a channel: run 1's 1, 2, 3, run 2's, 13; to each of several channels
 --   roomsRow, compareRows         row 10; the first row that applies to the call
---   listed                        the channels below a number that a test holds of, in rising order
 --   hasMoved, isNoisy             the two tests of a channel
---   movedChannels, noisyChannels  the two lists
+--   movedChannels, noisyChannels  the two lists, in channel order
 --   Listed, CompareOutcome        the contract, by cases on the answer
 -- A refused call leaves both lent lists as they were. Otherwise the first entries of each are its channels, and the others stay.
 -- Laws are in CheckLaws and ListLaws. Assumes nothing.
 use mathlib.Core.Path.{_≡_}
-use mathlib.Core.Bool.{Bool, _&&_, cond}
-use mathlib.Core.List.{List, [], _∷_, _++_}
+use mathlib.Core.Bool.{Bool, _&&_}
+use mathlib.Core.List.{List}
 use Prim.Native.Nat.{ℕ, zero, suc}
 use lib.Dec.{leb, eqb}
 use lib.IntN.{ℤ}
 use lib.ListN.{length, getD}
 use Rattle.lists.specs.Overwrite.{Wrote}
+use Rattle.lists.specs.Listed.{listed}
 use Rattle.refusal.specs.declared.Refusal.the-variants.{Crate, Samples, Factor}
 use Rattle.refusal.specs.declared.Checked as C
 use Rattle.refusal.specs.declared.Checked.the-variants.{Fine as Passes, Refused as Fails}
@@ -123,11 +123,6 @@ compareRows a b t k room room′ =
     called (roomsRow (length (a .lengths)) room room′)
 
 -- ---- lists
-
--- the channels below m that f holds of, in rising order
-abbrev pub listed : (ℕ → Bool) → ℕ → List ℕ
-listed f zero = []
-listed f (suc m) = listed f m ++ cond (f m) (m ∷ []) []
 
 abbrev pub hasMoved : Ratio → Run → Run → ℕ → Bool
 hasMoved r a b c = moved r (valuesOf a c) (valuesOf b c)

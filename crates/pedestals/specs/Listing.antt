@@ -12,12 +12,12 @@ use Prim.Native.Nat.{ℕ, _+_, _≤_, _<_}
 use lib.IntN.{ℤ}
 use lib.ListN.{length, set, getD}
 use Rattle.lists.specs.Overwrite.{Wrote}
+use Rattle.lists.specs.Listed.{listed}
 use Rattle.channels.specs.Channels.{sum, ofChannel}
 use Rattle.ratio.specs.declared.Ratio.{Ratio}
 use Rattle.tolerance.specs.Meaning.{Held}
 use Rattle.pedestals.specs.declared.Counts.{Counts}
 use Rattle.pedestals.specs.Sums.{moved, noisy}
-use Rattle.pedestals.specs.Compare.{listed}
 
 pub record Put (o : List ℕ) (n c : ℕ) (belongs : Bool) (r : ℕ) (o′ : List ℕ) : Type 0 where
   pub count : r ≡ cond belongs (n + 1) n

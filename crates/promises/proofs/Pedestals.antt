@@ -12,7 +12,9 @@ use Prim.Native.Nat.{ℕ, zero, suc, _<_}
 use lib.IntN.{ℤ, _+ℤ_}
 use lib.ListN.{length, take, drop, getD, length-map}
 use Rattle.lists.specs.Overwrite.{Wrote}
+use Rattle.lists.specs.Listed.{listed}
 use Rattle.lists.proofs.OverwriteLaws.{wrote-read}
+use Rattle.lists.proofs.ListedLaws.{listed-alike, listed-none, listed-only, listed-each, listed-rising}
 use Rattle.channels.specs.Channels.{part, placeOf}
 use Rattle.channels.proofs.ChannelLaws.{crate-counts}
 use Rattle.trace.proofs.TraceLaws.{rows-counts}
@@ -22,10 +24,9 @@ use Rattle.pedestals.specs.declared.Check.the-variants.{Fine}
 use Rattle.pedestals.specs.declared.Counts.{Counts}
 use Rattle.pedestals.specs.declared.Compared.{Compared}
 use Rattle.pedestals.specs.declared.Compared.the-variants.{Listed as IsListed, Refused as Declined}
-use Rattle.pedestals.specs.Compare.{Run, valuesOf, heldRatio, runsRow, channelRow, channelRows, compareRows, listed, hasMoved, isNoisy, movedChannels, noisyChannels, CompareOutcome}
+use Rattle.pedestals.specs.Compare.{Run, valuesOf, heldRatio, runsRow, channelRow, channelRows, compareRows, hasMoved, isNoisy, movedChannels, noisyChannels, CompareOutcome}
 use Rattle.pedestals.proofs.SumLaws.{moved-itself, noisy-itself}
 use Rattle.pedestals.proofs.CheckLaws.{passing-factor, passing-lengths}
-use Rattle.pedestals.proofs.ListLaws.{listed-alike, listed-none, listed-only, listed-each, listed-rising}
 use Rattle.promises.specs.Pedestals.{Exactly, addedTo, shifted}
 use Rattle.promises.proofs.PedestalShift.{moved-shift, noisy-shift}
 

@@ -1,49 +1,31 @@
 -- `codes::tables::expand_by` meets its contract. The loop's invariant: the values of the codes passed are written over the
 -- list. Assumes nothing.
-use Prim.Native.Nat.{ℕ, _+_, _-_, _≤_, _<_}
-use mathlib.Core.Path.{_≡_, refl, sym, ap, _∙_}
+use Prim.Native.Nat.{ℕ, _-_}
+use mathlib.Core.Path.{_≡_, sym, _∙_}
 use mathlib.Core.List.{List}
 use native.Mathlib.Omega.{arith}
 use borrow.Author.Needs.{needs}
 use lib.IntN.{ℤ, pos}
-use lib.ListN.{length, take, set, getD}
-use lib.Seq.{length-take-le, take-all}
+use lib.ListN.{length}
 use mir.Syntax.{w16}
 use mir.ValLaws.{toZ-ofZ}
-use Rattle.lists.specs.Overwrite.{overwrite}
-use Rattle.lists.proofs.OverwriteLaws.{overwrite-length}
-use Rattle.lists.proofs.PartLaws.{overwrite-take}
+use Rattle.lists.proofs.PartLaws.{Writing, writing-none, writing-more, writing-all}
 use Rattle.lists.proofs.SelectLaws.{select-length, select-at}
-use Rattle.codes.specs.RangeTable.{valueIn, valuesIn}
+use Rattle.codes.specs.RangeTable.{valuesIn}
 use Rattle.codes.proofs.tables.expand_by.Statement.{statement}
 use Rattle.codes.proofs.tables.expand_by.Tie as tie
 
-record Going (t : List ℤ) (codes : List ℕ) (o out : List ℤ) (i : ℕ) : Type 0 where
-  within : i ≤ length codes
-  out-is : out ≡ overwrite (take i (valuesIn t codes)) o
-  long : length out ≡ length o
-
-module _ (t : List ℤ) (codes : List ℕ) (o out : List ℤ) (i : ℕ) (g : Going t codes o out i) where
-  count : length (valuesIn t codes) ≡ length codes
-  count = select-length (pos 0) t codes
-
-  goes-on : i < length codes → length codes ≤ length o → (v : ℤ) → v ≡ valueIn t (getD codes i 0) → Going t codes o (set out i v) (i + 1)
-  goes-on more room v e =
-      let y : set out i v ≡ overwrite (take (i + 1) (valuesIn t codes)) o =
-      rw (e ∙ sym (select-at (pos 0) t codes i more), g .out-is) (overwrite-take (valuesIn t codes) o i (pos 0) (omega (arith, count)) (omega arith)) in
-      record { within = omega arith; out-is = y; long = ap length y ∙ overwrite-length (take (i + 1) (valuesIn t codes)) o (omega (arith, count, length-take-le (i + 1) (valuesIn t codes) (omega (arith, count)))) }
-
-  ends : length codes ≤ i → out ≡ overwrite (valuesIn t codes) o
-  ends h = g .out-is ∙ ap (λ (l : List ℤ). overwrite l o) (take-all i (valuesIn t codes) (omega (arith, count)))
+count : (t : List ℤ) (codes : List ℕ) → length (valuesIn t codes) ≡ length codes
+count t codes = select-length (pos 0) t codes
 
 abbrev Inv-loop : tie.InvT-loop
-Inv-loop table codes out₀ n i₀ out i = Going table codes out₀ out i
+Inv-loop table codes out₀ n i₀ out i = Writing (valuesIn table codes) out₀ out i
 
 abbrev μ-loop : tie.MeasureT-loop
 μ-loop table codes out₀ n i₀ out i = n - i
 
 loop-holds : tie.Need-loop-holds Inv-loop μ-loop
-loop-holds c = record { within = omega arith; out-is = refl; long = refl }
+loop-holds c = writing-none _ _
 
 shared-slice-read-value-in : tie.Need-shared-slice-read-value-in Inv-loop μ-loop
 shared-slice-read-value-in c = search needs
@@ -66,13 +48,18 @@ loop-less c = search needs
 loop-again : tie.Need-loop-again Inv-loop μ-loop
 loop-again c =
     let l = c .before .before .before in
-    goes-on _ _ _ _ _ (l .loop .inv) (c .before .before .loop-test .taken) (l .before .before .pre .1) _ (toZ-ofZ w16 (c .value-in .result) (record { sfits = c .value-in .ok }) ∙ c .value-in .ensures)
+    let s = l .before .before in
+    let i = l .loop .i in
+    let lt = c .before .before .loop-test .taken in
+    let n = count (s .args .table .now) (s .args .codes .now) in
+    let v = toZ-ofZ w16 (c .value-in .result) (record { sfits = c .value-in .ok }) ∙ c .value-in .ensures in
+    writing-more (l .loop .inv) (pos 0) (omega (arith, n)) (omega (arith, n, s .pre .1)) (v ∙ sym (select-at (pos 0) (s .args .table .now) (s .args .codes .now) i lt))
 
 same-length : tie.Need-same-length Inv-loop μ-loop
-same-length c = c .before .loop .inv .long
+same-length c = c .before .loop .inv .same
 
 returns : tie.Need-returns Inv-loop μ-loop
-returns c = ends _ _ _ _ _ (c .before .loop .inv) (c .loop-test .left)
+returns c = writing-all (c .before .loop .inv) (omega (arith, count (c .before .before .before .args .table .now) (c .before .before .before .args .codes .now), c .loop-test .left))
 
 pub expand-by-spec : {M : Type 1} → statement M
 expand-by-spec =

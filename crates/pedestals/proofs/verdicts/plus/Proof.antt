@@ -1,5 +1,6 @@
 -- `pedestals::verdicts::plus` meets its contract. Assumes nothing.
-use Rattle.pedestals.proofs.SignedLaws.{wide-fits, sum-fits, sum-is}
+use Rattle.lists.proofs.Widths.{wide-fits}
+use Rattle.pedestals.proofs.SignedLaws.{sum-fits, sum-is}
 use Rattle.pedestals.proofs.verdicts.plus.Statement.{statement}
 use Rattle.pedestals.proofs.verdicts.plus.Tie as tie
 

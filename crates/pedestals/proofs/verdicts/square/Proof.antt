@@ -1,7 +1,8 @@
 -- `pedestals::verdicts::square` meets its contract. Assumes nothing.
 use mathlib.Core.Path.{refl}
 use native.Mathlib.Omega.{arith}
-use Rattle.pedestals.proofs.SignedLaws.{wide-fits, square-fits, square-is, square-small}
+use Rattle.lists.proofs.Widths.{wide-fits}
+use Rattle.pedestals.proofs.SignedLaws.{square-fits, square-is, square-small}
 use Rattle.pedestals.proofs.verdicts.square.Statement.{statement}
 use Rattle.pedestals.proofs.verdicts.square.Tie as tie
 
