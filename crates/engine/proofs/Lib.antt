@@ -8,3 +8,4 @@ pub mod ReportLaws
 pub mod ExpandLaws
 pub mod WriteLaws
 pub mod LeastLaws
+pub mod SumLaws

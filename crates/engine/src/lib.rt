@@ -38,7 +38,7 @@ pub enum Verdict {
     Refused(Refusal),
 }
 
-// What `walk` and `minimum` answer: how many samples they kept, or a refusal.
+// What `walk`, `minimum` and `sum` answer: how many samples the list keeps, or a refusal.
 pub enum Reduced {
     Kept(usize),
     Refused(Refusal),
@@ -75,5 +75,6 @@ mod prepare;
 pub mod read;
 pub mod report;
 pub mod same;
+pub mod sum;
 pub mod walk;
 pub mod write;

@@ -2,3 +2,4 @@
 pub mod Figures
 pub mod Requests
 pub mod Links
+pub mod Sums

@@ -2,7 +2,7 @@
 --   toleranceOf, limitsOf   the tolerance that a form gives; with the gap limit
 --   sideNumber   the number of a side
 --   heldOf, measuredOf, judgedOf, keptOf, gallopedOf, closestOf, writtenOf, readOf, comparedOf, reportOf, listedOf   an answer as numbers: 0 for success, or the refusal's number and value
---   HoldExport, MeasureExport, JudgeExport, WalkExport, GallopExport, MinimumExport, LeastExport, ExpandExport, ExpandWithExport, WriteExport, ReadExport, SameExport,
+--   HoldExport, MeasureExport, JudgeExport, WalkExport, GallopExport, MinimumExport, LeastExport, SumExport, ExpandExport, ExpandWithExport, WriteExport, ReadExport, SameExport,
 --   ReportExport, PedestalsExport   an export's answer is that of the public call, with its whole outcome
 -- Assumes nothing.
 use mathlib.Core.Path.{_≡_}
@@ -47,6 +47,7 @@ use Rattle.sheet.specs.declared.Reported.the-variants.{Counted, Refused as NotC
 use Rattle.engine.specs.Reduce.{WalkOutcome, GallopOutcome}
 use Rattle.engine.specs.Minimum.{MinimumOutcome}
 use Rattle.engine.specs.Least.{LeastOutcome}
+use Rattle.engine.specs.Sum.{SumOutcome}
 use Rattle.engine.specs.Report.{ReportOutcome}
 use Rattle.pedestals.specs.declared.Compared as P
 use Rattle.pedestals.specs.declared.Compared.the-variants.{Listed, Refused as NotListed}
@@ -139,6 +140,11 @@ pub record LeastExport (ts : List ℕ) (vs : List ℤ) (g m : ℕ) (o : List ℕ
   pub answer : C.Closest
   pub is : r ≡ closestOf answer
   pub outcome : LeastOutcome ts vs g m o answer o′
+
+pub record SumExport (ts : List ℕ) (vs : List ℤ) (us : List ℕ) (ws : List ℤ) (l m : List ℕ) (o : List ℤ) (p : List ℕ) (r : Answer) (o′ : List ℤ) (p′ : List ℕ) : Type 0 where
+  pub answer : Reduced
+  pub is : r ≡ keptOf answer
+  pub outcome : SumOutcome ts vs us ws l m o p answer o′ p′
 
 abbrev pub writtenOf : Written → Answer
 writtenOf (Count n) = record { number = 0; value = n }

@@ -1,7 +1,7 @@
 // The C interface: each export is a public call of `engine` or of a product above it, with numbers and structs for its enums.
 ghost use mathlib.Core.Path.{_≡_};
 ghost use Rattle.engine.specs.Report.{Surveyed};
-ghost use Rattle.kovrelna.specs.Border.{toleranceOf, limitsOf, heldOf, sideNumber, measuredOf, judgedOf, keptOf, gallopedOf, closestOf, writtenOf, readOf, comparedOf, HoldExport, MeasureExport, JudgeExport, WalkExport, GallopExport, MinimumExport, LeastExport, ExpandExport, ExpandWithExport, WriteExport, ReadExport, SameExport, reportOf, ReportExport, listedOf, PedestalsExport};
+ghost use Rattle.kovrelna.specs.Border.{toleranceOf, limitsOf, heldOf, sideNumber, measuredOf, judgedOf, keptOf, gallopedOf, closestOf, writtenOf, readOf, comparedOf, HoldExport, MeasureExport, JudgeExport, WalkExport, GallopExport, MinimumExport, LeastExport, SumExport, ExpandExport, ExpandWithExport, WriteExport, ReadExport, SameExport, reportOf, ReportExport, listedOf, PedestalsExport};
 ghost use Rattle.pedestals.specs.Compare.{runOf};
 use sheet::Sheet;
 use sheet::Summary;
@@ -490,6 +490,23 @@ pub extern "C" fn kovrelna_least(
     ensures { λ r. ⌜ LeastExport (now (ticks .entry)) (now (values .entry)) gap allowance (now (out .entry)) r (now (out .exit)) ⌝ }
 {
     closest_of(engine::least::least(ticks, values, gap, allowance as usize, out))
+}
+
+// Writes the sums of two traces into the first entries of `sums`, and the samples of either list into those of `joined`.
+#[no_mangle]
+pub extern "C" fn kovrelna_sum(
+    ticks1: &[u32],
+    values1: &[i16],
+    ticks2: &[u32],
+    values2: &[i16],
+    list1: &[u16],
+    list2: &[u16],
+    sums: &mut [i16],
+    joined: &mut [u16],
+) -> Answer
+    ensures { λ r. ⌜ SumExport (now (ticks1 .entry)) (now (values1 .entry)) (now (ticks2 .entry)) (now (values2 .entry)) (now (list1 .entry)) (now (list2 .entry)) (now (sums .entry)) (now (joined .entry)) r (now (sums .exit)) (now (joined .exit)) ⌝ }
+{
+    kept_of(engine::sum::sum(ticks1, values1, ticks2, values2, list1, list2, sums, joined))
 }
 
 // Writes the value of each range code into the first entries of `out`.

@@ -6,11 +6,13 @@ use Prim.Native.Nat.{ℕ}
 use lib.IntN.{ℤ}
 use lib.ListN.{take}
 use Rattle.engine.specs.declared.Limits.{Limits}
+use Rattle.ratio.specs.declared.Ratio.{Ratio}
 use Rattle.trace.specs.Link.{limited}
-use Rattle.heights.specs.Budget.{ErrorBudget}
+use Rattle.heights.specs.Budget.{StandsFor, ErrorBudget}
 use Rattle.heights.proofs.BudgetLaws.{error-budget}
 use Rattle.reduction.specs.declared.Galloped.{Galloped}
 use Rattle.closest.specs.declared.Found.{Found}
+use Rattle.summed.specs.Sum.{sumsOf, twiceSum}
 use Rattle.engine.specs.declared.Reduced.the-variants.{Kept}
 use Rattle.engine.specs.declared.Probed.the-variants.{Kept as KeptBy}
 use Rattle.engine.specs.declared.Closest.the-variants.{Kept as KeptAt}
@@ -19,8 +21,9 @@ use Rattle.engine.specs.Prepare.{criterionOf}
 use Rattle.engine.specs.Reduce.{WalkOutcome, GallopOutcome}
 use Rattle.engine.specs.Minimum.{MinimumOutcome}
 use Rattle.engine.specs.Least.{LeastOutcome}
+use Rattle.engine.specs.Sum.{SumOutcome}
 use Rattle.engine.specs.Judge.{JudgeOutcome}
-use Rattle.promises.proofs.Standing.{walk-stands, gallop-stands, minimum-stands, judge-stands, least-stands}
+use Rattle.promises.proofs.Standing.{walk-stands, gallop-stands, minimum-stands, judge-stands, least-stands, sum-stands}
 
 module _ (ts : List ℕ) (vs : List ℤ) (t : Limits) where
   pub walk-budget : {o o′ : List ℕ} {n : ℕ} → WalkOutcome ts vs t o (Kept n) o′ → ErrorBudget ts vs (criterionOf t) (take n o′)
@@ -39,3 +42,8 @@ module _ (ts : List ℕ) (vs : List ℤ) (t : Limits) where
 -- least's list, at the error that it returns
 pub least-budget : (ts : List ℕ) (vs : List ℤ) (g m : ℕ) {o o′ : List ℕ} {f : Found} → LeastOutcome ts vs g m o (KeptAt f) o′ → ErrorBudget ts vs (limited g (f .error)) (take (f .kept) o′)
 least-budget ts vs g m h = error-budget (least-stands ts vs g m h)
+
+-- the joined list of a sum, at 2 (T1 + T2)
+pub sum-budget : {ts us : List ℕ} {vs ws : List ℤ} {l m : List ℕ} {o o′ : List ℤ} {p p′ : List ℕ} {n : ℕ} (a b : Ratio) (g : ℕ) → SumOutcome ts vs us ws l m o p (Kept n) o′ p′
+    → StandsFor ts vs (limited g a) l → StandsFor us ws (limited g b) m → ErrorBudget ts (sumsOf vs ws) (limited g (twiceSum a b)) (take n p′)
+sum-budget a b g h x y = error-budget (sum-stands a b g h x y)

@@ -11,3 +11,4 @@ pub mod Expand
 pub mod PedestalShift
 pub mod Pedestals
 pub mod Dropouts
+pub mod Sums

@@ -4,6 +4,8 @@
 use mathlib.Core.Path.{_≡_, refl}
 use mathlib.Core.List.{List}
 use Prim.Native.Nat.{ℕ, _-_}
+use native.Mathlib.Nat.{mul-le-mul}
+use native.Mathlib.Omega.{arith}
 use lib.IntN.{ℤ}
 use lib.ListN.{length, take}
 use Rattle.lists.specs.Overwrite.{Wrote}
@@ -12,10 +14,12 @@ use Rattle.refusal.specs.declared.Checked.the-variants.{Fine}
 use Rattle.refusal.proofs.TableLaws.{then-fine}
 use Rattle.kept.specs.Kept.{KeptList, AllValid}
 use Rattle.engine.specs.declared.Limits.{Limits}
+use Rattle.ratio.specs.declared.Ratio.{Ratio}
 use Rattle.trace.specs.Link.{limited}
 use Rattle.heights.specs.Budget.{StandsFor}
 use Rattle.reduction.specs.declared.Galloped.{Galloped}
 use Rattle.closest.specs.declared.Found.{Found}
+use Rattle.summed.specs.Sum.{sumsOf, twiceSum}
 use Rattle.engine.specs.declared.Reduced.the-variants.{Kept}
 use Rattle.engine.specs.declared.Probed.the-variants.{Kept as KeptBy}
 use Rattle.engine.specs.declared.Closest.the-variants.{Kept as KeptAt}
@@ -24,6 +28,7 @@ use Rattle.engine.specs.Prepare.{commonRows, criterionOf, outputRows}
 use Rattle.engine.specs.Reduce.{okOf, WalkOutcome, GallopOutcome}
 use Rattle.engine.specs.Minimum.{MinimumOutcome}
 use Rattle.engine.specs.Least.{LeastOutcome}
+use Rattle.engine.specs.Sum.{SumOutcome}
 use Rattle.engine.specs.Judge.{judgeRows, JudgeOutcome}
 use Rattle.engine.proofs.LeastLaws.{least-task}
 use Rattle.engine.proofs.PrepareLaws.{common-trace}
@@ -58,4 +63,14 @@ least-stands ts vs g m {o} h = rw (wrote-read (h .wrote)) (record {
   positive = h .allowed .positive;
   kept = h .list .minimum .kept;
   within = h .list .minimum .valid;
+})
+
+-- the joined list for the summed trace, at 2 (T1 + T2)
+pub sum-stands : {ts us : List ℕ} {vs ws : List ℤ} {l m : List ℕ} {o o′ : List ℤ} {p p′ : List ℕ} {n : ℕ} (a b : Ratio) (g : ℕ) → SumOutcome ts vs us ws l m o p (Kept n) o′ p′
+    → StandsFor ts vs (limited g a) l → StandsFor us ws (limited g b) m → StandsFor ts (sumsOf vs ws) (limited g (twiceSum a b)) (take n p′)
+sum-stands a b g h x y = rw (wrote-read (h .joined)) (record {
+  trace = h .trace;
+  positive = omega (arith, mul-le-mul (x .positive) (y .positive));
+  kept = h .kept;
+  within = h .within a b g (x .within) (y .within);
 })

@@ -4,3 +4,4 @@ pub mod NoFactor
 pub mod Probes
 pub mod Pedestals
 pub mod Dropouts
+pub mod Sums
