@@ -5,8 +5,9 @@
  * bench: prints a table of times for each call, and the kept numbers.
  * bench kept: prints the kept numbers.
  * bench summary: prints each call's microseconds and its ratio to C on the pulse trace at tolerance
- *   7.5, with walk's list; for measure with the link from the first sample to the last; for least
- *   with allowance 20; for report and pedestals on crates of pulse traces.
+ *   7.5, with walk's list; for measure with the link from the first sample to the last; for sum with
+ *   another trace and walk's list of it; for least with allowance 20; for report and pedestals on
+ *   crates of pulse traces.
  * bench trace, bench part: prints that trace, and the part of it for least.
  * bench once KIND FUNCTION [SAMPLES]: calls one function once, so that instructions can be counted;
  *   report and pedestals with so many samples a channel, 4,096 unless given. */
@@ -227,10 +228,20 @@ static void measure(row *r, size_t kind, const int64_t *tolerance) {
 
 /* ---- Records, lists and codes ---- */
 
-enum { BYTES = KOVRELNA_RECORD_MAX, RECORD_CALLS = 20, CODES = 256 };
+/* The trace that is added to a trace has its values from sample SHIFT on. */
+enum { BYTES = KOVRELNA_RECORD_MAX, RECORD_CALLS = 20, CODES = 256, SHIFT = 61 };
+
+/* A trace with a kept list. */
+typedef struct summand {
+  uint32_t ticks[SAMPLES];
+  int16_t values[SAMPLES];
+  uint16_t list[SAMPLES];
+  size_t kept;
+} summand;
 
 /* A kept list of a trace and its record; the measure of the link over the whole trace; codes, a
- * range table and their values. */
+ * range table and their values; another trace with the same ticks, the sums of both and the joined
+ * list. */
 typedef struct kept_record {
   const uint32_t *ticks;
   const int16_t *values;
@@ -244,6 +255,10 @@ typedef struct kept_record {
   uint8_t bytes[BYTES];
   uint32_t read_ticks[SAMPLES];
   int16_t read_values[SAMPLES];
+  summand other;
+  int16_t sums[SAMPLES];
+  uint16_t joined[SAMPLES];
+  size_t joined_kept;
 } kept_record;
 
 /* Records are written with this tolerance, p/q. */
@@ -301,6 +316,22 @@ static size_t plain_measure(kept_record *r) {
   return r->measure.q != 0 ? SAMPLES : 0;
 }
 
+static size_t library_sum(kept_record *r) {
+  const summand *other = &r->other;
+  kovrelna_answer answer = kovrelna_sum(
+      r->ticks, SAMPLES, r->values, SAMPLES, other->ticks, SAMPLES, other->values, SAMPLES, r->list,
+      r->kept, other->list, other->kept, r->sums, SAMPLES, r->joined, SAMPLES);
+  return answer.number == 0 ? (size_t)answer.value : 0;
+}
+
+static size_t plain_sum(kept_record *r) {
+  const summand *other = &r->other;
+  reduced_trace one = {r->ticks, r->values, SAMPLES, r->list, r->kept};
+  reduced_trace two = {other->ticks, other->values, SAMPLES, other->list, other->kept};
+  answered answer = sum_c(&one, &two, r->sums, SAMPLES, r->joined, SAMPLES);
+  return answer.number == 0 ? answer.value : 0;
+}
+
 static size_t library_expand(kept_record *r) {
   kovrelna_answer answer = kovrelna_expand(r->codes, SAMPLES, r->expanded, SAMPLES);
   return answer.number == 0 ? (size_t)answer.value : 0;
@@ -321,7 +352,7 @@ static size_t library_expand_with(kept_record *r) {
 }
 
 static size_t plain_expand_with(kept_record *r) {
-  expanded answer = expand_with_c(r->codes, SAMPLES, r->table, CODES, r->expanded, SAMPLES);
+  answered answer = expand_with_c(r->codes, SAMPLES, r->table, CODES, r->expanded, SAMPLES);
   return answer.number == 0 ? answer.value : 0;
 }
 
@@ -335,6 +366,8 @@ enum {
   JUDGE_C,
   MEASURE,
   MEASURE_C,
+  SUM,
+  SUM_C,
   EXPAND,
   EXPAND_C,
   EXPAND_WITH,
@@ -354,6 +387,8 @@ static const struct {
                          {"judge_c", plain_judge},
                          {"kovrelna_measure", library_measure},
                          {"measure_c", plain_measure},
+                         {"kovrelna_sum", library_sum},
+                         {"sum_c", plain_sum},
                          {"kovrelna_expand", library_expand},
                          {"expand_c", plain_expand},
                          {"kovrelna_expand_with", library_expand_with},
@@ -362,16 +397,32 @@ static const struct {
 
 static double record_times[RECORDERS][REPETITIONS]; /* microseconds a call */
 
+/* Lists all samples or those that walk keeps, and returns how many. */
+static size_t make_list(const uint32_t *tick, const int16_t *value, uint32_t gap, int all,
+                        uint16_t *list) {
+  size_t k;
+  if (!all) return walk_c(tick, value, SAMPLES, RECORD_P, RECORD_Q, gap, list).kept;
+  for (k = 0; k < SAMPLES; k++) list[k] = (uint16_t)k;
+  return SAMPLES;
+}
+
+/* The trace that is added to this one. */
+static void make_other(kept_record *r, int all) {
+  summand *other = &r->other;
+  size_t k;
+  memcpy(other->ticks, r->ticks, sizeof(other->ticks));
+  for (k = 0; k < SAMPLES; k++) other->values[k] = r->values[(k + SHIFT) % SAMPLES];
+  other->kept = make_list(other->ticks, other->values, r->gap, all, other->list);
+}
+
 /* The record of all samples or of walk's list, written by this writer. */
 static void make_record(kept_record *r, size_t kind, int all, size_t (*write)(kept_record *)) {
   size_t k;
   r->ticks = ticks[kind];
   r->values = values[kind];
   r->gap = KINDS[kind].gap;
-  r->kept = SAMPLES;
-  if (!all)
-    r->kept = walk_c(r->ticks, r->values, SAMPLES, RECORD_P, RECORD_Q, r->gap, r->list).kept;
-  for (k = 0; all && k < SAMPLES; k++) r->list[k] = (uint16_t)k;
+  r->kept = make_list(r->ticks, r->values, r->gap, all, r->list);
+  make_other(r, all);
   for (k = 0; k < SAMPLES; k++) r->codes[k] = (uint8_t)(7 * k + (size_t)r->values[k]);
   for (k = 0; k < CODES; k++) r->table[k] = (int16_t)(k * (k + 1) / 2);
   r->length = write(r);
@@ -380,6 +431,7 @@ static void make_record(kept_record *r, size_t kind, int all, size_t (*write)(ke
 /* What a call answers. */
 static size_t expected(const kept_record *r, int x) {
   if (x == WRITE || x == WRITE_C) return r->length;
+  if (x == SUM || x == SUM_C) return r->joined_kept;
   return x >= MEASURE ? SAMPLES : r->kept;
 }
 
@@ -419,6 +471,20 @@ static int is_read(const kept_record *r) {
   return 1;
 }
 
+/* Whether these are the sums and the samples in either list. */
+static int is_summed(const kept_record *r) {
+  static uint8_t either[SAMPLES];
+  size_t k, count = 0;
+  memset(either, 0, sizeof(either));
+  for (k = 0; k < r->kept; k++) either[r->list[k]] = 1;
+  for (k = 0; k < r->other.kept; k++) either[r->other.list[k]] = 1;
+  for (k = 0; k < SAMPLES; k++) {
+    if (r->sums[k] != r->values[k] + r->other.values[k]) return 0;
+    if (either[k] && r->joined[count++] != k) return 0;
+  }
+  return count == r->joined_kept;
+}
+
 /* Whether these are the values of the codes, by the rule or in the table. */
 static int is_expanded(const kept_record *r, int by_table) {
   size_t k;
@@ -440,6 +506,7 @@ static void measure_records(kept_record *r, size_t kind, int all) {
   same_verdicts(r);
   plain_measure(r);
   measure = r->measure;
+  r->joined_kept = plain_sum(r);
   for (repetition = 0; repetition < REPETITIONS; repetition++) {
     for (x = 0; x < RECORDERS; x++) {
       size_t answer = 0;
@@ -447,6 +514,7 @@ static void measure_records(kept_record *r, size_t kind, int all) {
       if (x == WRITE || x == WRITE_C) memset(r->bytes, 0, BYTES);
       if (x == READ || x == READ_C) memset(r->read_ticks, 0, sizeof(r->read_ticks));
       if (x == MEASURE || x == MEASURE_C) memset(&r->measure, 0, sizeof(r->measure));
+      if (x == SUM || x == SUM_C) memset(r->joined, 0, sizeof(r->joined));
       if (x >= EXPAND) memset(r->expanded, 0, sizeof(r->expanded));
       start = now();
       for (k = 0; k < RECORD_CALLS; k++) answer = RECORDER[x].call(r);
@@ -454,6 +522,7 @@ static void measure_records(kept_record *r, size_t kind, int all) {
       if (answer != expected(r, x) || memcmp(r->bytes, bytes, r->length) != 0 ||
           !same_measure(&r->measure, &measure) ||
           ((x == READ || x == READ_C) && !is_read(r)) ||
+          ((x == SUM || x == SUM_C) && !is_summed(r)) ||
           (x >= EXPAND && !is_expanded(r, x == EXPAND_WITH || x == EXPAND_WITH_C)))
         fail("a call does not answer as its peer does");
     }
@@ -465,12 +534,12 @@ static void print_records(void) {
   int x, all;
   size_t kind;
   printf("\nWalk's list and all samples at tolerance 7.50: written to a record, read, judged; the\n"
-         "link from the first sample to the last measured; and %d range codes expanded, also by a\n"
-         "table of the caller; last C that expands them by a table of its own, and the ratio of\n"
-         "expand to it. Microseconds a call.\n"
+         "link from the first sample to the last measured; the trace and its list added to another\n"
+         "with such a list; and %d range codes expanded, also by a table of the caller; last C that\n"
+         "expands them by a table of its own, and the ratio of expand to it. Microseconds a call.\n"
          "         samples   bytes     write       C   ratio      read       C   ratio"
-         "     judge       C   ratio   measure       C   ratio    expand       C   ratio"
-         "  by table       C   ratio C table   ratio\n",
+         "     judge       C   ratio   measure       C   ratio       sum       C   ratio"
+         "    expand       C   ratio  by table       C   ratio C table   ratio\n",
          SAMPLES);
   for (kind = 0; kind < COUNT(KINDS); kind++) {
     for (all = 0; all <= 1; all++) {

@@ -330,13 +330,20 @@ static fraction list_error(const uint32_t *ticks, const int16_t *values, const u
   return lowest(worst.distance, worst.run);
 }
 
-/* The number under which a trace that is none is refused. */
-static unsigned refused_as(const uint32_t *ticks, size_t n) {
+static answered answer_of(unsigned number, size_t value) {
+  answered answer = {number, value};
+  return answer;
+}
+
+/* Why a trace is refused; number 0 if it is not. */
+static answered trace_refusal(const uint32_t *ticks, size_t n) {
   size_t k;
-  if (n == 0 || n > SAMPLES) return 1;
+  if (is_trace(ticks, n)) return answer_of(0, n);
+  if (n == 0 || n > SAMPLES) return answer_of(1, 0);
   for (k = 1; k < n; k++)
-    if (ticks[k] <= ticks[k - 1]) return 2;
-  return 3;
+    if (ticks[k] <= ticks[k - 1]) return answer_of(2, k);
+  for (k = 1; ticks[k] - ticks[0] <= SPAN;) k++;
+  return answer_of(3, k);
 }
 
 static channel_row row_of(const uint32_t *ticks, const int16_t *values, size_t n, int64_t p,
@@ -347,7 +354,7 @@ static channel_row row_of(const uint32_t *ticks, const int16_t *values, size_t n
   fraction error;
   row.kept = walk_c(ticks, values, n, p, q, gap, list).kept;
   if (row.kept == 0) {
-    row.number = refused_as(ticks, n);
+    row.number = trace_refusal(ticks, n).number;
     return row;
   }
   worst = list_farthest(ticks, values, list, row.kept);
@@ -420,11 +427,6 @@ static compared declined(unsigned number, size_t value) {
   return answer;
 }
 
-/* The number under which a trace is refused, 0 if it is not. */
-static unsigned number_of(const uint32_t *ticks, size_t n) {
-  return is_trace(ticks, n) ? 0 : refused_as(ticks, n);
-}
-
 compared pedestals_c(const crate_run *today, const crate_run *before, int64_t p, int64_t q,
                      int64_t k, uint16_t *moved, size_t moved_room, uint16_t *noisy,
                      size_t noisy_room) {
@@ -436,8 +438,8 @@ compared pedestals_c(const crate_run *today, const crate_run *before, int64_t p,
     return declined(11, 0);
   for (c = 0; c < channels; c++) {
     size_t n = today->lengths[c];
-    unsigned number = number_of(today->ticks + at, n);
-    if (number == 0) number = number_of(before->ticks + at, before->lengths[c]);
+    unsigned number = trace_refusal(today->ticks + at, n).number;
+    if (number == 0) number = trace_refusal(before->ticks + at, before->lengths[c]).number;
     if (number == 0 && before->lengths[c] != n) number = 13;
     if (number != 0) return declined(number, c);
     at += n;
@@ -453,6 +455,69 @@ compared pedestals_c(const crate_run *today, const crate_run *before, int64_t p,
     at += n;
   }
   return answer;
+}
+
+/* Why a list is refused for a trace of n samples; number 0 if it is a kept list. */
+static answered list_refusal(const uint16_t *list, size_t kept, size_t n) {
+  unsigned stuck = 0;
+  size_t k;
+  for (k = 1; k < kept; k++) stuck |= list[k] <= list[k - 1];
+  if (!stuck && kept != 0 && list[0] == 0 && list[kept - 1] == n - 1) return answer_of(0, kept);
+  for (k = 0; k < kept && list[k] < n; k++)
+    if (k == 0 ? list[k] != 0 : list[k] <= list[k - 1]) break;
+  return answer_of(6, k);
+}
+
+/* The first sample whose ticks differ, n if there is none. */
+static size_t first_mismatch(const uint32_t *one, const uint32_t *two, size_t n) {
+  unsigned differ = 0;
+  size_t k;
+  for (k = 0; k < n; k++) differ |= one[k] != two[k];
+  if (differ)
+    for (k = 0; one[k] == two[k];) k++;
+  return k;
+}
+
+static int is_overflow(int sum) { return sum < INT16_MIN || sum > INT16_MAX; }
+
+/* The first sample whose sum does not fit, n if there is none. */
+static size_t first_overflow(const int16_t *one, const int16_t *two, size_t n) {
+  unsigned over = 0;
+  size_t k;
+  for (k = 0; k < n; k++) over |= is_overflow(one[k] + two[k]);
+  if (over)
+    for (k = 0; !is_overflow(one[k] + two[k]);) k++;
+  return k;
+}
+
+/* Writes the samples in either list, and returns their number. Both lists end with the same one. */
+static size_t join(const uint16_t *one, size_t kept, const uint16_t *two,
+                   uint16_t *restrict joined) {
+  size_t i = 0, j = 0, count = 0;
+  while (i < kept) {
+    uint16_t x = one[i], y = two[j];
+    joined[count++] = x < y ? x : y;
+    i += x <= y;
+    j += y <= x;
+  }
+  return count;
+}
+
+answered sum_c(const reduced_trace *one, const reduced_trace *two, int16_t *restrict sums,
+               size_t sums_room, uint16_t *restrict joined, size_t joined_room) {
+  size_t n = one->n, same, over, k;
+  answered fault = trace_refusal(one->ticks, n);
+  if (fault.number == 0) fault = trace_refusal(two->ticks, two->n);
+  if (fault.number == 0) fault = list_refusal(one->list, one->kept, n);
+  if (fault.number == 0) fault = list_refusal(two->list, two->kept, two->n);
+  if (fault.number != 0) return fault;
+  same = first_mismatch(one->ticks, two->ticks, n < two->n ? n : two->n);
+  if (same < n || same < two->n) return answer_of(17, same);
+  over = first_overflow(one->values, two->values, n);
+  if (over < n) return answer_of(18, over);
+  if (sums_room < n || joined_room < n) return answer_of(10, n);
+  for (k = 0; k < n; k++) sums[k] = (int16_t)(one->values[k] + two->values[k]);
+  return answer_of(0, join(one->list, one->kept, two->list, joined));
 }
 
 /* A trace with the gap limit and the allowance, the list tried last, and the number of lists
@@ -625,20 +690,15 @@ static size_t first_stuck(const int16_t *table) {
   return c;
 }
 
-static expanded refused(unsigned number, size_t value) {
-  expanded answer = {number, value};
-  return answer;
-}
-
-expanded expand_with_c(const uint8_t *codes, size_t n, const int16_t *table, size_t table_n,
+answered expand_with_c(const uint8_t *codes, size_t n, const int16_t *table, size_t table_n,
                        int16_t *restrict values, size_t room) {
-  expanded answer = {0, n};
+  answered answer = {0, n};
   size_t fault, k;
-  if (n == 0 || n > SAMPLES) return refused(1, 0);
-  if (table_n != CODES) return refused(12, 0);
+  if (n == 0 || n > SAMPLES) return answer_of(1, 0);
+  if (table_n != CODES) return answer_of(12, 0);
   fault = first_stuck(table);
-  if (fault < CODES) return refused(12, fault);
-  if (room < n) return refused(10, n);
+  if (fault < CODES) return answer_of(12, fault);
+  if (room < n) return answer_of(10, n);
   for (k = 0; k < n; k++) values[k] = table[codes[k]];
   return answer;
 }

@@ -95,6 +95,27 @@ compared pedestals_c(const crate_run *today, const crate_run *before, int64_t p,
                      int64_t k, uint16_t *moved, size_t moved_room, uint16_t *noisy,
                      size_t noisy_room);
 
+/* number 0: value is what the call says. Otherwise: the refusal's number and value. */
+typedef struct answered {
+  unsigned number;
+  size_t value;
+} answered;
+
+/* A trace of n samples with a kept list of it. */
+typedef struct reduced_trace {
+  const uint32_t *ticks;
+  const int16_t *values;
+  size_t n;
+  const uint16_t *list;
+  size_t kept;
+} reduced_trace;
+
+/* Sums two traces and joins their lists: checks everything, by loops that vector instructions take,
+ * before it writes. The value is the kept number of the joined list. The outputs overlap no other
+ * list, which the library assumes too. */
+answered sum_c(const reduced_trace *one, const reduced_trace *two, int16_t *restrict sums,
+               size_t sums_room, uint16_t *restrict joined, size_t joined_room);
+
 /* The sides by the library's numbers. */
 enum { SIDE_ON, SIDE_ABOVE, SIDE_BELOW, SIDE_GAP };
 
@@ -126,15 +147,9 @@ judged judge_c(const uint32_t *ticks, const int16_t *values, size_t n, const uin
 size_t expand_c(const uint8_t *codes, size_t n, int16_t *restrict values, size_t room);
 size_t expand_table_c(const uint8_t *codes, size_t n, int16_t *restrict values, size_t room);
 
-/* number 0: value is the number of codes. Otherwise: the refusal's number and value. */
-typedef struct expanded {
-  unsigned number;
-  size_t value;
-} expanded;
-
-/* Checks the range table as the library does, and expands the codes by it. The output overlaps no
- * other list, which the library assumes too. */
-expanded expand_with_c(const uint8_t *codes, size_t n, const int16_t *table, size_t table_n,
+/* Checks the range table as the library does, and expands the codes by it. The value is their number.
+ * The output overlaps no other list, which the library assumes too. */
+answered expand_with_c(const uint8_t *codes, size_t n, const int16_t *table, size_t table_n,
                        int16_t *restrict values, size_t room);
 
 /* Writes the record of the kept list. Returns its length, 0 if the trace, the list or a link is

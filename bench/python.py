@@ -71,6 +71,11 @@ def main():
     runs = f"two runs of {CHANNELS} channels"
     samples = f"{len(ticks):,} samples, tolerance 7.5"
     listed = f"a list of {len(kept)} of {len(ticks):,} samples"
+    # The trace from another sample on, as in bench.c.
+    others = values[61:] + values[:61]
+    lists = kept, kovrelna.walk(ticks, others, 7.5)
+    pair = ticks, values, array("I", ticks), others, *lists
+    summed = f"two traces of {len(ticks):,} samples, lists of {len(kept)} and {len(lists[1])}"
     calls = {
         "walk": (samples, kovrelna.walk, *whole, 7.5),
         "gallop": (samples, kovrelna.gallop, *whole, 7.5),
@@ -81,6 +86,7 @@ def main():
         "measure": (f"a link over {len(ticks):,} samples", kovrelna.measure, *whole, 0, last),
         "judge": (listed, kovrelna.judge, *whole, kept, 7.5),
         "write": (listed, kovrelna.write, *whole, kept, 7.5),
+        "sum": (summed, kovrelna.sum, *pair),
         "read": (f"a record of {len(kept)} samples", kovrelna.read, record),
         "expand": (f"{len(codes):,} codes", kovrelna.expand, codes),
         "expand_with": (f"{len(codes):,} codes, a table", kovrelna.expand_with, codes, table),

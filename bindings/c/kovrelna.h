@@ -2,7 +2,7 @@
  * (x86-64, System V ABI), as `pkg-config --cflags --libs kovrelna` says once they are installed.
  *
  * Contents, in order: version and bounds; refusals; tolerances; limits; links; lists; reductions;
- * crates; range codes; records.
+ * sums; crates; range codes; records.
  *
  * A trace is two lists of equal length: ticks and values (ADC counts). It has 1 to 4,096 samples,
  * numbered from 0. Ticks rise strictly; the last minus the first is at most 1,048,575.
@@ -63,8 +63,9 @@ extern "C" {
  * Each answer has a number, 0 if the call succeeded, and a value. A call checks the rows that
  * concern it in rising number, only 14 and then 11 before all others, 12 right after 1, 15 right
  * after 4 (in kovrelna_least right after 3) and 16 right after 5, and answers with the first that
- * fits; in kovrelna_pedestals 1, 2, 3 and 13 come after 4, channel by channel. A refused call leaves
- * every list and buffer as it was.
+ * fits; in kovrelna_pedestals 1, 2, 3 and 13 come after 4, channel by channel, and in kovrelna_sum
+ * 1, 2, 3 of trace 1 come before those of trace 2, and 10 last. A refused call leaves every list and
+ * buffer as it was.
  */
 enum kovrelna_refusal {
   /* No samples or codes, too many, or ticks and values differ in length. Value: 0; in
@@ -106,7 +107,12 @@ enum kovrelna_refusal {
   /* The gap limit is below 1 or above 1,048,575. Value: 0. */
   KOVRELNA_REFUSED_GAP = 15,
   /* Every kept list that obeys the gap limit has more samples than the allowance. Value: 0. */
-  KOVRELNA_REFUSED_HOLES = 16
+  KOVRELNA_REFUSED_HOLES = 16,
+  /* The ticks of two traces differ. Value: the first sample whose ticks differ or that one of the
+   * traces does not have. */
+  KOVRELNA_REFUSED_MISMATCH = 17,
+  /* A sum is below -32,768 or above 32,767. Value: its sample. */
+  KOVRELNA_REFUSED_OVERFLOW = 18
 };
 
 /* The cause in words, for a message; "none" for a number that is no refusal's. */
@@ -145,6 +151,10 @@ static inline const char *kovrelna_cause(uint32_t number) {
     return "gap limit below 1 or above 1,048,575";
   case KOVRELNA_REFUSED_HOLES:
     return "every list that obeys the gap limit has more samples than the allowance";
+  case KOVRELNA_REFUSED_MISMATCH:
+    return "ticks of two traces differ";
+  case KOVRELNA_REFUSED_OVERFLOW:
+    return "a sum below -32,768 or above 32,767";
   default:
     return "none";
   }
@@ -367,6 +377,31 @@ kovrelna_closest kovrelna_least(const uint32_t *ticks, size_t ticks_len,
                                 const int16_t *values, size_t values_len,
                                 uint32_t gap, uint64_t allowance,
                                 uint16_t *out, size_t out_len);
+
+/* ---- Sums ---- */
+
+/* Adds two traces with the same ticks sample by sample, and joins their two kept lists into the
+ * rising list of the samples in either, each once. The sums are the values of the summed trace, whose
+ * ticks are those of either trace; the joined list is a kept list of it. The value is its kept
+ * number. Written are the first entries of sums, one for each sample, and of joined, as many as the
+ * kept number; the entries after them are as they were.
+ *
+ * If every link of list 1 is valid on trace 1 at a tolerance T1, and every link of list 2 on trace 2
+ * at T2, under the same gap limit, then every link of the joined list is valid on the summed trace at
+ * 2 (T1 + T2) under that gap limit. This holds for any fractions T1 and T2, whether they are allowed
+ * as tolerances or not. It does not hold at T1 + T2.
+ *
+ * Refusals, in this order: 1, 2, 3 of trace 1; 1, 2, 3 of trace 2; 6 of list 1, for trace 1; 6 of
+ * list 2, for trace 2; 17; 18; last 10 with the number of samples, as each output needs an entry for
+ * each. */
+kovrelna_answer kovrelna_sum(const uint32_t *ticks1, size_t ticks1_len,
+                             const int16_t *values1, size_t values1_len,
+                             const uint32_t *ticks2, size_t ticks2_len,
+                             const int16_t *values2, size_t values2_len,
+                             const uint16_t *list1, size_t list1_len,
+                             const uint16_t *list2, size_t list2_len,
+                             int16_t *sums, size_t sums_len,
+                             uint16_t *joined, size_t joined_len);
 
 /* ---- Crates ----
  *

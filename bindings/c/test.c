@@ -2,8 +2,8 @@
  * says what differs and returns 1.
  *
  * Contents, in order: lent lists and where they are placed; the table of calls; cases of each call;
- * empty lists; the longest trace, crate and pedestal runs; the version, and causes and sides in
- * words.
+ * empty lists; the longest trace, sum, crate and pedestal runs; the version, and causes and sides
+ * in words.
  *
  * Each case is called once in every placement of its lists: against a page that cannot be read or
  * written, between guard bytes, and at exact size on the heap. Where the program is built with
@@ -249,6 +249,11 @@ static struct answer call_least(const struct list *lists, kovrelna_limits limits
   return with_ratio(from.number, from.value, from.p, from.q);
 }
 
+static struct answer call_sum(const struct list *lists, kovrelna_limits limits, size_t place) {
+  (void)limits, (void)place;
+  return plain(kovrelna_sum(U32(0), I16(1), U32(2), I16(3), U16(4), U16(5), I16(6), U16(7)));
+}
+
 static struct answer call_expand(const struct list *lists, kovrelna_limits limits, size_t place) {
   (void)limits, (void)place;
   return plain(kovrelna_expand(U8(0), I16(1)));
@@ -305,6 +310,8 @@ static const uint8_t figure[] = {0x54, 0, 0, 0, 0, 2, 0, 0, 3, 0x41, 0, 0, 0, 0,
 /* The samples of that record. */
 static const uint32_t kept_ticks[] = {0, 3};
 static const int16_t kept_values[] = {0, 1};
+/* The values of another trace with these ticks, and the sums of both. */
+static const int16_t other_step[] = {5, 3, -2}, both_steps[] = {5, 4, -1};
 /* That trace as a crate of one channel, and its row. */
 static const size_t one_length[] = {3};
 static const kovrelna_summary one_row[] = {{3, 2, 2, 3, 1, 0}};
@@ -353,6 +360,7 @@ enum {
   GALLOP,
   MINIMUM,
   LEAST,
+  SUM,
   EXPAND,
   EXPAND_WITH,
   WRITE_CALL,
@@ -387,6 +395,10 @@ static const struct call {
     {"least", call_least, 3,
      {IN(uneven, 1, 0), IN(step, 1, 0), OUT(3, pair, 10, 3)},
      {0, 2, 0, 0, 2, 3, 0, 0, 0, 0, 0, 0}},
+    {"sum", call_sum, 8,
+     {IN(uneven, 1, 0), IN(step, 1, 0), IN(uneven, 1, 0), IN(other_step, 1, 0), IN(pair, 6, 0),
+      IN(pair, 6, 0), OUT(3, both_steps, 10, 3), OUT(3, pair, 10, 3)},
+     {0, 2, 0, 0, 0, 0, 0, 0, 0, 0, 0, 0}},
     {"expand", call_expand, 2,
      {IN(some_codes, 1, 0), OUT(5, code_values, 10, 5)},
      {0, 5, 0, 0, 0, 0, 0, 0, 0, 0, 0, 0}},
@@ -574,6 +586,68 @@ static void least(int line, const uint32_t *ticks, size_t ticks_len, const int16
 #define NO_CLOSEST(ticks, values, gap, allowance, out_len, number, value)                         \
   least(__LINE__, ticks, COUNT(ticks), values, COUNT(values), gap, allowance, out_len, number,    \
         value, 0, 0, NULL)
+
+/* A trace and a list of it as they are lent. */
+struct reduced {
+  const uint32_t *ticks;
+  size_t ticks_len;
+  const int16_t *values;
+  size_t values_len;
+  const uint16_t *list;
+  size_t list_len;
+};
+
+static struct reduced reduced(const uint32_t *ticks, size_t ticks_len, const int16_t *values,
+                              size_t values_len, const uint16_t *list, size_t list_len) {
+  struct reduced reduced = {ticks, ticks_len, values, values_len, list, list_len};
+  return reduced;
+}
+
+#define REDUCED(ticks, values, list)                                                               \
+  reduced(ticks, COUNT(ticks), values, COUNT(values), list, COUNT(list))
+
+/* With number 0 sum writes these sums, one for each sample, and the joined list, which has `value`
+ * entries. */
+static void sum(int line, struct reduced one, struct reduced two, size_t sums_len,
+                size_t joined_len, uint32_t number, uint64_t value, const int16_t *sums,
+                const uint16_t *joined) {
+  struct list lists[8];
+  lists[0] = input(one.ticks, one.ticks_len, sizeof(uint32_t));
+  lists[1] = input(one.values, one.values_len, sizeof(int16_t));
+  lists[2] = input(two.ticks, two.ticks_len, sizeof(uint32_t));
+  lists[3] = input(two.values, two.values_len, sizeof(int16_t));
+  lists[4] = input(one.list, one.list_len, sizeof(uint16_t));
+  lists[5] = input(two.list, two.list_len, sizeof(uint16_t));
+  lists[6] = number != 0 ? output(sums_len, sizeof(int16_t))
+                         : filled(sums_len, sizeof(int16_t), sums, 0, one.ticks_len);
+  lists[7] = number != 0 ? output(joined_len, sizeof(uint16_t))
+                         : filled(joined_len, sizeof(uint16_t), joined, 0, (size_t)value);
+  run(line, SUM, lists, within_ratio(0, 0), 0, answered(number, value));
+}
+
+/* These sums and this joined list, whichever trace comes first, with outputs of exactly enough room
+ * or more. */
+static void summed(int line, struct reduced one, struct reduced two, const int16_t *sums,
+                   const uint16_t *joined, size_t joined_count) {
+  size_t spare, n = one.ticks_len;
+  for (spare = 0; spare < 4; spare++) {
+    size_t sums_len = n + 3 * (spare % 2), joined_len = n + 3 * (spare / 2);
+    sum(line, one, two, sums_len, joined_len, 0, joined_count, sums, joined);
+    sum(line, two, one, sums_len, joined_len, 0, joined_count, sums, joined);
+  }
+}
+
+#define SUMMED(one, two, sums, joined) summed(__LINE__, one, two, sums, joined, COUNT(joined))
+
+/* Refused, without outputs and with them. */
+static void not_summed(int line, struct reduced one, struct reduced two, uint32_t number,
+                       uint64_t value) {
+  size_t room = one.ticks_len + two.ticks_len;
+  sum(line, one, two, 0, 0, number, value, NULL, NULL);
+  sum(line, one, two, room, room, number, value, NULL, NULL);
+}
+
+#define NOT_SUMMED(one, two, number, value) not_summed(__LINE__, one, two, number, value)
 
 /* With number 0 expand writes these values, `value` of them. */
 static void expand(int line, const uint8_t *codes, size_t codes_len, size_t out_len,
@@ -1223,6 +1297,153 @@ static void no_gap_limits(void) {
   }
 }
 
+static void sums(void) {
+  const uint32_t four[] = {0, 1, 2, 3}, five[] = {0, 1, 2, 3, 4},
+                 last[] = {UINT32_MAX - 1048575, UINT32_MAX};
+  const int16_t late[] = {0, 0, 1, 1}, dip[] = {0, -1, 0, 1}, late_dip[] = {0, -1, 1, 2},
+                spike[] = {-6, -6, 0, 6, -6}, wave[] = {3, 4, 2, 4, 3},
+                spike_wave[] = {-3, -2, 2, 10, -3}, zeros[] = {0, 0, 0, 0, 0}, one[] = {7},
+                other[] = {-9}, both[] = {-2}, two[] = {1, 2}, twice[] = {2, 4};
+  const int16_t lows[] = {-32768, -16384, -1, 32767, 0},
+                more_lows[] = {0, -16384, -32767, -32768, -1},
+                lowest[] = {-32768, -32768, -32768, -1, -1},
+                highs[] = {32767, 16383, 1, -32768, 16384},
+                more_highs[] = {0, 16384, 32766, 32767, 16383},
+                highest[] = {32767, 32767, 32767, -1, 32767};
+  const uint16_t four_ends[] = {0, 3}, dip_list[] = {0, 1, 3}, ends[] = {0, 4},
+                 spike_list[] = {0, 1, 3, 4}, middle[] = {0, 2, 4}, early[] = {0, 1, 4},
+                 late_list[] = {0, 3, 4}, halves[] = {0, 1, 2, 4}, all[] = {0, 1, 2, 3, 4},
+                 first[] = {0}, pair_ends[] = {0, 1};
+
+  /* The errors of the lists are 1/3 and 0, and 1/2 of the joined list. */
+  SUMMED(REDUCED(four, late, four_ends), REDUCED(four, dip, dip_list), late_dip, dip_list);
+  STRAYS(four, late_dip, dip_list, within_ratio(1, 3), 1, 1, 2, 2, KOVRELNA_SIDE_ABOVE);
+  JUDGE(four, late_dip, dip_list, within_ratio(2, 3), 0, 1, 0);
+  /* They are 0 and 1, and 2. */
+  SUMMED(REDUCED(five, spike, spike_list), REDUCED(five, wave, ends), spike_wave, spike_list);
+  STRAYS(five, spike_wave, spike_list, within_ratio(1, 1), 1, 2, 1, 2, KOVRELNA_SIDE_BELOW);
+  JUDGE(five, spike_wave, spike_list, within_ratio(2, 1), 0, 1, 0);
+  /* With a trace of zeros. */
+  SUMMED(REDUCED(five, spike, spike_list), REDUCED(five, zeros, ends), spike, spike_list);
+  SUMMED(REDUCED(five, wave, ends), REDUCED(five, zeros, ends), wave, ends);
+  /* Samples in one list, in both, in turn and one after the other. */
+  SUMMED(REDUCED(five, spike, middle), REDUCED(five, wave, middle), spike_wave, middle);
+  SUMMED(REDUCED(five, spike, early), REDUCED(five, wave, middle), spike_wave, halves);
+  SUMMED(REDUCED(five, spike, early), REDUCED(five, wave, late_list), spike_wave, spike_list);
+  SUMMED(REDUCED(five, spike, spike_list), REDUCED(five, wave, middle), spike_wave, all);
+  SUMMED(REDUCED(five, spike, all), REDUCED(five, wave, ends), spike_wave, all);
+  SUMMED(REDUCED(five, spike, all), REDUCED(five, wave, all), spike_wave, all);
+  /* One sample; the last tick; the ends of the range of sums. */
+  SUMMED(reduced(four + 3, 1, one, 1, first, 1), reduced(five + 3, 1, other, 1, first, 1), both,
+         first);
+  SUMMED(REDUCED(last, two, pair_ends), REDUCED(last, two, pair_ends), twice, pair_ends);
+  SUMMED(REDUCED(five, lows, ends), REDUCED(five, more_lows, ends), lowest, ends);
+  SUMMED(REDUCED(five, highs, ends), REDUCED(five, more_highs, ends), highest, ends);
+}
+
+/* Every row, in its order. */
+static void no_sums(void) {
+  enum { SAMPLES = 5 };
+  /* Traces and lists, with what is wrong with the trace and with the list. */
+  static const struct {
+    uint32_t ticks[SAMPLES];
+    size_t ticks_len, values_len;
+    uint16_t list[3];
+    size_t list_len;
+    uint32_t trace_number;
+    uint64_t trace_value;
+    uint32_t list_number;
+    uint64_t list_value;
+  } given[] = {
+      {{0, 1, 2, 3, 4}, 5, 5, {0, 4}, 2, 0, 0, 0, 0},
+      {{0, 1, 2, 3, 4}, 4, 4, {0, 3}, 2, 0, 0, 0, 0},
+      {{0, 1, 2, 3, 4}, 1, 1, {0}, 1, 0, 0, 0, 0},
+      {{0, 1, 2, 3, 5}, 5, 5, {0, 4}, 2, 0, 0, 0, 0},
+      {{0, 1, 2, 4, 5}, 5, 5, {0, 4}, 2, 0, 0, 0, 0},
+      {{1, 2, 3, 4, 5}, 5, 5, {0, 4}, 2, 0, 0, 0, 0},
+      {{0, 1, 2, 3, 1048575}, 5, 5, {0, 4}, 2, 0, 0, 0, 0},
+      /* 1, 2 and 3, also with a list that is none. */
+      {{0, 1, 2, 3, 4}, 0, 0, {0, 4}, 2, 1, 0, 6, 0},
+      {{0, 1, 2, 3, 4}, 5, 4, {0, 4}, 2, 1, 0, 0, 0},
+      {{0, 1, 1, 3, 4}, 4, 5, {1, 4}, 2, 1, 0, 6, 0},
+      {{0, 0, 2, 3, 4}, 5, 5, {0, 4}, 2, 2, 1, 0, 0},
+      {{0, 1048576, 1048577, 1048578, 1048578}, 5, 5, {0, 4}, 2, 2, 4, 0, 0},
+      {{0, 1, 2, 4, 3}, 5, 5, {0, 0}, 0, 2, 4, 6, 0},
+      {{0, 1, 2, 3, 1048576}, 5, 5, {0, 4}, 2, 3, 4, 0, 0},
+      {{0, 1048576, 1048577, 1048578, 1048579}, 5, 5, {0, 5}, 2, 3, 1, 6, 1},
+      /* 6: empty, not from 0 on, not rising, beyond the trace, short of its end. */
+      {{0, 1, 2, 3, 4}, 5, 5, {0, 4}, 0, 0, 0, 6, 0},
+      {{0, 1, 2, 3, 4}, 5, 5, {1, 4}, 2, 0, 0, 6, 0},
+      {{0, 1, 2, 3, 4}, 5, 5, {0, 4, 4}, 3, 0, 0, 6, 2},
+      {{0, 1, 2, 3, 5}, 5, 5, {0, 2, 1}, 3, 0, 0, 6, 2},
+      {{0, 1, 2, 3, 4}, 5, 5, {0, 65535}, 2, 0, 0, 6, 1},
+      {{0, 1, 2, 3, 4}, 4, 4, {0, 4}, 2, 0, 0, 6, 1},
+      {{0, 1, 2, 3, 4}, 5, 5, {0, 3}, 2, 0, 0, 6, 2},
+      {{1, 2, 3, 4, 5}, 5, 5, {0}, 1, 0, 0, 6, 1},
+  };
+  /* Sums of 0, and ones that are all beyond the range. */
+  static const int16_t levels[][SAMPLES] = {{0, 0, 0, 0, 0}, {20000, 20000, 20000, 20000, 20000}};
+  static const int16_t pairs[][2] = {{32767, 1},       {1, 32767},   {16384, 16384},
+                                     {32767, 32767},   {-32768, -1}, {-1, -32768},
+                                     {-16384, -16385}, {-32768, -32768}};
+  const uint16_t ends[] = {0, 4}, first[] = {0}, all[] = {0, 1, 2, 3, 4};
+  const uint32_t *even = given[0].ticks;
+  struct reduced good = reduced(even, 5, levels[0], 5, ends, 2), whole = good;
+  size_t i, j, k, l;
+
+  for (i = 0; i < COUNT(given); i++) {
+    for (j = 0; j < COUNT(given); j++) {
+      size_t n = given[i].ticks_len, m = given[j].ticks_len, same = 0;
+      while (same < n && same < m && given[i].ticks[same] == given[j].ticks[same]) same++;
+      for (l = 0; l < COUNT(levels); l++) {
+        struct reduced one = reduced(given[i].ticks, n, levels[l], given[i].values_len,
+                                     given[i].list, given[i].list_len),
+                       two = reduced(given[j].ticks, m, levels[l], given[j].values_len,
+                                     given[j].list, given[j].list_len);
+        if (given[i].trace_number != 0)
+          NOT_SUMMED(one, two, given[i].trace_number, given[i].trace_value);
+        else if (given[j].trace_number != 0)
+          NOT_SUMMED(one, two, given[j].trace_number, given[j].trace_value);
+        else if (given[i].list_number != 0)
+          NOT_SUMMED(one, two, given[i].list_number, given[i].list_value);
+        else if (given[j].list_number != 0)
+          NOT_SUMMED(one, two, given[j].list_number, given[j].list_value);
+        else if (same < n || same < m)
+          NOT_SUMMED(one, two, KOVRELNA_REFUSED_MISMATCH, same);
+        else if (l != 0)
+          NOT_SUMMED(one, two, KOVRELNA_REFUSED_OVERFLOW, 0);
+        else
+          summed(__LINE__, one, two, levels[0], given[i].list, given[i].list_len);
+      }
+    }
+  }
+  /* 18: the first of several. */
+  for (k = 0; k < SAMPLES; k++) {
+    for (i = 0; i < COUNT(pairs); i++) {
+      int16_t values1[SAMPLES] = {0, 0, 0, 0, 0}, values2[SAMPLES] = {0, 0, 0, 0, 0};
+      for (j = k; j < SAMPLES; j++) {
+        values1[j] = pairs[i][0];
+        values2[j] = pairs[i][1];
+      }
+      NOT_SUMMED(reduced(even, 5, values1, 5, ends, 2), reduced(even, 5, values2, 5, ends, 2),
+                 KOVRELNA_REFUSED_OVERFLOW, k);
+    }
+  }
+  /* Last 10, of either output or of both, however few samples the joined list has. */
+  whole.list = all;
+  whole.list_len = SAMPLES;
+  for (k = 0; k < SAMPLES; k++) {
+    sum(__LINE__, good, good, k, 5, KOVRELNA_REFUSED_ROOM, 5, NULL, NULL);
+    sum(__LINE__, good, good, 5, k, KOVRELNA_REFUSED_ROOM, 5, NULL, NULL);
+    sum(__LINE__, good, good, k, k, KOVRELNA_REFUSED_ROOM, 5, NULL, NULL);
+    sum(__LINE__, good, whole, k, 9, KOVRELNA_REFUSED_ROOM, 5, NULL, NULL);
+    sum(__LINE__, whole, good, 9, k, KOVRELNA_REFUSED_ROOM, 5, NULL, NULL);
+  }
+  good = reduced(even, 1, levels[0], 1, first, 1);
+  sum(__LINE__, good, good, 0, 1, KOVRELNA_REFUSED_ROOM, 1, NULL, NULL);
+  sum(__LINE__, good, good, 1, 0, KOVRELNA_REFUSED_ROOM, 1, NULL, NULL);
+}
+
 static void codes(void) {
   static const uint8_t many[KOVRELNA_SAMPLES_MAX + 1] = {0};
   static const int16_t zeros[KOVRELNA_SAMPLES_MAX] = {0};
@@ -1745,6 +1966,52 @@ static void longest(void) {
   SAME(record, BYTES, record, BYTES, 0, 1, 0);
 }
 
+/* Two traces of 4,096 samples, with the two ends, every second sample and all of them kept; then
+ * with a sample too many or too few, and with faults of the last sample. */
+static void longest_sum(void) {
+  enum { SAMPLES = KOVRELNA_SAMPLES_MAX };
+  static uint32_t ticks[SAMPLES + 1], others[SAMPLES + 1];
+  static int16_t values1[SAMPLES + 1], values2[SAMPLES + 1], sums[SAMPLES];
+  static uint16_t all[SAMPLES + 1], even[SAMPLES / 2 + 1], odd[SAMPLES / 2 + 1];
+  const uint16_t ends[] = {0, SAMPLES - 1};
+  struct reduced one, two, longer;
+  size_t k;
+  for (k = 0; k <= SAMPLES; k++) {
+    ticks[k] = others[k] = (uint32_t)(255 * k);
+    values1[k] = (int16_t)(7 * k - 14000);
+    values2[k] = (int16_t)(3 * (k % 100));
+    all[k] = (uint16_t)k;
+    if (k < SAMPLES) sums[k] = (int16_t)(values1[k] + values2[k]);
+    if (k <= SAMPLES / 2) {
+      even[k] = (uint16_t)(k < SAMPLES / 2 ? 2 * k : SAMPLES - 1);
+      odd[k] = (uint16_t)(k == 0 ? 0 : 2 * k - 1);
+    }
+  }
+  one = reduced(ticks, SAMPLES, values1, SAMPLES, ends, 2);
+  two = reduced(others, SAMPLES, values2, SAMPLES, ends, 2);
+  longer = REDUCED(others, values2, all);
+  summed(__LINE__, one, two, sums, ends, 2);
+  sum(__LINE__, one, two, SAMPLES - 1, SAMPLES, KOVRELNA_REFUSED_ROOM, SAMPLES, NULL, NULL);
+  sum(__LINE__, one, two, SAMPLES, SAMPLES - 1, KOVRELNA_REFUSED_ROOM, SAMPLES, NULL, NULL);
+  one.list = even;
+  two.list = odd;
+  one.list_len = two.list_len = COUNT(even);
+  summed(__LINE__, one, two, sums, all, SAMPLES);
+  two.list = even;
+  summed(__LINE__, one, two, sums, even, COUNT(even));
+  two.list = all;
+  two.list_len = SAMPLES;
+  summed(__LINE__, one, two, sums, all, SAMPLES);
+  NOT_SUMMED(one, longer, KOVRELNA_REFUSED_LENGTH, 0);
+  NOT_SUMMED(longer, one, KOVRELNA_REFUSED_LENGTH, 0);
+  NOT_SUMMED(one, reduced(ticks, SAMPLES - 1, values2, SAMPLES - 1, all, SAMPLES - 1),
+             KOVRELNA_REFUSED_MISMATCH, SAMPLES - 1);
+  values2[SAMPLES - 1] = 32767;
+  NOT_SUMMED(one, two, KOVRELNA_REFUSED_OVERFLOW, SAMPLES - 1);
+  others[SAMPLES - 1]++;
+  NOT_SUMMED(one, two, KOVRELNA_REFUSED_MISMATCH, SAMPLES - 1);
+}
+
 /* A crate of 64 channels of 4,096 samples that are all kept; then two channels, of which the second
  * has a sample too many. */
 static void longest_crate(void) {
@@ -1826,7 +2093,8 @@ static void words(void) {
   now_name = "cause";
   differ("no refusal", strcmp(cause(0), "none") != 0, 0);
   differ("no refusal", strcmp(cause(UINT32_MAX), "none") != 0, 0);
-  for (number = 0; number <= KOVRELNA_REFUSED_HOLES; number++)
+  differ("no refusal", strcmp(cause(KOVRELNA_REFUSED_OVERFLOW + 1), "none") != 0, 0);
+  for (number = 0; number <= KOVRELNA_REFUSED_OVERFLOW; number++)
     for (other = 0; other < number; other++)
       differ("the same words", strcmp(cause(number), cause(other)) == 0, 0);
   now_name = "side";
@@ -1848,6 +2116,8 @@ int main(void) {
   least_errors();
   gap_limits();
   no_gap_limits();
+  sums();
+  no_sums();
   codes();
   tables();
   records();
@@ -1857,6 +2127,7 @@ int main(void) {
   no_comparison();
   empty_lists();
   longest();
+  longest_sum();
   longest_crate();
   longest_runs();
   words();

@@ -6,6 +6,7 @@
 - `Verdict`, `judge`: whether every link of a proposed list is valid.
 - `walk`, `Galloped`, `gallop`, `minimum`: kept lists with every link valid.
 - `Least`, `least`: the least error that so many samples allow.
+- `Sum`, `sum`: two traces with the same ticks added, and their kept lists joined.
 - `Summary`, `Report`, `report`: a row for each channel of a crate, and totals.
 - `Run`, `Pedestals`, `pedestals`: which channels have moved or are noisy since a run before.
 - `expand`, `expand_with`: the values of range codes, by the rule or by a table of one's own.
@@ -37,10 +38,10 @@ Other elements and masked arrays raise TypeError; nothing is converted. Only a l
 range of whole numbers is copied into such a buffer, and the few lengths of `report` and
 `pedestals`, whatever holds them; a number that does not fit raises OverflowError.
 
-An output is a buffer that the caller lends, or is made anew: an array of numpy if the ticks (the
-codes, the record) are one or if that is asked for (`expand`, `expand_with`, `read`), otherwise an
-array.array. Of a lent output only the entries used change, and the call returns a view of these. It
-overlaps no other list; one that does raises ValueError.
+An output is a buffer that the caller lends, or is made anew: an array of numpy if the ticks (those of
+trace 1, the codes, the record) are one or if that is asked for (`expand`, `expand_with`, `read`),
+otherwise an array.array. Of a lent output only the entries used change, and the call returns a view
+of these. It overlaps no other list; one that does raises ValueError.
 
 A call may run at the same time as others on any threads. Nothing else may write to a lent list
 before the call returns. minimum, least and report take up to 18 KiB of stack, every other call under
@@ -60,6 +61,7 @@ kovrelna.Refusal: refused as 6: no kept list: it ends with 1, not with the last 
 
 from __future__ import annotations
 
+import builtins
 import operator
 from dataclasses import dataclass
 from fractions import Fraction
@@ -87,6 +89,7 @@ __all__ = [
     "Refusal",
     "Report",
     "Run",
+    "Sum",
     "Summary",
     "Verdict",
     "check",
@@ -102,6 +105,7 @@ __all__ = [
     "read",
     "report",
     "same",
+    "sum",
     "walk",
     "write",
 ]
@@ -118,9 +122,10 @@ _CHANNELS = 64
 class Refusal(ValueError):
     """A call declined. It checks the rows that concern it in rising number, only 14 and then 11
     before all others, 12 right after 1, 15 right after 4 (in `least` right after 3) and 16 right
-    after 5; `pedestals` checks 1, 2, 3 and 13 after 4, channel by channel. It answers with the first
-    that fits; a refused call leaves every list as it was. `number` and `value` are the row's;
-    `words` say what is wrong with what was given.
+    after 5; `pedestals` checks 1, 2, 3 and 13 after 4, channel by channel, and `sum` checks 1, 2, 3
+    of trace 1 before those of trace 2, and 10 last. It answers with the first that fits; a refused
+    call leaves every list as it was. `number` and `value` are the row's; `words` say what is wrong
+    with what was given.
 
     | Number | Cause | Value |
     |---|---|---|
@@ -143,6 +148,9 @@ value is not above the one before |
     | 14 | the noise factor is below 1 or above 16 | 0 |
     | 15 | the gap limit is below 1 or above 1,048,575 | 0 |
     | 16 | every list that obeys the gap limit has more samples than the allowance | 0 |
+    | 17 | the ticks of two traces differ | the first sample whose ticks differ or that one of the \
+traces does not have |
+    | 18 | a sum is below -32,768 or above 32,767 | its sample |
 
     In `pedestals` the value of 1, 2 and 3 is the channel. A bad entry is a first one that is not 0,
     one that is not above the entry before it, or one beyond the trace. In `measure` the value of 6
@@ -460,6 +468,77 @@ the allowance, 3: the shortest has 4
     return Least(kept, Fraction(answer.p, answer.q))
 
 
+class Sum(NamedTuple):
+    """What `sum` returns."""
+
+    sums: Numbers
+    """The values of the summed trace."""
+    joined: Numbers
+    """The joined list, a kept list of that trace."""
+
+
+def sum(
+    ticks1: Lent,
+    values1: Lent,
+    ticks2: Lent,
+    values2: Lent,
+    list1: Lent,
+    list2: Lent,
+    sums: Optional[Output] = None,
+    joined: Optional[Output] = None,
+) -> Sum:
+    """Adds two traces with the same ticks sample by sample, and joins their two kept lists into the
+    rising list of the samples in either, each once. The sums are the values of the summed trace,
+    whose ticks are those of either trace; the joined list is a kept list of it. After
+    `from kovrelna import *` the name `sum` is no longer Python's own.
+
+    If every link of list 1 is valid on trace 1 at a tolerance T1, and every link of list 2 on trace
+    2 at T2, under the same gap limit, then every link of the joined list is valid on the summed
+    trace at 2 (T1 + T2) under that gap limit. This holds for any fractions T1 and T2, whether they
+    are allowed as tolerances or not. It does not hold at T1 + T2.
+
+    Refusals, in this order: 1, 2, 3 of trace 1; 1, 2, 3 of trace 2; 6 of list 1, for trace 1; 6 of
+    list 2, for trace 2; 17; 18; 10 with the number of samples, as each output needs an entry for
+    each.
+
+    >>> ticks, values1, values2 = range(5), [-6, -6, 0, 6, -6], [3, 4, 2, 4, 3]
+    >>> list1, list2 = walk(ticks, values1, 0), minimum(ticks, values2, 1)
+    >>> list1.tolist(), list2.tolist()
+    ([0, 1, 3, 4], [0, 4])
+    >>> summed = sum(ticks, values1, ticks, values2, list1, list2)
+    >>> summed
+    Sum(sums=array('h', [-3, -2, 2, 10, -3]), joined=array('H', [0, 1, 3, 4]))
+    >>> judge(ticks, summed.sums, summed.joined, 2 * (0 + 1)).passed
+    True
+    >>> judge(ticks, summed.sums, summed.joined, 0 + 1).measure
+    Measure(error=Fraction(2, 1), sample=2, side='below')
+    >>> sum(ticks, values1, range(1, 6), values2, list1, list2)
+    Traceback (most recent call last):
+        ...
+    kovrelna.Refusal: refused as 17: the ticks of sample 0 differ: 0 in trace 1 and 1 in trace 2
+    """
+    with Loan() as loan:
+        lent = (
+            *loan.input("ticks1", ticks1, TICK),
+            *loan.input("values1", values1, VALUE),
+            *loan.input("ticks2", ticks2, TICK),
+            *loan.input("values2", values2, VALUE),
+            *loan.input("list1", list1, ENTRY),
+            *loan.input("list2", list2, ENTRY),
+        )
+        samples = min(lent[1], _SAMPLES)
+        to_sums = new(VALUE, samples, ticks1) if sums is None else sums
+        to_joined = new(ENTRY, samples, ticks1) if joined is None else joined
+        answer = _library.sum(
+            *lent, *loan.output("sums", to_sums, VALUE), *loan.output("joined", to_joined, ENTRY)
+        )
+        _check(answer, loan, pair=True)
+    return Sum(
+        used(to_sums, VALUE, 0, samples, sums is None),
+        used(to_joined, ENTRY, 0, answer.value, joined is None),
+    )
+
+
 class Summary(NamedTuple):
     """A channel's row in a `Report`. If its trace is refused, all else is 0."""
 
@@ -495,7 +574,7 @@ def _crate(
     """The three lists of a crate, lent under names that begin with that of the run."""
     # Where there are more channels, one too many is refused as well.
     parts = whole(f"{run}lengths", lengths, LENGTH, _CHANNELS + 1)
-    most = sum(parts) + SPARE
+    most = builtins.sum(parts) + SPARE
     return (
         *loan.input(f"{run}ticks", ticks, TICK, most),
         *loan.input(f"{run}values", values, VALUE, most),

@@ -22,11 +22,13 @@ def words(
     factor: Optional[SupportsIndex] = None,
     link: Optional[Tuple[int, int]] = None,
     measure: Optional[Tuple[Fraction, int, str]] = None,
+    pair: bool = False,
 ) -> str:
     """The refusal with this number and value of a call that was lent these lists, of samples or
     codes at most so many, and this tolerance, gap limit or allowance; an output counts from the
-    place on. A call with a noise factor was lent two runs. A link is two samples that are asked for;
-    the measure is that of an invalid link, as `judge` gives it."""
+    place on. A call with a noise factor was lent two runs, one with a pair two traces and a list of
+    each. A link is two samples that are asked for; the measure is that of an invalid link, as
+    `judge` gives it."""
     if number == 4:
         return f"the tolerance is not allowed: {_tolerance.fault(tolerance)}"
     if number == 14:
@@ -35,6 +37,8 @@ def words(
         return f"the gap limit must be from 1 to 1,048,575, not {_tolerance.shown(gap)}"
     if factor is not None:
         return _runs(number, value, loan)
+    if pair and number != 10:
+        return _pair(number, value, loan)
     if number == 1:
         return _length(loan, most)
     if number == 2:
@@ -44,7 +48,9 @@ def words(
     if number == 5:
         return f"the allowance must be from 2 to 4,096, not {_tolerance.shown(allowance)}"
     if number == 6:
-        return f"no link: {_end(loan, *link)}" if link else f"no kept list: {_entry(loan, value)}"
+        if link:
+            return f"no link: {_end(loan, *link)}"
+        return f"no kept list: {_entry(loan.numbers(ENTRY), _last(loan), value)}"
     if number == 7 and measure:
         i, j = loan.numbers(ENTRY)[value : value + 2]
         fault = strays(loan.numbers(TICK), "this tolerance", *measure)
@@ -67,12 +73,16 @@ def _length(loan: Loan, most: int) -> str:
     if any(length > most for _, length in inputs):
         return _many(what, most)
     if any(length != inputs[0][1] for _, length in inputs):
-        return "not as many values as ticks: " + " and ".join(f"{n} {name}" for name, n in inputs)
+        return _unequal(*(length for _, length in inputs))
     return f"no {what}"
 
 
 def _many(what: str, most: int) -> str:
     return f"too many {what}: at most {most:,} are allowed"
+
+
+def _unequal(ticks: int, values: int) -> str:
+    return f"not as many values as ticks: {ticks} ticks and {values} values"
 
 
 def _stuck(ticks: memoryview, sample: int) -> str:
@@ -120,15 +130,24 @@ def _crate(lists: List[Borrowed]) -> str:
     return f"the lengths add up to {total}, and there are {n} ticks and {m} values"
 
 
-def _trace(lists: List[Borrowed], channel: int) -> str:
+def _channel(lists: List[Borrowed], channel: int) -> str:
     """What is wrong with the trace of this channel; empty if nothing is."""
-    ticks, _, lengths = (lent.numbers for lent in lists)
-    start, samples = sum(lengths[:channel]), lengths[channel]
+    ticks, values, lengths = (lent.numbers for lent in lists)
+    start = sum(lengths[:channel])
+    part = slice(start, start + lengths[channel])
+    return _trace(ticks[part], values[part])
+
+
+def _trace(ticks: memoryview, values: memoryview) -> str:
+    """What is wrong with this trace; empty if nothing is."""
+    samples = len(ticks)
+    if max(samples, len(values)) > 4096:
+        return _many("samples", 4096)
+    if samples != len(values):
+        return _unequal(samples, len(values))
     if samples == 0:
         return "no samples"
-    if samples > 4096:
-        return _many("samples", 4096)
-    ticks, later = ticks[start : start + samples], range(1, samples)
+    later = range(1, samples)
     stuck = (_stuck(ticks, k) for k in later if ticks[k] <= ticks[k - 1])
     beyond = (_beyond(k) for k in later if ticks[k] - ticks[0] > 1048575)
     return next(itertools.chain(stuck, beyond), "")
@@ -140,7 +159,7 @@ def _runs(number: int, channel: int, loan: Loan) -> str:
     runs = loan.lists[:3], loan.lists[3:]
     place = "" if number == 11 else f"in channel {channel}, "
     for name, lists in zip(("today's run", "the run before"), runs):
-        fault = _crate(lists) if number == 11 else _trace(lists, channel)
+        fault = _crate(lists) if number == 11 else _channel(lists, channel)
         if fault:
             return f"{name}: {place}{fault}"
     today, before = (lists[2].numbers for lists in runs)
@@ -148,6 +167,35 @@ def _runs(number: int, channel: int, loan: Loan) -> str:
         return f"unequal channel counts: {len(today)} today and {len(before)} before"
     differ = f"the runs differ in the number of samples of channel {channel}"
     return f"{differ}: {today[channel]} today and {before[channel]} before"
+
+
+def _pair(number: int, value: int, loan: Loan) -> str:
+    """What keeps two traces from being summed and their lists from being joined: what is wrong with
+    one trace, with one list, or with the two traces together."""
+    ticks1, values1, ticks2, values2, list1, list2, *_ = (lent.numbers for lent in loan.lists)
+    if number == 17:
+        return _mismatch(ticks1, ticks2, value)
+    if number == 18:
+        x, y = values1[value], values2[value]
+        must = f"the sum of sample {value} must be from -32,768 to 32,767"
+        return f"{must}, not {x + y}: {x} in trace 1 and {y} in trace 2"
+    if number == 6:
+        last = len(ticks1) - 1
+        if not _is_kept(list1, last):
+            return f"list 1 is no kept list: {_entry(list1, last, value)}"
+        return f"list 2 is no kept list: {_entry(list2, len(ticks2) - 1, value)}"
+    fault = _trace(ticks1, values1)
+    return f"trace 1: {fault}" if fault else f"trace 2: {_trace(ticks2, values2)}"
+
+
+def _mismatch(ticks1: memoryview, ticks2: memoryview, sample: int) -> str:
+    """What keeps two traces from having the same ticks, first at this sample."""
+    for name, ticks in (("trace 1", ticks1), ("trace 2", ticks2)):
+        if sample == len(ticks):
+            lengths = f"{len(ticks1)} and {len(ticks2)}"
+            return f"{name} has no sample {sample}: the traces have {lengths} samples"
+    both = f"{ticks1[sample]} in trace 1 and {ticks2[sample]} in trace 2"
+    return f"the ticks of sample {sample} differ: {both}"
 
 
 def _table(loan: Loan, code: int) -> str:
@@ -160,9 +208,20 @@ def _table(loan: Loan, code: int) -> str:
     return f"the value of code {code} is not above the one before: {after}"
 
 
-def _entry(loan: Loan, position: int) -> str:
+def _last(loan: Loan) -> int:
+    """The last sample of the first trace."""
+    return len(loan.numbers(TICK)) - 1
+
+
+def _is_kept(entries: memoryview, last: int) -> bool:
+    """Whether this is a kept list of a trace with this last sample."""
+    if len(entries) == 0 or entries[0] != 0 or entries[-1] != last:
+        return False
+    return all(map(operator.lt, entries, entries[1:]))
+
+
+def _entry(entries: memoryview, last: int, position: int) -> str:
     """The rule that the list breaks at this position."""
-    entries, last = loan.numbers(ENTRY), len(loan.numbers(TICK)) - 1
     if len(entries) == 0:
         return "it is empty"
     if position == len(entries):
@@ -177,7 +236,7 @@ def _entry(loan: Loan, position: int) -> str:
 
 def _end(loan: Loan, i: int, j: int) -> str:
     """What keeps two samples from being those of a link."""
-    last = len(loan.numbers(TICK)) - 1
+    last = _last(loan)
     for name, sample in (("i", i), ("j", j)):
         if not 0 <= sample <= last:
             must = f"{name} must be a sample of the trace, from 0 to {last}"

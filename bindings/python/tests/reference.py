@@ -1,10 +1,11 @@
-"""The slow reference: document 01 and wishes 1, 3, 4, 6 and 7 of document 02 once more, with
+"""The slow reference: document 01 and wishes 1, 3, 4, 6, 7 and 8 of document 02 once more, with
 fractions, clear before fast. It knows nothing of the library that is compared with it.
 
 - `Refused`: a row of the table of refusals.
 - `held`: a tolerance. Its forms are ("ratio", p, q), ("counts", x) and ("noise", noise, multiple).
 - `measure`, `judge`, `walk`, `gallop`, `minimum`, `least`, `report`, `pedestals`, `expand`,
   `expand_with`, `write`, `read`, `same`: the calls.
+- `summed`: the call `sum`.
 - `valid`: what `judge` asks of a list.
 - `shift`, `noise`: what `pedestals` compares of a channel.
 """
@@ -230,6 +231,24 @@ def least(ticks, values, gap, allowance, room):
     for kept in kept_lists(len(ticks), len(ticks)):
         if valid(ticks, values, kept, error, gap):
             return kept, error
+
+
+def summed(ticks1, values1, ticks2, values2, list1, list2, rooms):
+    """The sums and the joined list. Rows 1 to 3 of trace 1, then of trace 2, row 6 of list 1, then of
+    list 2, then 17, 18 and 10."""
+    check_trace(ticks1, values1)
+    check_trace(ticks2, values2)
+    check_list(list1, len(ticks1))
+    check_list(list2, len(ticks2))
+    for k, (one, other) in enumerate(itertools.zip_longest(ticks1, ticks2)):
+        if one != other:
+            raise Refused(17, k)
+    sums = [one + other for one, other in zip(values1, values2)]
+    for k, value in enumerate(sums):
+        if not -(2**15) <= value < 2**15:
+            raise Refused(18, k)
+    check_room(min(rooms), len(sums))
+    return sums, sorted({*list1, *list2})
 
 
 def row(ticks, values, tolerance, gap):

@@ -1,6 +1,6 @@
 """The Python module as a user calls it: document 01's figures, every refusal of every call, buffers
-that are lent and not copied, and random traces, limits, runs, range tables and records beside the
-slow reference. Arrays of numpy are tried where numpy is present; a stand-in for it always is.
+that are lent and not copied, and random traces, limits, pairs, runs, range tables and records beside
+the slow reference. Arrays of numpy are tried where numpy is present; a stand-in for it always is.
 """
 
 import array
@@ -42,6 +42,10 @@ REDUCTIONS = (kovrelna.walk, kovrelna.gallop, kovrelna.minimum)
 PARTS = [0, 1, 2, 10, 11, 12]
 NO_GAPS = [0, 2**20, 2**32 - 1]
 NO_GAPS += [-1, 2**32, 2**32 + 7, 7 - 2**32, 2**64, 2**64 + 7, 7 - 2**64]
+# Two traces with the same ticks and a list of each, as `sum` takes them; their sums and the joined
+# list.
+PAIR = EVEN, [-6, -6, 0, 6, -6], EVEN, [3, 4, 2, 4, 3], [0, 1, 3, 4], [0, 4]
+SUMS, JOINED = [-3, -2, 2, 10, -3], [0, 1, 3, 4]
 TABLE = [100 * (code - 200) for code in range(256)]
 # At tolerance 1/2 and factor 2 channel 0 has moved, 1 is noisy, and 2 is at both limits.
 TODAY = Run([0, 1, 2, 3] * 3, [11, 13, 11, 13, -5, -5, -5, -4, 0, 2, 0, 2], [4, 4, 4])
@@ -57,6 +61,16 @@ def kept_by(call, *arguments, **limits):
     """The kept list of a reduction, as a plain list."""
     answer = call(*arguments, **limits)
     return list(answer.kept if call is kovrelna.gallop else answer)
+
+
+def sum_of(*pair):
+    """The sums and the joined list, as plain lists."""
+    return tuple(map(list, kovrelna.sum(*pair)))
+
+
+def outputs_of(sums, joined):
+    """Outputs of `sum` with so many entries."""
+    return array.array("h", [999] * sums), array.array("H", [999] * joined)
 
 
 def table_with(values):
@@ -262,6 +276,60 @@ class Figures(Case):
         self.assertEqual((list(content.ticks), list(content.values)), ([0, 3], [0, 1]))
         self.assertEqual(content.tolerance, Fraction(2, 3))
 
+    def test_sums(self):
+        short = range(4), [0, 0, 1, 1], range(4), [0, -1, 0, 1], [0, 3], [0, 1, 3]
+        for pair, sums, joined, first, second, both in [
+            (short, [0, -1, 1, 2], [0, 1, 3], Fraction(1, 3), 0, Fraction(1, 2)),
+            (PAIR, SUMS, JOINED, 0, 1, 2),
+        ]:
+            ticks, values1, _, values2, list1, list2 = pair
+            found = kovrelna.sum(*pair)
+            self.assertEqual((list(found.sums), list(found.joined)), (sums, joined))
+            self.assertEqual([part.typecode for part in found], ["h", "H"])
+            turned = kovrelna.sum(ticks, values2, ticks, values1, list2, list1)
+            self.assertEqual(turned, found)
+            lists = (values1, list1, first), (values2, list2, second), (*found, both)
+            for values, kept, error in lists:
+                self.assertEqual(reference.list_error(ticks, values, kept), error)
+                # With a trace of zeros and the list of its two ends.
+                zeros, ends = [0] * len(ticks), [0, len(ticks) - 1]
+                same = list(values), list(kept)
+                self.assertEqual(sum_of(ticks, values, ticks, zeros, kept, ends), same)
+                self.assertEqual(sum_of(ticks, zeros, ticks, values, ends, kept), same)
+            # Within 2 (T1 + T2), and not within T1 + T2.
+            self.assertTrue(kovrelna.judge(ticks, *found, 2 * (first + second)))
+            self.assertFalse(kovrelna.judge(ticks, *found, first + second))
+        self.assertEqual(sum_of([7], [7], [7], [-9], [0], [0]), ([-2], [0]))
+        # The last tick, and the greatest span.
+        ticks = [2**32 - 1048576, 2**32 - 1]
+        self.assertEqual(sum_of(ticks, [1, 2], ticks, [3, 4], [0, 1], [0, 1]), ([4, 6], [0, 1]))
+
+    def test_every_pair_of_lists(self):
+        for size in range(1, 6):
+            every = list(reference.kept_lists(size, size))
+            self.assertEqual(len(every), 2 ** max(size - 2, 0))
+            trace = range(size), [1] * size
+            for list1, list2 in itertools.product(every, repeat=2):
+                union = [k for k in range(size) if k in list1 or k in list2]
+                self.assertEqual(sum_of(*trace, *trace, list1, list2), ([2] * size, union))
+
+    def test_sums_at_the_limits(self):
+        low, high = -32768, 32767
+        pairs = [(low, 0), (low // 2, low // 2), (-1, low + 1), (high, 0), (high // 2, 16384)]
+        pairs += [(high, low), (low, high), (1, high - 1)]
+        columns = [list(column) for column in zip(*pairs)]
+        ticks, ends = range(len(pairs)), [0, len(pairs) - 1]
+        sums = [low, low, low, high, high, -1, -1, high]
+        self.assertEqual(sum_of(ticks, columns[0], ticks, columns[1], ends, ends), (sums, ends))
+        beyond = [(low, -1), (low // 2, low // 2 - 1), (low, low), (high, 1), (16384, 16384)]
+        for one, other in beyond + [(high, high), (1, high), (-1, low)]:
+            for k, columns in itertools.product(EVEN, ([one, other], [other, one])):
+                values1, values2 = ([0] * k + [value] * (5 - k) for value in columns)
+                pair = EVEN, values1, EVEN, values2, [0, 4], [0, 4]
+                outputs = outputs_of(5, 5)
+                self.refused(18, k, kovrelna.sum, *pair, *outputs)
+                self.assertEqual(outputs, outputs_of(5, 5))
+
     def test_report(self):
         crate = [0, 1, 2, 3, 4, 5, 5, 7], WAVE + [1, 1, 9], [5, 0, 2, 1]
         rows = [(5, 3, 2, 1, 0), (0, 0, 0, 0, 1), (0, 0, 0, 0, 2), (1, 1, 0, 0, 0)]
@@ -433,6 +501,14 @@ class Tolerances(Case):
 
 
 class Refusals(Case):
+    def not_summed(self, number, value, *pair):
+        """Refused by `sum` with new outputs, and with lent ones, which stay as they were."""
+        self.refused(number, value, kovrelna.sum, *pair)
+        for rooms in [(0, 0), (9, 9), (0, 9)]:
+            outputs = outputs_of(*rooms)
+            self.refused(number, value, kovrelna.sum, *pair, *outputs)
+            self.assertEqual(outputs, outputs_of(*rooms))
+
     """Every row of every call; where a row has several causes, each."""
 
     flat = [0] * 5
@@ -471,6 +547,10 @@ class Refusals(Case):
                     self.refused(number, 1, kovrelna.pedestals, *runs, tolerance, 1)
             for i, j in [(0, 1), (4, 0), (-1, 2**64)]:
                 self.refused(*row, kovrelna.measure, ticks, values, i, j)
+            for lists in ([[0, 4], [0, 4]], [[], [1]], [[0, 65535], []]):
+                self.not_summed(*row, ticks, values, EVEN, self.flat, *lists)
+                self.not_summed(*row, EVEN, self.flat, ticks, values, *lists)
+                self.not_summed(*row, ticks, values, [7, 7], [], *lists)
             for kept in ([0, 4], [], [1]):
                 self.refused(*row, kovrelna.judge, ticks, values, kept, tolerance, gap=gap)
                 self.refused(*row, kovrelna.write, ticks, values, kept, tolerance, gap=gap)
@@ -635,6 +715,54 @@ class Refusals(Case):
             self.refused(6, position, kovrelna.judge, EVEN, ZIGZAG, kept, 0)
             self.refused(6, position, kovrelna.write, EVEN, ZIGZAG, kept, 0)
             self.refused(6, position, kovrelna.write, EVEN, ZIGZAG, kept, 0, bytearray(0))
+            traces = EVEN, [32767] * 5, range(1, 6), [32767] * 5
+            self.not_summed(6, position, *traces, kept, [0, 4])
+            self.not_summed(6, position, *traces, [0, 4], kept)
+            self.not_summed(6, position, *traces, kept, [0, 1, 1])
+            self.not_summed(6, 2, *traces, [0, 1, 1], kept)
+
+    def test_sums(self):
+        """Each of these faults is found before all above it."""
+        names = "ticks1", "values1", "ticks2", "values2", "list1", "list2"
+        given = dict(zip(names, PAIR))
+        self.assertEqual(kovrelna.sum(**given), kovrelna.sum(*PAIR))
+        for number, value, faults in [
+            (18, 4, {"values1": [0, 0, 0, 0, 32767], "values2": [1] * 5}),
+            (18, 1, {"values1": [0, -32768, 0, 0, 0], "values2": [-1] * 5}),
+            (17, 4, {"ticks2": [0, 1, 2, 3, 5]}),
+            (17, 3, {"ticks2": [0, 1, 2], "values2": [-1] * 3, "list2": [0, 2]}),
+            (17, 0, {"ticks2": [1, 2, 3]}),
+            (6, 1, {"list2": [0]}),
+            (6, 1, {"list2": [0, 3]}),
+            (6, 0, {"list2": []}),
+            (6, 3, {"list1": [0, 1, 2]}),
+            (6, 2, {"list1": [0, 4, 4]}),
+            (6, 0, {"list1": [1]}),
+            (3, 2, {"ticks2": [0, 1, 1048576]}),
+            (2, 1, {"ticks2": [5, 5, 1048581]}),
+            (1, 0, {"values2": []}),
+            (3, 4, {"ticks1": [0, 1, 2, 3, 1048576]}),
+            (2, 3, {"ticks1": [0, 1, 1048577, 7, 8]}),
+            (1, 0, {"ticks1": range(4097)}),
+        ]:
+            given.update(faults)
+            self.not_summed(number, value, *(given[name] for name in names))
+
+    def test_mismatches(self):
+        for n, m in itertools.permutations(range(1, 6), 2):
+            traces = range(n), [32767] * n, range(m), [32767] * m
+            lists = sorted({0, n - 1}), sorted({0, m - 1})
+            self.not_summed(17, min(n, m), *traces, *lists)
+        ticks, ends = range(10, 20), [0, 9]
+        for k, by in itertools.product(range(10), (-1, 1)):
+            # All ticks from sample k on, or up to it, differ.
+            for low, high in [(k, 10), (0, k + 1)]:
+                other = [tick + by * (low <= j < high) for j, tick in enumerate(ticks)]
+                if sorted(set(other)) != other:
+                    continue
+                for pair in itertools.permutations([ticks, other]):
+                    first, second = ([one, [32767] * 10] for one in pair)
+                    self.not_summed(17, low, *first, *second, ends, ends)
 
     def test_samples(self):
         beyond = [5, 6, 4096, 2**16, 2**32, 2**32 + 1, 2**63, 2**64 - 1, 2**64, 2**64 + 1]
@@ -692,6 +820,12 @@ class Refusals(Case):
             outputs = array.array("I", [7] * ticks), array.array("h", [7] * values)
             self.refused(10, 2, kovrelna.read, RECORD, *outputs)
             self.assertEqual(set(outputs[0]) | set(outputs[1]) | {7}, {7})
+        # However few samples the joined list has.
+        for rooms in [(4, 5), (5, 4), (4, 4), (0, 9), (9, 0), (0, 0)]:
+            outputs = outputs_of(*rooms)
+            for lists in (PAIR[4:], ([0, 4], [0, 4]), (EVEN, EVEN)):
+                self.refused(10, 5, kovrelna.sum, *PAIR[:4], *lists, *outputs)
+            self.assertEqual(outputs, outputs_of(*rooms))
 
     def test_codes(self):
         self.refused(1, 0, kovrelna.expand, b"")
@@ -927,6 +1061,54 @@ class Words(Case):
         words = f"{link}, is not within this tolerance: {place} lies 8/3 below the line"
         self.says(7, words, kovrelna.write, range(4), [2, 2, -2, 0], [0, 3], 2)
 
+    def test_sums(self):
+        good, ends, call = (EVEN, self.flat), [0, 4], kovrelna.sum
+        for number, ticks, values, words in [
+            (1, [], [], "no samples"),
+            (1, range(10**30), [], "too many samples: at most 4,096 are allowed"),
+            (1, [], [0] * 5000, "too many samples: at most 4,096 are allowed"),
+            (1, EVEN, [0] * 4, "not as many values as ticks: 5 ticks and 4 values"),
+            (2, [0, 5, 4], [0] * 3, "the tick of sample 2 is not above the one before: 4 after 5"),
+            (3, [9, 10, 1048585], [0] * 3, "sample 2 is over 1,048,575 ticks after the first"),
+        ]:
+            for lists in ([ends, ends], [[], []]):
+                self.says(number, f"trace 1: {words}", call, ticks, values, *good, *lists)
+                self.says(number, f"trace 1: {words}", call, ticks, values, [7, 7], [], *lists)
+                self.says(number, f"trace 2: {words}", call, *good, ticks, values, *lists)
+        for kept, words in [
+            ([], "it is empty"),
+            ([1, 4], "entry 0 is 1, and the first must be 0"),
+            ([0, 3, 2, 4], "entry 2 is 2, not above the entry before it, 3"),
+            ([0, 4, 4], "entry 2 is 4, not above the entry before it, 4"),
+            ([0, 2, 5], "entry 2 is 5, beyond the last sample, 4"),
+            ([0, 2, 3], "it ends with 3, not with the last sample, 4"),
+        ]:
+            for lent in (kept, memoryview((ctypes.c_uint16 * len(kept))(*kept))):
+                words1, words2 = (f"list {n} is no kept list: {words}" for n in (1, 2))
+                self.says(6, words1, call, *good, *good, lent, ends)
+                self.says(6, words1, call, *good, *good, lent, [1])
+                self.says(6, words2, call, *good, *good, ends, lent)
+        # Each list is one of its own trace.
+        longer = range(6), [0] * 6
+        words = "list 2 is no kept list: it ends with 4, not with the last sample, 5"
+        self.says(6, words, call, *good, *longer, ends, ends)
+        words = "list 1 is no kept list: it ends with 4, not with the last sample, 5"
+        self.says(6, words, call, *longer, *good, ends, ends)
+        words = "trace 1 has no sample 5: the traces have 5 and 6 samples"
+        self.says(17, words, call, *good, *longer, ends, [0, 5])
+        words = "trace 2 has no sample 5: the traces have 6 and 5 samples"
+        self.says(17, words, call, *longer, *good, [0, 5], ends)
+        late = array.array("I", [0, 1, 2, 1048574, 1048575]), self.flat
+        words = "the ticks of sample 3 differ: 3 in trace 1 and 1048574 in trace 2"
+        self.says(17, words, call, *good, *late, ends, ends)
+        words = "the ticks of sample 3 differ: 1048574 in trace 1 and 3 in trace 2"
+        self.says(17, words, call, *late, *good, ends, ends)
+        must = "the sum of sample 2 must be from -32,768 to 32,767, not"
+        for one, other in [(32767, 1), (1, 32767), (-32768, -1), (-32768, -32768)]:
+            words = f"{must} {one + other}: {one} in trace 1 and {other} in trace 2"
+            values1, values2 = ([0, 0, value, value, 0] for value in (one, other))
+            self.says(18, words, call, EVEN, values1, EVEN, values2, ends, ends)
+
     def test_samples(self):
         must = "must be a sample of the trace, from 0 to 4, not"
         for i, j, words in [
@@ -963,6 +1145,8 @@ class Words(Case):
             ("3 entries are needed, and out has 2", kovrelna.expand_with, (b"abc", TABLE, values)),
             ("2 entries are needed, and ticks has 1", kovrelna.read, (RECORD, ticks[1:])),
             ("2 entries are needed, and values has 1", kovrelna.read, (RECORD, ticks, values[1:])),
+            ("5 entries are needed, and sums has 2", kovrelna.sum, (*PAIR, values)),
+            ("5 entries are needed, and joined has 0", kovrelna.sum, (*PAIR, None, out)),
             ("22 bytes are needed, and buffer has 21", kovrelna.write, (*trace, bytearray(21))),
         ]:
             self.says(10, f"the output is too short: {words}", call, *arguments)
@@ -998,6 +1182,16 @@ class Longest(Case):
         for call in REDUCTIONS:
             self.assertEqual(kept_by(call, ticks, flat, 0, gap=255), list(range(4096)))
             self.assertEqual(kept_by(call, ticks, flat, 0, gap=256), [0, 4095])
+        ends, every = array.array("H", [0, 4095]), array.array("H", range(4096))
+        for list1, list2 in itertools.product((ends, every), repeat=2):
+            found = kovrelna.sum(ticks, values, ticks, values, list1, list2)
+            joined = ends if list1 is list2 is ends else every
+            self.assertEqual(found, (array.array("h", [20000 * (k % 2) for k in every]), joined))
+        longer, more = array.array("I", range(4097)), array.array("h", [0] * 4097)
+        self.refused(1, 0, kovrelna.sum, longer, more, ticks, values, every, every)
+        self.refused(1, 0, kovrelna.sum, ticks, values, longer, more, every, every)
+        short = ticks[:4095], values[:4095], ticks, values, every[:4095], every
+        self.refused(17, 4095, kovrelna.sum, *short)
         # Plain lists: a channel may be longer than a trace.
         crate = kovrelna.report(range(10**5), [0] * 10**5, [10**5 - 4096, 4096], 0)
         self.assertEqual(crate, ([(0, 0, 0, 0, 1), (4096, 2, 0, 0, 0)], 4096, 2, 0))
@@ -1028,9 +1222,12 @@ class Buffers(Case):
         codes, decoded = array.array("B", [31, 32]), array.array("h", [9] * 3)
         table, mapped = array.array("h", TABLE), array.array("h", [9] * 3)
         record = array.array("B", RECORD)
+        pair = [array.array(code, numbers) for code, numbers in zip("IhIhHH", PAIR)]
+        sums, joined = outputs_of(7, 6)
         trace = [self.ticks, self.values]
         calls = [(call.__name__, call, trace + [1], [out]) for call in REDUCTIONS] + [
             ("least", kovrelna.least, trace + [2], [out]),
+            ("sum", kovrelna.sum, pair, [sums, joined]),
             ("measure", kovrelna.measure, trace + [0, 2], []),
             ("judge", kovrelna.judge, trace + [self.kept, 1], []),
             ("write", kovrelna.write, trace + [self.kept, 1], [buffer]),
@@ -1045,6 +1242,9 @@ class Buffers(Case):
             self.assertEqual(self.lent(name, call, *inputs, *outputs), expected, name)
         self.assertEqual(out.tolist(), [0, 2, 9, 9])
         self.assertEqual((ticks.tolist(), values.tolist()), ([0, 3, 9], [0, 1, 9]))
+        self.assertEqual(sums.tolist(), SUMS + [999] * 2)
+        self.assertEqual(joined.tolist(), JOINED + [999] * 2)
+        self.assertEqual([part.tolist() for part in pair], [list(numbers) for numbers in PAIR])
         self.assertEqual(decoded.tolist(), [31, 32, 9])
         self.assertEqual(mapped.tolist(), [-16900, -16800, 9])
         self.assertEqual((codes.tolist(), table.tolist()), ([31, 32], TABLE))
@@ -1058,6 +1258,16 @@ class Buffers(Case):
             self.assertEqual(view.tolist(), [0, 2])
             out[1] = 77
             self.assertEqual(view.tolist(), [0, 77])
+        # Either output of a sum, or both.
+        for lent in [(True, False), (False, True), (True, True)]:
+            outputs = [out if is_lent else None for out, is_lent in zip(outputs_of(7, 6), lent)]
+            found = kovrelna.sum(*PAIR, *outputs)
+            self.assertEqual([part.tolist() for part in found], [SUMS, JOINED])
+            for part, out in zip(found, outputs):
+                self.assertEqual(isinstance(part, memoryview), out is not None)
+                if out is not None:
+                    out[1] = 77
+                    self.assertEqual((part[1], out[-1]), (77, 999))
 
     def test_the_record_is_at_its_place(self):
         for place in range(9):
@@ -1111,6 +1321,38 @@ class Buffers(Case):
             for part in run:
                 part.append(7)
 
+    def test_pairs(self):
+        codes = "IhIhHH"
+        given = [array.array(code, numbers) for code, numbers in zip(codes, PAIR)]
+        lent = self.lent("sum", kovrelna.sum, *given)
+        self.assertEqual(lent[:6], [part.buffer_info() for part in given])
+        self.assertEqual([length for _, length in lent[6:]], [5, 5])
+        self.assertEqual(sum_of(*map(tuple, PAIR)), (SUMS, JOINED))
+        self.assertEqual(sum_of(*map(memoryview, given)), (SUMS, JOINED))
+        # A trace may be lent twice.
+        ticks, values, _, _, kept, _ = given
+        twice = [2 * value for value in values]
+        found = kovrelna.sum(ticks, values, ticks, values, kept, kept)
+        self.assertEqual(found, (array.array("h", twice), kept))
+        self.refused(17, 4, kovrelna.sum, *given[:2], ticks[:4], values[:4], kept, [0, 3])
+        self.refused(18, 1, kovrelna.sum, *given[:3], [9, -32768, 0, 0, 0], *given[4:])
+        self.assertEqual([part.tolist() for part in given], [list(numbers) for numbers in PAIR])
+        for part in (*given, *found):
+            part.append(7)
+        names = list(inspect.signature(kovrelna.sum).parameters)
+        inputs, outputs = names[:6], names[6:]
+        self.assertEqual(inputs, ["ticks1", "values1", "ticks2", "values2", "list1", "list2"])
+        self.assertEqual(outputs, ["sums", "joined"])
+        for position, name in enumerate(inputs):
+            for wrong, kind, words in [
+                (None, TypeError, " must be a buffer of .*: NoneType is none"),
+                (array.array("d", [0, 1]), TypeError, r" must be .*; write array.array\("),
+                ([0.5], TypeError, r"\[0\] must be a whole number, not 0.5"),
+                ([2**40], OverflowError, r"\[0\] must be from"),
+            ]:
+                with self.assertRaisesRegex(kind, f"^{name}{words}"):
+                    kovrelna.sum(*PAIR[:position], wrong, *PAIR[position + 1 :])
+
     def test_wrong_runs(self):
         message = "must be a Run, or another tuple of ticks, values and lengths, not"
         for run, kind, words in [
@@ -1159,6 +1401,8 @@ class Buffers(Case):
             kovrelna.measure(ticks, values, 2, 1)
         with self.assertRaises(Refusal):
             kovrelna.write(ticks, values, self.kept, 0)
+        with self.assertRaises(Refusal):
+            kovrelna.sum(ticks, values, ticks, values, self.kept, out)
         with self.assertRaises(TypeError):
             kovrelna.walk(ticks, values, 1, out.tobytes())
         for lent in (ticks, values, out):
@@ -1196,6 +1440,10 @@ class Buffers(Case):
         for kept, position in [(endless, 5), ([0] * 65537, 1), (tuple(range(5)) * 20000, 5)]:
             self.refused(6, position, kovrelna.judge, EVEN, WAVE, kept, 1)
             self.refused(6, position, kovrelna.write, EVEN, WAVE, kept, 1)
+            self.refused(6, position, kovrelna.sum, EVEN, WAVE, EVEN, WAVE, kept, [0, 4])
+            self.refused(6, position, kovrelna.sum, EVEN, WAVE, EVEN, WAVE, [0, 4], kept)
+        self.refused(1, 0, kovrelna.sum, endless, [0], EVEN, WAVE, [0, 4], [0, 4])
+        self.refused(1, 0, kovrelna.sum, EVEN, WAVE, endless, [0], [0, 4], [0, 4])
         long = list(RECORD) + [0] * 65536
         self.refused(8, len(RECORD), kovrelna.read, long)
         self.refused(9, len(RECORD), kovrelna.same, RECORD, long)
@@ -1279,6 +1527,8 @@ class Buffers(Case):
             ("out", kovrelna.expand_with, b"\7", TABLE, memoryview(bytes(2)).cast("h")),
             ("ticks", kovrelna.read, RECORD, memoryview(bytes(8)).cast("I")),
             ("values", kovrelna.read, RECORD, None, memoryview(bytes(4)).cast("h")),
+            ("sums", kovrelna.sum, *PAIR, memoryview(bytes(10)).cast("h")),
+            ("joined", kovrelna.sum, *PAIR, None, memoryview(bytes(10)).cast("H")),
         ]
         for name, call, *arguments in read_only:
             with self.assertRaisesRegex(TypeError, f"{name} must be a writable .* read-only"):
@@ -1293,6 +1543,12 @@ class Buffers(Case):
         self.assertEqual(kovrelna.walk(ticks, [0, 0], 1, memory[8:12].cast("H")).tolist(), [0, 1])
         with self.assertRaisesRegex(ValueError, "values and ticks overlap"):
             kovrelna.read(RECORD, memory[:8].cast("I"), memory[4:8].cast("h"))
+        with self.assertRaisesRegex(ValueError, "joined and sums overlap"):
+            kovrelna.sum(*PAIR, memory[:10].cast("h"), memory[8:18].cast("H"))
+        with self.assertRaisesRegex(ValueError, "joined and list2 overlap"):
+            kovrelna.sum(*PAIR[:5], memory[:4].cast("H"), None, memory[2:12].cast("H"))
+        outputs = memory[20:30].cast("h"), memory[30:40].cast("H")
+        self.assertEqual(sum_of(*PAIR, *outputs), (SUMS, JOINED))
         table = memoryview(array.array("h", TABLE + [7]))
         with self.assertRaisesRegex(ValueError, "out and table overlap"):
             kovrelna.expand_with(b"\0\0", table[:256], table[255:])
@@ -1346,6 +1602,7 @@ class NumpyArrays:
             answers = [kovrelna.walk(ticks, values, 1), kovrelna.minimum(ticks, values, 1)]
             answers += [kovrelna.gallop(ticks, values, 1).kept]
             answers += [kovrelna.least(ticks, values, 2).kept]
+            answers += [kovrelna.sum(ticks, values, [0, 1, 3], [0, 1, 1], [0, 2], [0, 2]).joined]
             for kept in answers:
                 self.assertEqual(kept.tolist(), [0, 2])
             answers += kovrelna.read(record)[:2]
@@ -1353,7 +1610,12 @@ class NumpyArrays:
             answers += [kovrelna.expand(record), kovrelna.expand(RECORD, numpy=True)]
             answers += [kovrelna.expand_with(record, TABLE)]
             answers += [kovrelna.expand_with(RECORD, TABLE, numpy=True)]
-            self.assertEqual([len(answer) for answer in answers], [2] * 8 + [22] * 4)
+            self.assertEqual([len(answer) for answer in answers], [2] * 9 + [22] * 4)
+            kept = self.module.array([0, 1, 2], "H")
+            answers += kovrelna.sum(ticks, values, ticks, values, kept, kept)
+            self.assertEqual([answer.tolist() for answer in answers[-2:]], [[0, 2, 2], [0, 1, 2]])
+            for answer in kovrelna.sum([0, 1, 3], values, ticks, values, kept, kept):
+                self.assertNotIsInstance(answer, self.module.ndarray)
             self.assertNotIsInstance(kovrelna.walk(ticks.tolist(), values, 1), self.module.ndarray)
             table = self.module.array(TABLE, "h")
             self.assertNotIsInstance(kovrelna.expand_with(RECORD, table), self.module.ndarray)
@@ -1374,6 +1636,11 @@ class NumpyArrays:
         self.assertEqual((kept.tolist(), out.tolist()), ([0, 2, 4], [0, 2, 4, 9, 9]))
         kept[1] = 7
         self.assertEqual(out.tolist(), [0, 7, 4, 9, 9])
+        sums, out = self.module.array([9] * 6, "h"), self.module.array([9] * 5, "H")
+        with mock.patch.dict(sys.modules, numpy=self.module):
+            found = kovrelna.sum(*PAIR, sums, out)
+        self.assertEqual([part.tolist() for part in found], [SUMS, JOINED])
+        self.assertEqual((sums.tolist(), out.tolist()), (SUMS + [9], JOINED + [9]))
 
 
 class StandIn(NumpyArrays, Case):
@@ -1458,6 +1725,19 @@ class Numpy(NumpyArrays, Case):
         with self.assertRaisesRegex(TypeError, words):
             kovrelna.pedestals(today, before._replace(values=before.values + 0.5), 0.5, 2)
 
+    def test_pairs(self):
+        kinds = numpy.uint32, numpy.int16, numpy.uint32, numpy.int16, numpy.uint16, numpy.uint16
+        pair = list(map(numpy.array, PAIR, kinds))
+        found = kovrelna.sum(*pair)
+        self.assertEqual([part.dtype for part in found], [numpy.int16, numpy.uint16])
+        self.assertEqual([part.tolist() for part in found], [SUMS, JOINED])
+        lent = Buffers.lent(self, "sum", kovrelna.sum, *pair)
+        self.assertEqual(lent[:6], [(part.ctypes.data, len(part)) for part in pair])
+        self.assertTrue(kovrelna.judge(pair[0], *found, 2))
+        words = r"^values2 must be .*; write values2.astype\(numpy.int16\)"
+        with self.assertRaisesRegex(TypeError, words):
+            kovrelna.sum(*pair[:3], pair[3] + 0.5, *pair[4:])
+
     def test_what_to_write_instead(self):
         two = numpy.array([[0, 7], [1, 7], [3, 7]])
         words = "ticks.astype(numpy.uint32), if all are from 0 to 4294967295"
@@ -1526,7 +1806,7 @@ def answer(call, *arguments, **limits):
 
 
 class Reference(Case):
-    """Random traces, limits, runs, range tables and records beside the slow reference."""
+    """Random traces, limits, pairs, runs, range tables and records beside the slow reference."""
 
     def setUp(self):
         self.random = random.Random(1)
@@ -1713,6 +1993,78 @@ class Reference(Case):
             self.assertEqual(found, reference.measure(ticks, values, i, j), given)
             counts.add(sum(b - a > gap for a, b in zip(ticks, ticks[1:])))
         self.assertTrue({0, 1, 2} & counts and max(counts) > 50, counts)
+
+    def pair(self):
+        """Two traces and a list of each, sometimes with faults, or with ticks that differ."""
+        choose = self.random.choice
+        ticks, values = self.trace()
+        others = ticks[:], [choose([0, 1, -1, value // 2, -value - 1]) for value in values]
+        if choose(range(6)) == 0:
+            others = self.trace()
+        if choose(range(8)) == 0 and others[0]:
+            at = self.random.randrange(len(others[0]))
+            others[0][at] = max(others[0][at] + choose([-1, 1]), 0)
+        if choose(range(8)) == 0:
+            for numbers in choose([(ticks, values), others]):
+                del numbers[-1:]
+        lists = (self.kept(max(len(trace[0]), 1)) for trace in ((ticks, values), others))
+        return (ticks, values, *others, *lists)
+
+    def test_pairs(self):
+        seen, within = set(), set()
+        for _ in range(3000):
+            pair = self.pair()
+            samples = len(pair[0])
+            sizes = [samples] * 6 + [samples + 3, max(samples - 1, 0)]
+            rooms = self.random.choices(sizes, k=2)
+            outputs, after = outputs_of(*rooms), outputs_of(*rooms)
+            expected = answer(reference.summed, *pair, rooms)
+            found = answer(kovrelna.sum, *pair, *outputs)
+            seen.add(expected[1][0] if expected[0] == "refused" else 0)
+            if expected[0] == "refused":
+                self.assertEqual(found, expected, pair)
+                self.assertEqual(outputs, after, pair)
+                continue
+            self.assertEqual((list(found.sums), list(found.joined)), expected, pair)
+            for out, numbers in zip(after, expected):
+                out[: len(numbers)] = array.array(out.typecode, numbers)
+            self.assertEqual(outputs, after, pair)
+            ticks, values1, _, values2, list1, list2 = pair
+            turned = sum_of(ticks, values2, ticks, values1, list2, list1)
+            self.assertEqual(turned, expected, pair)
+            bound = reference.list_error(ticks, values1, list1)
+            bound += reference.list_error(ticks, values2, list2)
+            gap = self.gap(ticks)
+            obeyed = all(reference.obeys(ticks, kept, gap) for kept in (list1, list2))
+            error = reference.list_error(ticks, *expected)
+            self.assertLessEqual(error, 2 * bound, pair)
+            self.assertLessEqual(obeyed, reference.obeys(ticks, expected[1], gap), (pair, gap))
+            within.add((error <= bound, obeyed))
+        self.assertEqual(seen, {0, 1, 2, 3, 6, 17, 18, 10})
+        # The sum of both errors is not the bound.
+        self.assertEqual(within, set(itertools.product([False, True], repeat=2)))
+
+    def test_long_pairs(self):
+        """Lists of walk and minimum: the joined list passes at twice the sum of their tolerances,
+        under the same gap limit."""
+        lengths = set()
+        for _ in range(40):
+            samples, gap = self.random.randint(100, 300), self.random.choice([3, 4, GAP_MAX])
+            steps = self.random.choices([1, 2, 3, 3, 4], k=samples - 1)
+            ticks = list(itertools.accumulate(steps, initial=self.random.choice([0, 2**32 - 2000])))
+            most = self.random.choice([1, 3, 100, 8000])
+            values1, values2 = (self.random.choices(range(-most, most + 1), k=samples) for _ in "12")
+            first, second = (Fraction(self.random.randint(0, 4 * most), 3) for _ in "12")
+            list1 = kovrelna.walk(ticks, values1, first, gap=gap)
+            list2 = kovrelna.minimum(ticks, values2, second, gap=gap)
+            found = kovrelna.sum(ticks, values1, ticks, values2, list1, list2)
+            pair = ticks, values1, ticks, values2, list1, list2
+            expected = reference.summed(*pair, [samples, samples])
+            self.assertEqual((list(found.sums), list(found.joined)), expected)
+            self.assertTrue(kovrelna.judge(ticks, *found, 2 * (first + second), gap=gap))
+            lengths.add(len(found.joined))
+        self.assertLess(min(lengths), 50)
+        self.assertGreater(max(lengths), 100)
 
     def crate(self):
         """A crate, sometimes one with channels or lengths that are at fault."""

@@ -29,6 +29,9 @@ kovrelna.judge(ticks, values, kept, Ratio(1, 10)).link
 kovrelna.judge(ticks, values, kept, 1, gap=7).link
 kovrelna.least(ticks, values, 2).error.denominator
 kovrelna.least(ticks, values, 2, gap=True).kept.tolist()
+kovrelna.sum(ticks, values, ticks, values, kept, kept).sums.tolist()
+kovrelna.sum(Array(), Array(), array.array("I"), b"", (0, 2), memoryview(b"")).joined[0]
+kovrelna.sum(ticks, values, ticks, values, kept, kept, Array(), array.array("H")).joined[0]
 kovrelna.report(ticks, values, kept, 1).rows[0].error.denominator
 kovrelna.report(ticks, values, kept, 1).rows[0].sample.bit_length()
 kovrelna.report(Array(), Array(), Array(), 1).kept.bit_length()
@@ -68,6 +71,11 @@ kovrelna.judge(ticks, values, None, 1)  # type: ignore[arg-type]
 kovrelna.judge(ticks, values, kept, 1).measure.side  # type: ignore[union-attr]
 kovrelna.least(ticks, values, 2.0)  # type: ignore[arg-type]
 kovrelna.least(ticks, values, 2, gap=None)  # type: ignore[arg-type]
+kovrelna.sum(ticks, values, ticks, values, kept)  # type: ignore[call-arg]
+kovrelna.sum(ticks, values, ticks, values, kept, None)  # type: ignore[arg-type]
+kovrelna.sum(ticks, values, ticks, values, kept, kept, gap=7)  # type: ignore[call-arg]
+kovrelna.sum(ticks, values, ticks, values, kept, kept, [0, 2])  # type: ignore[arg-type]
+kovrelna.sum(ticks, values, ticks, values, kept, kept).values  # type: ignore[attr-defined]
 kovrelna.report(ticks, values, "31", 1)  # type: ignore[arg-type]
 kovrelna.report(ticks, values, 3, 1)  # type: ignore[arg-type]
 kovrelna.report(ticks, values, [3], 1).rows.samples  # type: ignore[attr-defined]

@@ -1,6 +1,6 @@
 //! The C interface, call by call, as safe functions. `kovrelna.h` describes the structs.
 
-use crate::{Run, Summary};
+use crate::{ReducedTrace, Run, Summary};
 
 #[repr(C)]
 pub struct Answer {
@@ -156,6 +156,24 @@ extern "C" {
         out: *mut u16,
         out_len: usize,
     ) -> Least;
+    fn kovrelna_sum(
+        ticks1: *const u32,
+        ticks1_len: usize,
+        values1: *const i16,
+        values1_len: usize,
+        ticks2: *const u32,
+        ticks2_len: usize,
+        values2: *const i16,
+        values2_len: usize,
+        list1: *const u16,
+        list1_len: usize,
+        list2: *const u16,
+        list2_len: usize,
+        sums: *mut i16,
+        sums_len: usize,
+        joined: *mut u16,
+        joined_len: usize,
+    ) -> Answer;
     fn kovrelna_expand(codes: *const u8, codes_len: usize, out: *mut i16, out_len: usize)
         -> Answer;
     fn kovrelna_expand_with(
@@ -313,6 +331,35 @@ pub fn least(ticks: &[u32], values: &[i16], gap: u32, allowance: u64, out: &mut 
             allowance,
             out.as_mut_ptr(),
             out.len(),
+        )
+    }
+}
+
+pub fn sum(
+    first: ReducedTrace,
+    second: ReducedTrace,
+    sums: &mut [i16],
+    joined: &mut [u16],
+) -> Answer {
+    // SAFETY: as above; the outputs are `sums` and `joined`.
+    unsafe {
+        kovrelna_sum(
+            first.ticks.as_ptr(),
+            first.ticks.len(),
+            first.values.as_ptr(),
+            first.values.len(),
+            second.ticks.as_ptr(),
+            second.ticks.len(),
+            second.values.as_ptr(),
+            second.values.len(),
+            first.list.as_ptr(),
+            first.list.len(),
+            second.list.as_ptr(),
+            second.list.len(),
+            sums.as_mut_ptr(),
+            sums.len(),
+            joined.as_mut_ptr(),
+            joined.len(),
         )
     }
 }

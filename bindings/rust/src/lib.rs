@@ -6,6 +6,7 @@
 //! - [`Verdict`], [`judge`]: whether every link of a proposed list is valid.
 //! - [`walk`], [`Galloped`], [`gallop`], [`minimum`]: kept lists with every link valid.
 //! - [`Least`], [`least`]: the least error that a list of so many samples can have.
+//! - [`ReducedTrace`], [`sum`]: two traces added, with their kept lists joined.
 //! - [`expand`], [`expand_with`]: the values of range codes, by the rule or by a table of the caller's.
 //! - [`write()`], [`Content`], [`read`], [`same`]: records of kept samples.
 //! - [`Summary`], [`Totals`], [`report`]: what walk does with each channel of a crate.
@@ -52,8 +53,8 @@ use std::fmt;
 /// Why a call declined. A call checks the rows that concern it in the order below, only
 /// [`Refusal::Factor`] and then [`Refusal::Crate`] before all others, [`Refusal::Table`] right after
 /// [`Refusal::Length`], and [`Refusal::Channel`] and [`Refusal::Samples`], channel by channel, right
-/// before [`Refusal::Room`]. It answers with the first that fits; a refused call leaves every slice as
-/// it was.
+/// before [`Refusal::Room`]; [`sum`] checks its first trace, then its second. It answers with the first
+/// that fits; a refused call leaves every slice as it was.
 #[derive(Clone, Copy, Debug, PartialEq, Eq, Hash)]
 pub enum Refusal {
     /// 1: no samples or codes, too many, or ticks and values differ in length.
@@ -75,6 +76,10 @@ pub enum Refusal {
     /// if it only stops short; 0 if it is empty. In [`measure`] the two samples are no link of the
     /// trace: 0 if `i` is beyond it; 1 if `j` is beyond it or not above `i`.
     List(usize),
+    /// 17: the first sample whose ticks in two traces differ, or that one of the traces does not have.
+    Mismatch(usize),
+    /// 18: the first sample whose sum is below -32,768 or above 32,767.
+    Overflow(usize),
     /// 7: the position of the first invalid link of the list to be written.
     Link(usize),
     /// 8: the record is faulty at this byte.
@@ -104,7 +109,7 @@ pub enum Refusal {
 }
 
 impl Refusal {
-    /// The refusal's number, 1 to 16.
+    /// The refusal's number, 1 to 18.
     pub fn number(self) -> u32 {
         match self {
             Refusal::Length => 1,
@@ -115,6 +120,8 @@ impl Refusal {
             Refusal::Allowance => 5,
             Refusal::Holes => 16,
             Refusal::List(_) => 6,
+            Refusal::Mismatch(_) => 17,
+            Refusal::Overflow(_) => 18,
             Refusal::Link(_) => 7,
             Refusal::Record(_) => 8,
             Refusal::SecondRecord(_) => 9,
@@ -140,6 +147,8 @@ impl Refusal {
             Refusal::Tick(value)
             | Refusal::Span(value)
             | Refusal::List(value)
+            | Refusal::Mismatch(value)
+            | Refusal::Overflow(value)
             | Refusal::Link(value)
             | Refusal::Record(value)
             | Refusal::SecondRecord(value)
@@ -171,6 +180,8 @@ impl Refusal {
             14 => Refusal::Factor,
             15 => Refusal::Gap,
             16 => Refusal::Holes,
+            17 => Refusal::Mismatch(value),
+            18 => Refusal::Overflow(value),
             _ => unreachable!("there is no refusal {number}"),
         })
     }
@@ -213,6 +224,18 @@ impl fmt::Display for Refusal {
                     f,
                     "no kept list: entry {position} is bad, or the list stops short there; or two \
                      samples that are no link of the trace"
+                )
+            }
+            Refusal::Mismatch(sample) => {
+                write!(
+                    f,
+                    "the ticks of sample {sample} differ, or only one of the traces has it"
+                )
+            }
+            Refusal::Overflow(sample) => {
+                write!(
+                    f,
+                    "the sum at sample {sample} is below -32,768 or above 32,767"
                 )
             }
             Refusal::Link(position) => write!(f, "link {position} is invalid"),
@@ -704,6 +727,70 @@ pub fn least(
             q: answer.q,
         },
     })
+}
+
+/// A trace with a kept list of it.
+#[derive(Clone, Copy, Debug)]
+pub struct ReducedTrace<'a> {
+    /// The ticks of the trace.
+    pub ticks: &'a [u32],
+    /// The values of the trace.
+    pub values: &'a [i16],
+    /// The kept list.
+    pub list: &'a [u16],
+}
+
+/// Adds two traces with the same ticks sample by sample, and joins their two kept lists into the rising
+/// list of the samples in either, each once. The sums are the values of the summed trace, whose ticks
+/// are those of either trace; the joined list is a kept list of it.
+///
+/// Returns its kept number: the first that many entries of `joined` are the joined list, and the first
+/// entries of `sums`, one for each sample, are the sums. The entries after them are as they were.
+///
+/// If every link of the first list is valid on the first trace at a tolerance T1, and every link of the
+/// second list on the second trace at T2, under the same gap limit, then every link of the joined list
+/// is valid on the summed trace at 2 (T1 + T2) under that gap limit. This holds for any fractions T1 and
+/// T2, whether they are allowed as tolerances or not. It does not hold at T1 + T2.
+///
+/// Refusals: [`Refusal::Length`], [`Refusal::Tick`], [`Refusal::Span`] of the first trace, then of the
+/// second; [`Refusal::List`] of the first list, then of the second; [`Refusal::Mismatch`];
+/// [`Refusal::Overflow`]; last [`Refusal::Room`] if either output has fewer entries than the traces have
+/// samples.
+///
+/// ```
+/// use kovrelna::{judge, measure, sum, Ratio, ReducedTrace, Refusal, Tolerance, Verdict};
+///
+/// let ticks = [0, 1, 2, 3, 4];
+/// let first = ReducedTrace { ticks: &ticks, values: &[-6, -6, 0, 6, -6], list: &[0, 1, 3, 4] };
+/// let second = ReducedTrace { ticks: &ticks, values: &[3, 4, 2, 4, 3], list: &[0, 4] };
+/// let (mut sums, mut joined) = ([9; 6], [9; 6]);
+/// assert_eq!(sum(first, second, &mut sums, &mut joined), Ok(4));
+/// assert_eq!((sums, joined), ([-3, -2, 2, 10, -3, 9], [0, 1, 3, 4, 9, 9]));
+///
+/// // The lists are within 0 and 1, the joined list within 2 and no less.
+/// let within = |trace: ReducedTrace, counts| {
+///     judge(trace.ticks, trace.values, trace.list, Tolerance::Counts(counts))
+/// };
+/// assert_eq!(within(first, 0.0), Ok(Verdict::Within));
+/// assert_eq!(within(second, 1.0), Ok(Verdict::Within));
+/// let summed = ReducedTrace { ticks: &ticks, values: &sums[..5], list: &joined[..4] };
+/// assert_eq!(within(summed, 2.0), Ok(Verdict::Within));
+/// assert_eq!(measure(&ticks, summed.values, 1, 3)?.error, Ratio { p: 2, q: 1 });
+///
+/// let late = ReducedTrace { ticks: &[0, 1, 2, 3, 5], ..second };
+/// assert_eq!(sum(first, late, &mut sums, &mut joined), Err(Refusal::Mismatch(4)));
+/// let high = ReducedTrace { values: &[3, 4, 2, 32_762, 3], ..second };
+/// assert_eq!(sum(first, high, &mut sums, &mut joined), Err(Refusal::Overflow(3)));
+/// assert_eq!(sum(first, second, &mut sums, &mut joined[..4]), Err(Refusal::Room(5)));
+/// # Ok::<(), Refusal>(())
+/// ```
+pub fn sum(
+    first: ReducedTrace,
+    second: ReducedTrace,
+    sums: &mut [i16],
+    joined: &mut [u16],
+) -> Result<usize, Refusal> {
+    ffi::sum(first, second, sums, joined).value()
 }
 
 /// Writes the value of each range code: a code is 32 e + m with m below 32, and its value is 2^e times

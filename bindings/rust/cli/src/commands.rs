@@ -8,7 +8,9 @@ use crate::records;
 use crate::source::Source;
 use crate::stray::{crosses, lies};
 use crate::text::{self, List, Text};
-use crate::{budget, check, draw, help, measure, near, output, pedestals, probes, report, summary};
+use crate::{
+    budget, check, draw, help, measure, near, output, pedestals, probes, report, sum, summary,
+};
 use kovrelna::{Least, Ratio, Refusal, Side, Tolerance, Verdict, GAP_MAX};
 use std::ffi::{OsStr, OsString};
 use std::fmt::Display;
@@ -26,6 +28,7 @@ pub fn find(name: &str) -> Option<Command> {
         "least" => least,
         "near" => near::near,
         "probes" => probes::probes,
+        "sum" => sum::sum,
         "summary" => summary::summary,
         "report" => report::report,
         "pedestals" => pedestals::pedestals,
@@ -74,9 +77,7 @@ fn show(arguments: &[OsString]) -> Result<Status, Failure> {
         let record = records::load(source)?;
         let Ratio { p, q } = record.tolerance;
         text.push(format!("# tolerance {p}/{q}\n"));
-        for (tick, value) in record.ticks.iter().zip(&record.values) {
-            text.push(format!("{tick},{value}\n"));
-        }
+        text.push(text::lines(&record.ticks, &record.values));
         Ok(text)
     })
 }

@@ -4,12 +4,13 @@ use crate::budget::{compared, ratio};
 use crate::failure::{Failure, Status};
 use crate::holes::holes;
 use crate::line::{and_gap, Kept, Line, FROM, GAP, METHOD, OUTPUT, TO, TOLERANCE};
+use crate::measure::measures;
 use crate::name::{placed, shown};
 use crate::source::Source;
 use crate::svg::{self, Picture, Worst};
 use crate::text::Text;
 use crate::{help, output, records};
-use kovrelna::{measure, Measure, Ratio};
+use kovrelna::Ratio;
 use std::ffi::OsString;
 use std::path::Path;
 
@@ -116,11 +117,8 @@ fn picture_of_trace(line: &Line, source: Source) -> Result<(String, Picture), Fa
 
 /// The sample of the first link whose error is the list's, unless that is 0.
 fn worst(text: &Text, list: &[u16]) -> Result<Option<Worst>, Failure> {
-    let of_link = |link: &[u16]| {
-        let (i, j) = (link[0].into(), link[1].into());
-        measure(&text.ticks, &text.values, i, j).map_err(|refusal| text.refused(refusal))
-    };
-    let measures: Vec<Measure> = list.windows(2).map(of_link).collect::<Result<_, _>>()?;
+    let measures = measures(&text.ticks, &text.values, list);
+    let measures = measures.map_err(|refusal| text.refused(refusal))?;
     // The greatest error counts as the least: of several, the first is taken.
     let worst = measures
         .iter()

@@ -17,6 +17,7 @@ Usage: kovrelna COMMAND [OPTION..] [FILE..]
   least     say how near a list of so many samples can come
   near      say how near the lists of walk and gallop are to the shortest
   probes    say how many probes gallop takes
+  sum       add two traces, and join what is kept of them
   summary   print a line for each record, and a total
   report    print the sheet of a crate: a line for each channel, and totals
   pedestals list the channels of a crate that have moved or are noisy
@@ -211,6 +212,45 @@ Usage: kovrelna probes -t TOLERANCE [--gap G] [FILE..]
 After a faulty trace the others are still counted.
 
 Exit status: 0 done, 2 error (also if one trace is faulty).
+";
+
+pub const SUM: &str = "\
+Adds two traces with the same ticks sample by sample, and joins what is kept of
+them: A is reduced at the tolerance T1 and B at T2, under the same gap limit,
+and the joined list has the samples that either list has. Prints
+
+  samples N                     how many samples the summed trace has
+  kept K, joined from I and J   of these, how many the joined list has, and how
+                                many the lists of A and B have
+  tolerance p/q                 2 (T1 + T2)
+  error p/q                     how far the samples are from the lines between
+                                the joined ones at most
+
+Of any two traces, the error is at most 2 (T1 + T2) and the joined list obeys
+the gap limit, so that its record may have the tolerance 2 (T1 + T2). The error
+may be above T1 + T2. Where the denominator of 2 (T1 + T2) is above 1,048,575,
+the record has the least allowed tolerance above it; where it is above 65,535,
+the record has 65535/1, as no error is more. The line then ends with `in place
+of`, 2 (T1 + T2) and the cause. Nothing else is rounded.
+
+Usage: kovrelna sum -t T1 [--tolerance2 T2] [--gap G] [-m METHOD] [-o FILE]
+                    [--trace FILE] A B
+
+  -t, --tolerance T1    p/q, counts, or noise x multiple: 2/3, 1.5, 3.25x4
+      --tolerance2 T2   the same for B; default: T1
+      --gap G           a link longer than one step crosses no two neighbouring
+                        samples more than G ticks apart; default: no limit
+  -m, --method M        walk (the default), gallop or minimum
+  -o, --output FILE     write a record of the joined samples to FILE, at this
+                        tolerance; FILE is replaced as by `kovrelna record`
+      --trace FILE      write the summed trace to FILE as text in the same way,
+                        before the record
+
+A and B are original traces: samples with a line `# tolerance p/q` are refused.
+One of the two may be - for standard input. Where their ticks differ, one has
+more samples, or a sum is not from -32768 to 32767, there is no answer.
+
+Exit status: 0 done, 2 error.
 ";
 
 pub const SUMMARY: &str = "\

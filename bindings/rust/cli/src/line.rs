@@ -12,9 +12,11 @@ use std::ffi::{OsStr, OsString};
 use std::fmt::Display;
 
 pub const TOLERANCE: Known = Known::valued("tolerance", Some('t'));
+pub const TOLERANCE2: Known = Known::valued("tolerance2", None);
 pub const GAP: Known = Known::valued("gap", None);
 pub const METHOD: Known = Known::valued("method", Some('m'));
 pub const OUTPUT: Known = Known::valued("output", Some('o'));
+pub const TRACE: Known = Known::valued("trace", None);
 pub const LIST: Known = Known::valued("list", Some('l'));
 pub const LIST_FILE: Known = Known::valued("list-file", Some('f'));
 pub const ALLOWANCE: Known = Known::valued("allowance", Some('a'));
@@ -63,14 +65,14 @@ impl Line {
         }
     }
 
-    /// The tolerance, and the ratio it is held as.
-    fn tolerance(&self) -> Result<Option<(Tolerance, Ratio)>, Failure> {
-        let Some(text) = self.text(TOLERANCE)? else {
+    /// An option's value as a tolerance, and the ratio it is held as.
+    pub fn tolerance(&self, option: Known) -> Result<Option<(Tolerance, Ratio)>, Failure> {
+        let Some(text) = self.text(option)? else {
             return Ok(None);
         };
         match tolerance::parse(text) {
             Ok(tolerance) => Ok(Some(tolerance)),
-            Err(cause) => Err(self.wrong(format!("--tolerance: {cause}"))),
+            Err(cause) => Err(self.wrong(format!("--{}: {cause}", option.name))),
         }
     }
 
@@ -90,7 +92,7 @@ impl Line {
 
     /// The tolerance, and the gap limit with it.
     fn limits(&self) -> Result<Option<Limits>, Failure> {
-        match (self.tolerance()?, self.gap()?) {
+        match (self.tolerance(TOLERANCE)?, self.gap()?) {
             (None, None) => Ok(None),
             (None, Some(_)) => Err(self.wrong("--gap needs --tolerance")),
             (Some((tolerance, held)), gap) => Ok(Some(Limits {

@@ -26,12 +26,12 @@
 //! - `rounded`: numbers that are rounded in print.
 //! - `budget`: what an error budget may say.
 //! - `commands`: one function for each command.
-//! - `check`, `draw`, `measure`, `near`, `pedestals`, `probes`, `report`, `summary`: commands with a
-//!   file of their own.
+//! - `check`, `draw`, `measure`, `near`, `pedestals`, `probes`, `report`, `sum`, `summary`: commands with
+//!   a file of their own.
 //!
 //! Which samples are kept, whether a list is within a tolerance and where it strays, what a tolerance is
-//! held as, what is in a record and which channels have moved or are noisy: all this is asked of the
-//! library.
+//! held as, what is in a record, what two traces add up to and which channels have moved or are noisy:
+//! all this is asked of the library.
 #![deny(unsafe_code)]
 
 mod args;
@@ -63,6 +63,7 @@ mod rounded;
 mod runs;
 mod source;
 mod stray;
+mod sum;
 mod summary;
 mod svg;
 mod table;

@@ -41,6 +41,12 @@ pub fn measure(arguments: &[OsString]) -> Result<Status, Failure> {
     ))
 }
 
+/// The measure of each link of this list.
+pub fn measures(ticks: &[u32], values: &[i16], list: &[u16]) -> Result<Vec<Measure>, Refusal> {
+    let measure = |link: &[u16]| kovrelna::measure(ticks, values, link[0].into(), link[1].into());
+    list.windows(2).map(measure).collect()
+}
+
 /// Samples i and j are no link of the trace: because of i if `end` is 0, of j if it is 1.
 fn no_link(text: &Text, (i, j): (usize, usize), end: usize) -> Failure {
     let last = text.ticks.len() - 1;

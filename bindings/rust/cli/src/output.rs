@@ -79,6 +79,12 @@ fn replace(given: &OsStr, bytes: &[u8]) -> Result<(), Failure> {
     Ok(())
 }
 
+/// Whether both paths lead to one file, through links. There need be no file.
+pub fn are_same(one: &OsStr, other: &OsStr) -> bool {
+    let places = [one, other].map(|path| followed(Path::new(path)));
+    matches!(places, [Ok(one), Ok(other)] if one == other)
+}
+
 /// Whether this is the link, below /proc, to a file that a process has open.
 fn is_open_file(folder: &Path, path: &Path) -> bool {
     folder.starts_with("/proc") && path.is_symlink()

@@ -363,6 +363,14 @@ fn is_word(field: &str) -> bool {
     field.starts_with(char::is_alphabetic) && !MISSING.contains(&field.as_str())
 }
 
+/// The samples of a trace as text.
+pub fn lines(ticks: &[u32], values: &[i16]) -> String {
+    let samples = ticks.iter().zip(values);
+    samples
+        .map(|(tick, value)| format!("{tick},{value}\n"))
+        .collect()
+}
+
 /// The tick and the value in the fields of a line.
 fn sample(fields: &[&str]) -> Result<(u32, i16), String> {
     match fields {

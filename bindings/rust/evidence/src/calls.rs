@@ -14,6 +14,7 @@ pub enum Call {
     Gallop,
     Minimum,
     Least,
+    Sum,
     Expand,
     ExpandWith,
     Write,
@@ -24,7 +25,7 @@ pub enum Call {
 }
 
 /// Every call.
-pub const CALLS: [Call; 14] = [
+pub const CALLS: [Call; 15] = [
     Call::Hold,
     Call::Measure,
     Call::Judge,
@@ -32,6 +33,7 @@ pub const CALLS: [Call; 14] = [
     Call::Gallop,
     Call::Minimum,
     Call::Least,
+    Call::Sum,
     Call::Expand,
     Call::ExpandWith,
     Call::Write,
@@ -42,7 +44,7 @@ pub const CALLS: [Call; 14] = [
 ];
 
 /// How many rows the table has.
-pub const ROWS: usize = 16;
+pub const ROWS: usize = 18;
 
 /// How often a call was compared: first with an answer, then with each row of the table.
 pub type Counts = [u64; ROWS + 1];
@@ -57,6 +59,7 @@ impl Call {
             Call::Gallop => "gallop",
             Call::Minimum => "minimum",
             Call::Least => "least",
+            Call::Sum => "sum",
             Call::Expand => "expand",
             Call::ExpandWith => "expand_with",
             Call::Write => "write",
@@ -68,7 +71,7 @@ impl Call {
     }
 
     /// The numbers of the rows with which it may refuse, in the order in which it checks them; those of
-    /// a channel in the order of one channel.
+    /// a channel in the order of one channel, those of two traces and two lists once for each.
     pub fn rows(self) -> &'static [u32] {
         match self {
             Call::Hold => &[4],
@@ -76,6 +79,7 @@ impl Call {
             Call::Judge => &[1, 2, 3, 4, 15, 6],
             Call::Walk | Call::Gallop | Call::Minimum => &[1, 2, 3, 4, 15, 10],
             Call::Least => &[1, 2, 3, 15, 5, 16, 10],
+            Call::Sum => &[1, 2, 3, 1, 2, 3, 6, 6, 17, 18, 10],
             Call::Expand => &[1, 10],
             Call::ExpandWith => &[1, 12, 10],
             Call::Write => &[1, 2, 3, 4, 15, 6, 7, 10],

@@ -4,7 +4,7 @@
 //! - [`FAMILIES`], [`any`]: every sort, and one drawn from them.
 //! - [`held_tolerances`], [`links_measured`], [`judge_list`], [`codes`], [`codes_with_tables`],
 //!   [`round_trip`], [`random_commands`], [`comparison`], [`random_faults`], [`crates`],
-//!   [`pedestal_runs`]: sorts that the tests run by themselves too.
+//!   [`pedestal_runs`], [`traces_summed`]: sorts that the tests run by themselves too.
 //! - [`codes_and_room`]: codes, and the entries of their output.
 
 use crate::compare::{
@@ -15,16 +15,18 @@ use crate::measures::{self, judged};
 use crate::reductions::{
     any_tolerance, least_list, lists, shortest_lists, size_bounds, tolerances,
 };
+use crate::sums::added;
 use kovrelna::Tolerance::{self, Counts};
 use kovrelna::GAP_MAX;
 use kovrelna_reference::generate::{
-    any_limited, any_list, any_trace, channels, content, crate_of, damage_crate, damage_trace,
-    damaged, damaged_table, gap_limit, just_below, range_table, runs, tied, Random, Runs, Trace,
+    any_limited, any_list, any_trace, channels, content, crate_of, damage_crate, damage_summand,
+    damage_trace, damaged, damaged_table, gap_limit, just_below, overflow, range_table, runs,
+    summands, tied, Random, Runs, Trace,
 };
 use kovrelna_reference::record::{encode, end, first, long, short, tolerance, Content};
 use kovrelna_reference::{
-    beside_holes, held, link_error, link_obeys, list_error, list_obeys, trace_refusal, Fraction,
-    Invalid, Measure, Side, METHODS, TRIED,
+    beside_holes, held, link_error, link_obeys, list_error, list_obeys, longest_crossed,
+    trace_refusal, Fraction, Invalid, Measure, Side, METHODS, TRIED,
 };
 
 /// A sort of case: its name, how often it is drawn, and one case of it.
@@ -35,7 +37,7 @@ pub struct Family {
 }
 
 /// Every sort.
-pub const FAMILIES: [Family; 22] = [
+pub const FAMILIES: [Family; 24] = [
     Family {
         name: "tolerances",
         weight: 40,
@@ -89,6 +91,16 @@ pub const FAMILIES: [Family; 22] = [
         name: "least errors of the longest traces",
         weight: 1,
         case: |random| least_error(256, random),
+    },
+    Family {
+        name: "traces summed",
+        weight: 100,
+        case: |random| traces_summed(40, random),
+    },
+    Family {
+        name: "longest traces summed",
+        weight: 1,
+        case: |random| traces_summed(4_096, random),
     },
     Family {
         name: "codes",
@@ -202,16 +214,6 @@ pub fn links_measured(most: i64, random: &mut Random) -> [Measure; 4] {
 
 fn error(Trace { ticks, values }: &Trace, link: &[u16]) -> Fraction {
     link_error(ticks, values, link[0].into(), link[1].into())
-}
-
-/// The longest step that a link of more than one step crosses.
-fn longest_crossed(ticks: &[u32], list: &[u16]) -> Option<u32> {
-    let links = list.windows(2).filter(|link| link[1] - link[0] > 1);
-    let steps = links.flat_map(|link| {
-        let ticks = &ticks[usize::from(link[0])..=usize::from(link[1])];
-        ticks.windows(2).map(|step| step[1] - step[0])
-    });
-    steps.max()
 }
 
 /// How often judge said yes; and no for a link that the tolerance alone makes invalid, that the gap limit
@@ -550,6 +552,29 @@ pub fn crates(most: i64, samples: usize, random: &mut Random) {
         }
     }
     let _ = report(&channels, tolerance.with_gap(gap), room);
+}
+
+/// Two traces of up to so many samples with kept lists, added. Half of them may have up to three faults that
+/// the call refuses: in either trace or list, in their ticks side by side, in a sum or in the outputs.
+pub fn traces_summed(most: i64, random: &mut Random) {
+    let any = random.within(1, most) as usize;
+    let samples = random.choose(&[any, any, any, most as usize]);
+    let mut pair = summands(samples, random);
+    let mut rooms = [(); 2].map(|_| samples + random.choose(&[0, 0, 1, 7]));
+    let faulty = random.below(2);
+    for _ in 0..faulty * random.below(4) {
+        let at = random.below(2) as usize;
+        match random.below(8) {
+            0..=3 => damage_summand(&mut pair[at], random),
+            4 | 5 => overflow(&mut pair, random),
+            _ => {
+                let any = random.below(samples as u64) as usize;
+                rooms[at] = random.choose(&[any, samples - 1]);
+            }
+        }
+    }
+    let [first, second] = &pair;
+    let _ = added(first, second, (rooms[0], rooms[1]));
 }
 
 /// A tolerance that is not allowed.

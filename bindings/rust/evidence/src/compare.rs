@@ -3,11 +3,14 @@
 //! difference panics, with the input. Each function returns the answer that both gave.
 
 use crate::calls::Call;
-use kovrelna::{Limits, Ratio, Refusal, Run, Summary, Tolerance, Totals, Verdict, GAP_MAX};
+use kovrelna::{
+    Limits, Ratio, ReducedTrace, Refusal, Run, Summary, Tolerance, Totals, Verdict, GAP_MAX,
+};
 use kovrelna_reference::generate::Channels;
 use kovrelna_reference::pedestals::{self, Pedestals};
 use kovrelna_reference::record::{self, Content};
 use kovrelna_reference::report::{self, Report};
+use kovrelna_reference::sums::{self, Sum, Summand};
 use kovrelna_reference::{Form, Fraction, Invalid, Least, Measure, Method, Reduced, Row, Side};
 use std::hint::black_box;
 
@@ -285,6 +288,86 @@ pub fn least(
     expected
 }
 
+/// The lists of a trace to be added between guard elements.
+struct GuardedSummand {
+    ticks: Guarded<u32>,
+    values: Guarded<i16>,
+    list: Guarded<u16>,
+}
+
+impl GuardedSummand {
+    fn new(Summand { trace, list }: &Summand, guards: Guards) -> Self {
+        GuardedSummand {
+            ticks: Guarded::new(&trace.ticks, guards.0),
+            values: Guarded::new(&trace.values, guards.1),
+            list: Guarded::new(list, guards.2),
+        }
+    }
+
+    fn reduced_trace(&self) -> ReducedTrace<'_> {
+        ReducedTrace {
+            ticks: self.ticks.slice(),
+            values: self.values.slice(),
+            list: self.list.slice(),
+        }
+    }
+
+    fn as_expected(&self) -> bool {
+        self.ticks.as_expected() && self.values.as_expected() && self.list.as_expected()
+    }
+}
+
+/// Calls `sum` with outputs of so many entries between two kinds of guard elements, compares with the
+/// reference, sees that the outputs begin with the sums and the joined list and that no other element
+/// changed, and returns the sum or the refusal's row.
+pub fn sum(first: &Summand, second: &Summand, rooms: (usize, usize)) -> Result<Sum, Row> {
+    let expected = sums::sum(first, second, rooms);
+    Call::Sum.count(&expected);
+    for guards in GUARDS {
+        let [first, second] = [first, second].map(|summand| GuardedSummand::new(summand, guards));
+        let values = expected.as_ref().map_or(&[][..], |sum| &sum.values);
+        let mut sums = Guarded::new(&other_values(values, rooms.0), guards.1);
+        let mut joined = output(rooms.1, guards.2);
+        let answer = kovrelna::sum(
+            first.reduced_trace(),
+            second.reduced_trace(),
+            sums.slice_mut(),
+            joined.slice_mut(),
+        );
+        let input = || {
+            let traces = (first.reduced_trace(), second.reduced_trace());
+            format!("sum of {traces:?}\nrooms {rooms:?}")
+        };
+        let kept = match &expected {
+            Ok(Sum { values, list }) => {
+                sums.expect(0, values);
+                joined.expect(0, list);
+                Ok(list.len())
+            }
+            Err(row) => Err(*row),
+        };
+        assert_eq!(answer.map_err(row), kept, "{}", input());
+        assert!(
+            first.as_expected()
+                && second.as_expected()
+                && sums.as_expected()
+                && joined.as_expected(),
+            "a sum or a sample is wrong, or another element was changed: {:?} {:?}\n{}",
+            sums.slice(),
+            joined.slice(),
+            input()
+        );
+    }
+    expected
+}
+
+/// So many entries, none of which has its value.
+fn other_values(values: &[i16], room: usize) -> Vec<i16> {
+    (0..room)
+        .map(|k| !values.get(k).copied().unwrap_or(k as i16))
+        .collect()
+}
+
 /// Calls `expand` with an output of `room` entries between two kinds of guard elements, compares with
 /// the reference, sees that no other element changed, and returns the values or the refusal's row.
 pub fn expand(codes: &[u8], room: usize) -> Result<Vec<i16>, Row> {
@@ -315,10 +398,7 @@ fn expanded(
     for guards in GUARDS {
         let codes = Guarded::new(codes, guards.3);
         let table = Guarded::new(table, guards.1);
-        // No entry has its value before the call.
-        let other = |k: usize| !values.get(k).copied().unwrap_or(k as i16);
-        let before: Vec<i16> = (0..room).map(other).collect();
-        let mut out = Guarded::new(&before, guards.1);
+        let mut out = Guarded::new(&other_values(values, room), guards.1);
         let answer = make(codes.slice(), table.slice(), out.slice_mut()).map_err(row);
         let input = || {
             let (name, codes, table) = (call.name(), codes.slice(), table.slice());

@@ -5,6 +5,7 @@
 //! - [`compare`]: each call, compared with the reference.
 //! - [`measures`]: what holds of the measures of links, and of judge's no.
 //! - [`reductions`]: what holds of the lists of the reductions.
+//! - [`sums`]: what holds of sums.
 //! - [`cases`]: random cases of every sort.
 //! - [`run`]: many cases from one seed.
 #![deny(unsafe_code)]
@@ -15,3 +16,4 @@ pub mod compare;
 pub mod measures;
 pub mod reductions;
 pub mod run;
+pub mod sums;

@@ -1,5 +1,5 @@
-//! Repeatable random traces, lists, range tables, contents of records, crates and pedestal runs, chosen
-//! to find mistakes.
+//! Repeatable random traces, lists, range tables, contents of records, crates, pedestal runs and traces to
+//! be added, chosen to find mistakes.
 //!
 //! - [`Random`]: numbers from a seed.
 //! - [`Trace`], [`Kind`], [`trace`]: traces within the limits, of several kinds.
@@ -15,9 +15,13 @@
 //! - [`Channels`], [`crate_of`], [`channels`]: crates whose channels are traces and others.
 //! - [`damage_trace`], [`damage_crate`]: what makes a trace, or the lists of a crate, none.
 //! - [`Runs`], [`runs`]: pedestal runs at the limits of what has moved and is noisy, and beside them.
+//! - [`summands`]: traces to be added, with sums at the ends of the range, with joined lists at the bound of
+//!   their error, and others.
+//! - [`overflow`], [`damage_summand`]: what makes them none.
 
 use crate::pedestals::{Sums, FACTOR};
 use crate::record::Content;
+use crate::sums::Summand;
 use crate::{beside_holes, Fraction, DENOMINATOR, GAP, SAMPLES, SPAN, TOLERANCE};
 
 /// A generator (splitmix64): the same seed gives the same numbers.
@@ -702,6 +706,107 @@ fn at_the_limits(samples: usize, k: i64, random: &mut Random) -> [Vec<i16>; 2] {
     [run(k), run(1)]
 }
 
+/// Two traces with the same ticks, of any kind or shape, each with a kept list; half of the lists obey a
+/// gap limit that matters to the ticks. In some both lists are the same. A quarter of the pairs have values
+/// so small that no sum is beyond the range; in another each sum is at an end of the range or just inside
+/// it; in another the values of each trace lie beside a level line, as [`beside_a_line`] says.
+pub fn summands(samples: usize, random: &mut Random) -> [Summand; 2] {
+    let (one, gap) = any_limited(samples, random);
+    let two = any_on(one.ticks.clone(), random);
+    let mut pair = [one, two].map(|trace| Summand {
+        list: any_list(&trace.ticks, gap, random),
+        trace,
+    });
+    if random.below(8) == 0 {
+        pair[1].list = pair[0].list.clone();
+    }
+    let [first, second] = &mut pair;
+    match random.below(4) {
+        0 => (),
+        1 => {
+            for values in [&mut first.trace.values, &mut second.trace.values] {
+                values.iter_mut().for_each(|value| *value /= 2);
+            }
+        }
+        2 => {
+            let values = first.trace.values.iter().zip(&mut second.trace.values);
+            values.for_each(|(one, two)| {
+                let inside = random.choose(&[0, 0, 0, 1, 2]);
+                *two = match one {
+                    0.. => i16::MAX - one - inside,
+                    _ => i16::MIN - one + inside,
+                };
+            });
+        }
+        _ => {
+            first.trace.values = beside_a_line(samples, &first.list, &second.list, random);
+            second.trace.values = beside_a_line(samples, &second.list, &first.list, random);
+        }
+    }
+    if random.below(2) == 0 {
+        pair.swap(0, 1);
+    }
+    pair
+}
+
+/// Values on a level line at the samples of the list, at a height below it (or above it) at those that only
+/// the other list has, and at the same height on the other side at those in neither: samples between two of
+/// the other list's deviate by twice the list's error.
+fn beside_a_line(samples: usize, list: &[u16], other: &[u16], random: &mut Random) -> Vec<i16> {
+    let height = random.choose(&[0, 0, 1, 3, 500, 8_000]);
+    let height = random.choose(&[height, -height]);
+    let level = random.within(-8_000, 8_000) as i16;
+    let mut values = vec![level + height; samples];
+    other
+        .iter()
+        .for_each(|&k| values[usize::from(k)] = level - height);
+    list.iter().for_each(|&k| values[usize::from(k)] = level);
+    values
+}
+
+/// Makes the sum at a sample drawn for it 32,768 or -32,769. Of traces without samples nothing is changed.
+pub fn overflow([first, second]: &mut [Summand; 2], random: &mut Random) {
+    let (one, two) = (&mut first.trace.values, &mut second.trace.values);
+    let samples = one.len().min(two.len());
+    if samples == 0 {
+        return;
+    }
+    let at = random.below(samples as u64) as usize;
+    if one[at] == 0 {
+        one[at] = 1;
+    }
+    let sum = if one[at] > 0 { 32_768 } else { -32_769 };
+    two[at] = (sum - i32::from(one[at])) as i16;
+}
+
+/// Damages the trace, its ticks beside those of another, or the list: a tick that is one off, all ticks from
+/// a sample on, a value fewer, a sample fewer, or what makes a trace or a kept list none. Of a trace without
+/// samples nothing is changed; a short one may still be a trace.
+pub fn damage_summand(Summand { trace, list }: &mut Summand, random: &mut Random) {
+    let samples = trace.ticks.len();
+    if samples == 0 {
+        return;
+    }
+    let any = random.below(samples as u64) as usize;
+    let at = random.choose(&[0, any, samples - 1]);
+    let one_off = random.choose(&[1, u32::MAX]);
+    match random.below(7) {
+        0 => damage_trace(trace, random),
+        1 => drop(trace.values.pop()),
+        2 => trace.ticks[at] = trace.ticks[at].wrapping_add(one_off),
+        3 => trace.ticks[at..]
+            .iter_mut()
+            .for_each(|tick| *tick = tick.wrapping_add(one_off)),
+        4 => {
+            trace.ticks.pop();
+            trace.values.pop();
+            list.retain(|&k| usize::from(k) + 2 < samples);
+            list.extend((samples > 1).then(|| samples as u16 - 2));
+        }
+        _ => *list = damaged(list, samples, random),
+    }
+}
+
 /// The x from 0 to q - 1 with p x = 1 modulo q.
 fn inverse(p: i128, q: i128) -> i128 {
     let (mut r, mut x) = ((q, p.rem_euclid(q)), (0, 1));
@@ -718,7 +823,10 @@ mod tests {
     use super::*;
     use crate::pedestals::{shift_over, spread_over};
     use crate::record::table_fault;
-    use crate::{above_line, link_error, link_valid, list_obeys, list_refusal, trace_refusal};
+    use crate::sums::{bound, sum};
+    use crate::{
+        above_line, link_error, link_valid, list_error, list_obeys, list_refusal, trace_refusal,
+    };
 
     #[test]
     fn traces_and_lists_are_within_the_limits() {
@@ -907,6 +1015,72 @@ mod tests {
             seen.min() > Some(&25),
             "{shifts:?} {spreads:?} {factors:?} {ends:?}"
         );
+    }
+
+    /// Traces to be added are traces with the same ticks and with kept lists. Sums at either end of the range
+    /// come up, and beyond it; lists that are the same, of both ends alone and of every sample; joined lists
+    /// with errors above those of the two lists together, and exactly at the bound.
+    #[test]
+    fn summands_of_every_sort() {
+        let random = &mut Random::new(18);
+        let (mut ends, mut lists, mut errors) = ([0; 3], [0; 3], [0; 3]);
+        for samples in (1..=40).flat_map(|n| [n; 120]).chain([4_095, 4_096]) {
+            let pair = summands(samples, random);
+            for Summand { trace, list } in &pair {
+                assert_eq!(trace_refusal(&trace.ticks, &trace.values), None);
+                assert_eq!(list_refusal(samples, list), None);
+                lists[0] += u32::from(list.len() == 2);
+                lists[1] += u32::from(list.len() == samples);
+            }
+            let [first, second] = &pair;
+            assert_eq!(first.trace.ticks, second.trace.ticks);
+            lists[2] += u32::from(first.list == second.list);
+            let sum = match sum(first, second, (samples, samples)) {
+                Ok(sum) => sum,
+                Err((number, _)) => {
+                    assert_eq!(number, 18);
+                    ends[2] += 1;
+                    continue;
+                }
+            };
+            ends[0] += u32::from(sum.values.contains(&i16::MIN));
+            ends[1] += u32::from(sum.values.contains(&i16::MAX));
+            let error = |values: &[i16], list| list_error(&first.trace.ticks, values, list);
+            let [t1, t2] = pair
+                .each_ref()
+                .map(|summand| error(&summand.trace.values, &summand.list));
+            let bound = bound(t1, t2);
+            let joined = error(&sum.values, &sum.list);
+            let place = match (joined.at_most(bound.half()), bound.at_most(joined)) {
+                (true, _) => 0,
+                (false, false) => 1,
+                (false, true) => 2,
+            };
+            errors[place] += 1;
+        }
+        let seen = ends.iter().chain(&lists).chain(&errors);
+        assert!(seen.min() > Some(&50), "{ends:?} {lists:?} {errors:?}");
+    }
+
+    /// A sum that overflows is refused as 18, and damage beside it by each earlier row.
+    #[test]
+    fn damaged_summands_of_every_sort() {
+        let random = &mut Random::new(19);
+        let mut seen = [0; 19];
+        for _ in 0..4_000 {
+            let samples = random.within(1, 12) as usize;
+            let mut pair = summands(samples, random);
+            overflow(&mut pair, random);
+            let number = |[first, second]: &[Summand; 2]| {
+                let (number, _) = sum(first, second, (samples, samples)).unwrap_err();
+                number as usize
+            };
+            assert_eq!(number(&pair), 18);
+            damage_summand(&mut pair[random.below(2) as usize], random);
+            seen[number(&pair)] += 1;
+        }
+        let rows = [1, 2, 3, 6, 17];
+        assert!(rows.iter().all(|&row| seen[row] > 100), "{seen:?}");
     }
 
     #[test]

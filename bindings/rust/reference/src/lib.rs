@@ -6,7 +6,7 @@
 //! - [`above_line`], [`deviation`], [`link_error`], [`link_obeys`], [`link_valid`], [`valid_ends`]: links
 //!   of a trace.
 //! - [`Side`], [`Measure`], [`link_measure`]: a link's error, the sample where it occurs, and its side.
-//! - [`list_error`], [`worst_sample`], [`list_obeys`], [`beside_holes`]: kept lists.
+//! - [`list_error`], [`worst_sample`], [`list_obeys`], [`longest_crossed`], [`beside_holes`]: kept lists.
 //! - [`Form`], [`held`]: the three forms of a tolerance.
 //! - [`trace_refusal`], [`list_refusal`]: rows 1 to 3 and row 6 of the table of refusals.
 //! - [`measure`]: the call.
@@ -19,13 +19,15 @@
 //! - [`record`]: range codes and records.
 //! - [`report`]: the report on a crate.
 //! - [`pedestals`]: two pedestal runs of a crate, compared.
-//! - [`generate`]: repeatable random traces, lists, range tables, contents of records, crates and
-//!   pedestal runs.
+//! - [`sums`]: two traces with kept lists, added.
+//! - [`generate`]: repeatable random traces, lists, range tables, contents of records, crates, pedestal
+//!   runs and traces to be added.
 
 pub mod generate;
 pub mod pedestals;
 pub mod record;
 pub mod report;
+pub mod sums;
 
 use std::cmp::Reverse;
 
@@ -234,6 +236,17 @@ pub fn link_obeys(ticks: &[u32], i: usize, j: usize, gap: Option<u32>) -> bool {
 pub fn list_obeys(ticks: &[u32], list: &[u16], gap: Option<u32>) -> bool {
     list.windows(2)
         .all(|link| link_obeys(ticks, link[0].into(), link[1].into(), gap))
+}
+
+/// The longest step that a link of more than one step crosses: the least gap limit that the list obeys.
+/// Nothing if there is none, and it obeys every gap limit.
+pub fn longest_crossed(ticks: &[u32], list: &[u16]) -> Option<u32> {
+    let links = list.windows(2).filter(|link| link[1] - link[0] > 1);
+    let steps = links.flat_map(|link| {
+        let ticks = &ticks[usize::from(link[0])..=usize::from(link[1])];
+        ticks.windows(2).map(|step| step[1] - step[0])
+    });
+    steps.max()
 }
 
 /// Both ends of the trace and the two samples beside each hole.
@@ -718,7 +731,7 @@ fn fewest_of(samples: usize, link: impl Fn(usize, usize) -> bool) -> usize {
 #[cfg(test)]
 mod tests {
     use super::*;
-    use generate::{any_limited, any_trace, tied, Random, Trace};
+    use generate::{any_limited, any_list, any_trace, tied, Random, Trace};
 
     const EVEN: [u32; 5] = [0, 1, 2, 3, 4];
 
@@ -954,6 +967,26 @@ mod tests {
             }
         }
         assert!(seen.iter().all(|&count| count > 200), "{seen:?}");
+    }
+
+    /// A list obeys exactly the gap limits from the longest step on that it crosses.
+    #[test]
+    fn gap_limits_of_a_list() {
+        let random = &mut Random::new(16);
+        let mut obeyed = [0; 2];
+        for _ in 0..3_000 {
+            let samples = random.within(1, 12) as usize;
+            let (Trace { ticks, .. }, gap) = any_limited(samples, random);
+            let list = any_list(&ticks, gap, random);
+            let steps = ticks.windows(2).map(|step| step[1] - step[0]);
+            for gap in steps.flat_map(|step| [step - 1, step]).chain([gap]) {
+                let obeys = list_obeys(&ticks, &list, Some(gap));
+                let from = longest_crossed(&ticks, &list);
+                assert_eq!(obeys, from <= Some(gap), "{gap} {list:?} {ticks:?}");
+                obeyed[usize::from(obeys)] += 1;
+            }
+        }
+        assert!(obeyed.iter().all(|&count| count > 1_000), "{obeyed:?}");
     }
 
     /// The largest gap limit is none.

@@ -1,8 +1,10 @@
 use kovrelna::{Tolerance, GAP_MAX};
 use kovrelna_evidence::compare::{
-    expand, expand_with, hold, judge, least, measure, noise, ratio, read, reduce, write,
+    expand, expand_with, hold, judge, least, measure, noise, ratio, read, reduce, sum, write,
 };
+use kovrelna_reference::generate::Trace;
 use kovrelna_reference::record::{end, first, long, short, tolerance, Content};
+use kovrelna_reference::sums::{Sum, Summand};
 use kovrelna_reference::Side::{Above, Below, Gap, On};
 use kovrelna_reference::{list_error, Fraction, Invalid, Method, Reduced, METHODS};
 
@@ -219,6 +221,49 @@ fn measures() {
         (&ZIGZAG, 1, 4, measure_of(2, 1, 2, Below)),
     ] {
         assert_eq!(measure(&EVEN, values, i, j), Ok(expected), "{i} {j}");
+    }
+}
+
+/// Document 02, "Summed channels": a joined list that is not within T1 + T2, and one at its bound. Its worst
+/// link is from sample 1 to 3; the traces are within T1 and T2, and no less.
+#[test]
+fn sums() {
+    type Part<'a> = (&'a [i16], &'a [u16], (u64, u64));
+    type Case<'a> = (Part<'a>, Part<'a>, Part<'a>);
+    let cases: [Case; 2] = [
+        (
+            (&[0, 0, 1, 1], &[0, 3], (1, 3)),
+            (&[0, -1, 0, 1], &[0, 1, 3], (0, 1)),
+            (&[0, -1, 1, 2], &[0, 1, 3], (1, 2)),
+        ),
+        (
+            (&[-6, -6, 0, 6, -6], &[0, 1, 3, 4], (0, 1)),
+            (&[3, 4, 2, 4, 3], &[0, 4], (1, 1)),
+            (&[-3, -2, 2, 10, -3], &[0, 1, 3, 4], (2, 1)),
+        ),
+    ];
+    for (one, two, joined) in cases {
+        let ticks = &EVEN[..one.0.len()];
+        for (values, list, (p, q)) in [one, two, joined] {
+            assert_eq!(judge(ticks, values, list, ratio(p, q)), Ok(None));
+            let below = |k: u64| ratio((k * p).saturating_sub(1), k * q);
+            let within = judge(ticks, values, list, below(1_000)) == Ok(None);
+            assert_eq!(within, p == 0, "{values:?}");
+        }
+        let summand = |(values, list, _): Part| Summand {
+            trace: Trace {
+                ticks: ticks.to_vec(),
+                values: values.to_vec(),
+            },
+            list: list.to_vec(),
+        };
+        let expected = Sum {
+            values: joined.0.to_vec(),
+            list: joined.1.to_vec(),
+        };
+        let rooms = (ticks.len(), ticks.len());
+        let found = sum(&summand(one), &summand(two), rooms);
+        assert_eq!(found, Ok(expected));
     }
 }
 

@@ -7,6 +7,7 @@
 //! - `judge`: lists on random and adversarial traces.
 //! - `reduce`: walk, gallop and minimum on random and adversarial traces.
 //! - `least`: least errors on random and adversarial traces.
+//! - `sums`: traces with kept lists, added.
 //! - `gaps`: gap limits, on traces with holes in every place.
 //! - `codes`: range codes, with their own values and with those of a table.
 //! - `records`: records written, read, damaged and compared.
@@ -25,6 +26,7 @@ mod records;
 mod reduce;
 mod refusals;
 mod report;
+mod sums;
 
 use kovrelna_reference::generate::Trace;
 use kovrelna_reference::{Fraction, Invalid, Measure, Side};

@@ -7,10 +7,11 @@ use kovrelna_evidence::calls::CALLS;
 use kovrelna_evidence::cases::random_faults;
 use kovrelna_evidence::compare::{
     expand, expand_with, hold, judge, least, measure, noise, pedestals, ratio, read, reduce,
-    report, same, write,
+    report, same, sum, write,
 };
 use kovrelna_reference::generate::{crate_of, Channels, Random, Trace};
 use kovrelna_reference::record::{end, first, short, tolerance};
+use kovrelna_reference::sums::Summand;
 use kovrelna_reference::{Method, Row};
 
 /// What calls are lent; each takes the fields that concern it.
@@ -24,6 +25,8 @@ struct Input {
     tolerance: Tolerance,
     gap: u32,
     allowance: u64,
+    /// Two traces to be added.
+    summands: [Summand; 2],
     codes: Vec<u8>,
     table: Vec<i16>,
     record: Vec<u8>,
@@ -34,7 +37,7 @@ struct Input {
     today: Channels,
     before: Channels,
     factor: u64,
-    /// The entries of the output, and of the second one of read and of pedestals.
+    /// The entries of the output, and of the second one of sum, of read and of pedestals.
     rooms: (usize, usize),
     /// The bytes of the writer's buffer.
     size: usize,
@@ -42,12 +45,20 @@ struct Input {
 }
 
 /// Eight samples, codes or channels, and outputs with exactly enough room: no call refuses it. The least
-/// gap limit leaves no hole. The channels of the two runs have three samples each.
+/// gap limit leaves no hole. The channels of the two runs have three samples each, and the ticks of the two
+/// traces to be added rise by two.
 fn accepted() -> Input {
     let run = Channels {
         ticks: (0..24).collect(),
         values: vec![0; 24],
         lengths: vec![3; 8],
+    };
+    let summand = Summand {
+        trace: Trace {
+            ticks: (0..8).map(|k| 10 + 2 * k).collect(),
+            values: vec![0; 8],
+        },
+        list: vec![0, 7],
     };
     let mut record = [tolerance(1, 2), first(7, 7)].concat();
     record.extend(short(1, 1).repeat(7));
@@ -60,6 +71,7 @@ fn accepted() -> Input {
         tolerance: ratio(0, 1),
         gap: 1,
         allowance: 2,
+        summands: [summand.clone(), summand],
         codes: vec![9; 8],
         table: (-100..156).collect(),
         second: record.clone(),
@@ -98,6 +110,10 @@ fn refused(call: Call, input: &Input) -> Option<Row> {
         Gallop => reduced(Method::Gallop),
         Minimum => reduced(Method::Minimum),
         Least => least(ticks, values, input.gap, input.allowance, room).err(),
+        Sum => {
+            let [first, second] = &input.summands;
+            sum(first, second, input.rooms).err()
+        }
         Expand => expand(codes, room).err(),
         ExpandWith => expand_with(codes, table, room).err(),
         Write => write(ticks, values, list, limits, input.size, input.place).err(),
@@ -119,7 +135,7 @@ fn refused(call: Call, input: &Input) -> Option<Row> {
 }
 
 /// The calls that take a trace, one of any number of samples from 1 to 4,096, a tolerance, a gap limit, a
-/// list, codes; and those with an output of an entry for each sample, code or channel.
+/// list, codes; those with an output of an entry for each sample, code or channel, and with two of them.
 const TRACES: &[Call] = &[Measure, Judge, Walk, Gallop, Minimum, Least, Write];
 const LONG_TRACES: &[Call] = &[Judge, Walk, Gallop, Minimum, Write];
 const TOLERANCES: &[Call] = &[Hold, Judge, Walk, Gallop, Minimum, Write, Report, Pedestals];
@@ -127,11 +143,13 @@ const GAPS: &[Call] = &[Judge, Walk, Gallop, Minimum, Least, Write, Report];
 const LISTS: &[Call] = &[Judge, Write];
 const CODES: &[Call] = &[Expand, ExpandWith];
 const OUTPUTS: &[Call] = &[
-    Walk, Gallop, Minimum, Least, Expand, ExpandWith, Read, Report, Pedestals,
+    Walk, Gallop, Minimum, Least, Sum, Expand, ExpandWith, Read, Report, Pedestals,
 ];
+const TWO_OUTPUTS: &[Call] = &[Sum, Read, Pedestals];
 
 /// A fault: the calls that refuse it, the row, and how it comes into an input. For each call and row
-/// there is one. They concern different things, so that any of them can come together.
+/// there is one; of sum, for each trace and each list. They concern different things, so that any of them
+/// can come together.
 type Fault = (&'static [Call], Row, Change);
 type Change = fn(&mut Input);
 
@@ -180,12 +198,55 @@ const FAULTS: &[Fault] = &[
     }),
     (&[Measure], (6, 1), |input| input.link = (3, 3)),
     (LISTS, (6, 1), |input| input.list = vec![0, 0, 7]),
+    // Of trace 1, of trace 2, of list 1 and of list 2, at other samples and positions.
+    (&[Sum], (1, 0), |input| {
+        input.summands[0].trace.values.push(0)
+    }),
+    (&[Sum], (2, 6), |input| {
+        equal_ticks(&mut input.summands[0], 6)
+    }),
+    (&[Sum], (3, 3), |input| far_ticks(&mut input.summands[0], 3)),
+    (&[Sum], (1, 0), |input| {
+        input.summands[1].trace.values.truncate(7)
+    }),
+    (&[Sum], (2, 5), |input| {
+        equal_ticks(&mut input.summands[1], 5)
+    }),
+    (&[Sum], (3, 2), |input| far_ticks(&mut input.summands[1], 2)),
+    (&[Sum], (6, 1), |input| {
+        input.summands[0].list = vec![0, 0, 7]
+    }),
+    (&[Sum], (6, 2), |input| {
+        input.summands[1].list = vec![0, 3, 3, 7]
+    }),
+    (&[Sum], (17, 4), |input| {
+        input.summands[1].trace.ticks[4] += 1
+    }),
+    // Its sample comes before that of row 17.
+    (&[Sum], (18, 1), |input| {
+        (
+            input.summands[0].trace.values[1],
+            input.summands[1].trace.values[1],
+        ) = (1, i16::MAX)
+    }),
     (&[Write], (7, 0), |input| input.values[3] = 9),
     (&[Read, Same], (8, 16), |input| input.record.truncate(18)),
     (&[Same], (9, 19), |input| input.second.truncate(20)),
     (OUTPUTS, (10, 8), |input| input.rooms.0 = 7),
     (&[Write], (10, 22), |input| input.size = 21),
 ];
+
+/// The tick of this sample becomes that of the one before.
+fn equal_ticks(summand: &mut Summand, sample: usize) {
+    summand.trace.ticks[sample] = summand.trace.ticks[sample - 1];
+}
+
+/// The span becomes too long from this sample on.
+fn far_ticks(summand: &mut Summand, sample: usize) {
+    summand.trace.ticks[sample..]
+        .iter_mut()
+        .for_each(|tick| *tick += 1_048_576);
+}
 
 /// The faults of this call, in the table's order.
 fn faults(call: Call) -> Vec<(Row, Change)> {
@@ -242,6 +303,8 @@ fn limits() {
         pairs(),
         lists(),
         links(),
+        mismatches(),
+        overflows(),
         records(),
         crates(),
         runs(),
@@ -252,6 +315,26 @@ fn limits() {
         for &call in calls {
             assert_eq!(refused(call, &input), row, "{call:?} {input:?}");
         }
+    }
+}
+
+/// Two traces to be added, either of them first: the row with which sum refuses them.
+fn either_way(one: &Summand, other: &Summand, room: usize, row: Option<Row>) -> [Entry; 2] {
+    [[one, other], [other, one]].map(|pair| {
+        let input = Input {
+            summands: pair.map(Summand::clone),
+            rooms: (room, room),
+            ..accepted()
+        };
+        (&[Sum][..], input, row)
+    })
+}
+
+/// The trace with an empty list.
+fn unlisted(summand: &Summand) -> Summand {
+    Summand {
+        list: Vec::new(),
+        ..summand.clone()
     }
 }
 
@@ -274,6 +357,18 @@ fn lengths() -> Vec<Entry> {
                 ..accepted()
             };
             entries.push((LONG_TRACES, input.clone(), row));
+            let summand = Summand {
+                trace: Trace {
+                    ticks: input.ticks.clone(),
+                    values: input.values.clone(),
+                },
+                list: list.clone(),
+            };
+            let beside = match allowed {
+                true => summand.clone(),
+                false => accepted().summands[0].clone(),
+            };
+            entries.extend(either_way(&summand, &beside, samples, row));
             // One sample is no link.
             let no_link = (samples == 1).then_some((6, 1));
             entries.push((&[Measure], input.clone(), row.or(no_link)));
@@ -291,6 +386,10 @@ fn lengths() -> Vec<Entry> {
                 };
                 entries.push((LONG_TRACES, input.clone(), row));
                 entries.push((&[Measure], input, row));
+                let mut summand = summand;
+                summand.trace.ticks.fill(5);
+                summand.list.clear();
+                entries.extend(either_way(&summand, &unlisted(&beside), 0, row));
             }
         }
         let allowed = (1..=4_096).contains(&samples);
@@ -393,7 +492,36 @@ fn ticks() -> Vec<Entry> {
         };
         (TRACES, input, row)
     };
-    cases.map(entry).to_vec()
+    let mut entries: Vec<Entry> = cases.map(entry).to_vec();
+    let summand = |ticks: [u32; 4]| Summand {
+        trace: Trace {
+            ticks: ticks.to_vec(),
+            values: vec![0; 4],
+        },
+        list: vec![0, 3],
+    };
+    for (ticks, row) in cases {
+        let one = summand(ticks);
+        match row {
+            None => entries.extend(either_way(&one, &one, 4, None)),
+            // The other list and the room fail too.
+            _ => entries.extend(either_way(&one, &unlisted(&summand([0, 1, 2, 3])), 0, row)),
+        }
+        // Trace 1 before trace 2.
+        for (others, second) in cases {
+            let rows = row.or(second);
+            if rows.is_some() {
+                let pair = [&one, &summand(others)].map(unlisted);
+                let input = Input {
+                    summands: pair,
+                    rooms: (0, 0),
+                    ..accepted()
+                };
+                entries.push((&[Sum], input, rows));
+            }
+        }
+    }
+    entries
 }
 
 fn tolerances() -> Vec<Entry> {
@@ -673,6 +801,24 @@ fn lists() -> Vec<Entry> {
             input.ticks.iter_mut().for_each(|tick| *tick *= 2);
             entries.push((LISTS, input, row));
         }
+        // List 1 before list 2; ticks, sums and the room fail too.
+        for (other, second) in cases {
+            let row = position.or(second).map(|position| (6, position));
+            let mut summands = [list, other].map(|list| Summand {
+                trace: Trace {
+                    ticks: (0..6).collect(),
+                    values: vec![i16::MAX; 6],
+                },
+                list: list.to_vec(),
+            });
+            summands[1].trace.ticks[5] += 1;
+            let input = Input {
+                summands,
+                rooms: (0, 0),
+                ..accepted()
+            };
+            entries.push((&[Sum], input, row.or(Some((17, 5)))));
+        }
     }
     entries.extend(lists_of_the_shortest_and_longest_traces());
     entries
@@ -711,7 +857,162 @@ fn lists_of_the_shortest_and_longest_traces() -> Vec<Entry> {
         };
         (LISTS, input, row)
     });
-    [shortest.to_vec(), longest.to_vec()].concat()
+    let mut entries = [shortest.to_vec(), longest.to_vec()].concat();
+    for (_, input, row) in entries.clone() {
+        let samples = input.ticks.len();
+        let one = Summand {
+            trace: Trace {
+                ticks: input.ticks,
+                values: input.values,
+            },
+            list: input.list,
+        };
+        let mut other = one.clone();
+        other.list = vec![0, samples as u16 - 1];
+        other.list.dedup();
+        entries.extend(either_way(&one, &other, samples, row));
+    }
+    entries
+}
+
+/// A trace of so many samples with ticks that rise by two, kept at its two ends.
+fn plain(samples: usize) -> Summand {
+    let mut list = vec![0, samples as u16 - 1];
+    list.dedup();
+    Summand {
+        trace: Trace {
+            ticks: (0..samples as u32).map(|k| 5 + 2 * k).collect(),
+            values: vec![0; samples],
+        },
+        list,
+    }
+}
+
+/// Ticks that differ, and samples that one of two traces does not have. Later rows fail too: the sums at both
+/// ends of the trace and the room.
+fn mismatches() -> Vec<Entry> {
+    let mut entries: Vec<Entry> = Vec::new();
+    for samples in [1, 2, 3, 8, 4_095, 4_096] {
+        let last = samples - 1;
+        let mut one = plain(samples);
+        (one.trace.values[0], one.trace.values[last]) = (i16::MIN, i16::MIN);
+        let mut add = |other: &Summand, sample: usize| {
+            let row = Some((17, sample as u64));
+            entries.extend(either_way(&one, other, samples, row));
+            entries.extend(either_way(&one, other, 0, row));
+        };
+        // All ticks from a sample on, that tick alone, and it and the last.
+        for at in [0, 1, last / 2, last.saturating_sub(1), last] {
+            if at > last {
+                continue;
+            }
+            let mut other = one.clone();
+            other.trace.ticks[at..]
+                .iter_mut()
+                .for_each(|tick| *tick += 1);
+            add(&other, at);
+            let mut other = one.clone();
+            other.trace.ticks[at] += 1;
+            add(&other, at);
+            other.trace.ticks[last] += 1;
+            add(&other, at);
+        }
+        // Fewer samples, alone and with a first or a last tick that differs.
+        for fewer in [1, last / 2, last.saturating_sub(1), last] {
+            if fewer == 0 || fewer > last {
+                continue;
+            }
+            let mut other = plain(fewer);
+            other.trace.values[0] = i16::MIN;
+            add(&other, fewer);
+            other.trace.ticks[fewer - 1] += 1;
+            add(&other, fewer - 1);
+            other.trace.ticks[0] = 4;
+            add(&other, 0);
+        }
+        // The other trace's length does not matter to a list: one beyond its own, and one that stops short.
+        if last > 1 {
+            let mut other = plain(last);
+            other.list = one.list.clone();
+            entries.extend(either_way(&one, &other, 0, Some((6, 1))));
+            let mut short = one.clone();
+            short.list = plain(last).list;
+            let row = Some((6, short.list.len() as u64));
+            entries.extend(either_way(&short, &plain(last), 0, row));
+        }
+    }
+    entries
+}
+
+/// Sums at the ends of the range and beyond it, and outputs for them.
+fn overflows() -> Vec<Entry> {
+    const MIN: i16 = i16::MIN;
+    const MAX: i16 = i16::MAX;
+    let cases = [
+        (MAX, 0, true),
+        (MIN, 0, true),
+        (MAX - 1, 1, true),
+        (MIN + 1, -1, true),
+        (MAX, -1, true),
+        (MIN, 1, true),
+        (MIN, MAX, true),
+        (16_383, 16_384, true),
+        (-16_384, -16_384, true),
+        (MAX, 1, false),
+        (MIN, -1, false),
+        (16_384, 16_384, false),
+        (-16_385, -16_384, false),
+        (MAX, MAX, false),
+        (MIN, MIN, false),
+    ];
+    let mut entries: Vec<Entry> = Vec::new();
+    for (samples, at) in [
+        (1, 0),
+        (2, 0),
+        (2, 1),
+        (8, 0),
+        (8, 3),
+        (8, 7),
+        (4_096, 0),
+        (4_096, 2_049),
+        (4_096, 4_095),
+    ] {
+        for (value, other, within) in cases {
+            let mut pair = [(); 2].map(|_| plain(samples));
+            pair[0].trace.values[at] = value;
+            pair[1].trace.values[at] = other;
+            let [one, two] = &pair;
+            let beyond = (!within).then_some((18, at as u64));
+            let short = Some((10, samples as u64));
+            entries.extend(either_way(one, two, samples, beyond));
+            entries.extend(either_way(one, two, 0, beyond.or(short)));
+            // One entry too few in either output, and as few as the joined list has samples.
+            let kept = one.list.len();
+            for rooms in [
+                (samples - 1, samples),
+                (samples, samples - 1),
+                (samples, kept),
+            ] {
+                let enough = rooms.1 >= samples && rooms.0 >= samples;
+                let input = Input {
+                    summands: pair.clone(),
+                    rooms,
+                    ..accepted()
+                };
+                let row = if enough { beyond } else { beyond.or(short) };
+                entries.push((&[Sum], input, row));
+            }
+            // The first of several.
+            let mut pair = pair.clone();
+            for summand in &mut pair {
+                summand.trace.values[at + 1..].fill(MIN);
+            }
+            let [one, two] = &pair;
+            let next = (at + 1 < samples).then_some((18, at as u64 + 1));
+            entries.extend(either_way(one, two, samples, beyond.or(next)));
+        }
+    }
+    entries
 }
 
 /// Of several invalid links the writer names the first.
@@ -980,9 +1281,9 @@ fn rooms() -> Vec<Entry> {
         rooms(OUTPUTS, (9, 8), true),
         rooms(OUTPUTS, (7, 9), false),
         rooms(OUTPUTS, (0, 0), false),
-        rooms(&[Read, Pedestals], (8, 9), true),
-        rooms(&[Read, Pedestals], (8, 7), false),
-        rooms(&[Read, Pedestals], (9, 0), false),
+        rooms(TWO_OUTPUTS, (8, 9), true),
+        rooms(TWO_OUTPUTS, (8, 7), false),
+        rooms(TWO_OUTPUTS, (9, 0), false),
         places(23, 1, true),
         places(22, 1, false),
         places(0, 0, false),
@@ -1005,6 +1306,8 @@ fn numbers() {
         (Refusal::Allowance, 5, 0),
         (Refusal::Holes, 16, 0),
         (Refusal::List(61), 6, 61),
+        (Refusal::Mismatch(171), 17, 171),
+        (Refusal::Overflow(181), 18, 181),
         (Refusal::Link(71), 7, 71),
         (Refusal::Record(81), 8, 81),
         (Refusal::SecondRecord(91), 9, 91),
@@ -1035,6 +1338,11 @@ fn numbers() {
         (
             Refusal::List(1),
             "two samples that are no link of the trace",
+        ),
+        (Refusal::Mismatch(4), "the ticks of sample 4 differ"),
+        (
+            Refusal::Overflow(4),
+            "sample 4 is below -32,768 or above 32,767",
         ),
         (Refusal::Table(0), "256 values"),
         (channel(1, 5), "channel 5: no samples"),

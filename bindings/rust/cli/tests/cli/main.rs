@@ -12,6 +12,7 @@
 //! - `probes`: gallop's probes.
 //! - `report`: the sheet of a crate.
 //! - `signals`: runs that are ended while they write a file.
+//! - `sum`: two traces added.
 
 mod budget;
 mod check;
@@ -25,6 +26,7 @@ mod pedestals;
 mod probes;
 mod report;
 mod signals;
+mod sum;
 
 use kovrelna_reference::generate::Trace;
 use std::ffi::OsStr;
@@ -342,10 +344,11 @@ fn places_of_errors() {
         (long.as_bytes(), ":4097: too many samples"),
     ] {
         fs::write(&file, text).unwrap();
-        for command in ["record", "draw", "judge", "measure"] {
+        for command in ["record", "draw", "judge", "measure", "sum"] {
             let arguments = match command {
                 "judge" => vec![command, "-t1", "-l0", path(&file)],
                 "measure" => vec![command, path(&file), "0", "1"],
+                "sum" => vec![command, "-t1", path(&file), path(&file)],
                 _ => vec![command, "-t1", path(&file)],
             };
             fails(&arguments, "", &format!("{}{cause}", path(&file)));
@@ -390,6 +393,7 @@ fn the_other_kind() {
         &["judge", "-t1", "-l0"],
         &["measure", "0", "1"],
         &["least", "-a2"],
+        &["sum", "-t1", "-", "missing"],
     ] {
         fails(
             arguments,
@@ -429,6 +433,8 @@ fn noise() {
             &["measure", "0", "1"],
             &["pedestals", "-t1", "-k1", "-", path(&pulse)],
             &["pedestals", "-t1", "-k1", path(&pulse), "-"],
+            &["sum", "-t1", "-", path(&pulse)],
+            &["sum", "-t1", path(&pulse), "-"],
         ] {
             let (status, _, error) = told(&run(arguments, &bytes));
             assert_eq!(status, 2, "{bytes:?} {error}");
@@ -515,6 +521,7 @@ fn help() {
         "least",
         "near",
         "probes",
+        "sum",
         "summary",
         "report",
         "pedestals",
@@ -555,6 +562,7 @@ fn full_output() {
         &["pedestals", "-t1", "-k1", pulse, pulse],
         &["pedestals", "-t1", "-k1", "--csv", pulse, pulse],
         &["pedestals", "-t1", "-k1", "--draw", pulse, pulse],
+        &["sum", "-t1", pulse, pulse],
         &["--help"],
         &["record", "-t1", "-o", "/dev/full"],
     ] {

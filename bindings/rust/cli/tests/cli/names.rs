@@ -72,6 +72,12 @@ fn bytes_of_names_in_messages() {
     let wrong = run_on(&folder, &["record", "-t1"], NAME);
     let cause = b":2: the tick is not above the one before\n";
     assert_eq!(wrong.stderr, [b"kovrelna: ", NAME, cause].concat());
+    fs::write(folder.join(OsStr::from_bytes(NAME)), "0,0\n1,0\n").unwrap();
+    fs::write(folder.join("other"), "0,0\n2,0\n").unwrap();
+    let differing = run_on(&folder, &["sum", "-t1", "other"], NAME);
+    let cause = b"other:2: the ticks differ: sample 1 is at tick 2, and at tick 1 in ";
+    let message = [b"kovrelna: ", &cause[..], NAME, b":2\n"].concat();
+    assert_eq!(differing.stderr, message);
     // A name stays in its line.
     let missing = run_on(&folder, &["show"], b"a\n0,1\xff");
     let name = b"a\xef\xbf\xbd0,1\xff";
