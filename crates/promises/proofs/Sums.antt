@@ -1,37 +1,50 @@
 -- Sums, from the contract alone:
 --   rows-swap, sum-swap                         a call is accepted exactly if it is with the traces and their lists exchanged, and then writes the same
 --   zeros-accepted, sum-zeros, zeros-answered   a trace and its list, added to zeros with the list of both ends, are accepted and given back
+--   sum-judged, sum-link-row                    at every tolerance that is not below 2 (T1 + T2) judge passes the joined list, and write does not refuse it as 7
 --   sum-kept                                    no more samples are kept than by both lists together, the ends counted once
 -- Assumes nothing.
 use mathlib.Core.Path.{_≡_, refl, sym, _∙_, ap, subst}
 use mathlib.Core.Logic.{_↔_, ⊎-elim}
 use mathlib.Core.Bool.{Bool, true, false, cond, _&&_, _||_}
 use mathlib.Core.List.{List, [], _∷_}
-use Prim.Native.Nat.{ℕ, zero, suc, _+_, _-_, _≤_, _<_}
+use Prim.Native.Nat.{ℕ, zero, suc, _+_, _-_, _*_, _≤_, _<_}
 use native.Mathlib.Omega.{arith}
 use lib.Dec.{leb, eqb}
 use lib.IntN.{ℤ, pos, +ℤ-comm, +ℤ-idr}
-use lib.ListN.{length, length-append, length-replicate, getD-replicate}
-use borrow.Author.Tests.{leb-true, leb-false, eqb-true}
+use lib.ListN.{length, take, length-append, length-replicate, getD-replicate}
+use borrow.Author.Tests.{le-leb, leb-true, leb-false, eqb-true}
 use Rattle.lists.specs.Listed.{listed}
 use Rattle.lists.specs.Overwrite.{overwrite}
 use Rattle.lists.proofs.Tests.{by-test, and-true, or-cases, true-false}
 use Rattle.refusal.specs.declared.Checked.the-variants.{Fine}
-use Rattle.kept.specs.Kept.{KeptList}
+use Rattle.ratio.specs.declared.Ratio.{Ratio}
+use Rattle.kept.specs.Kept.{KeptList, AllValid}
+use Rattle.kept.proofs.KeptLaws.{each-map}
 use Rattle.trace.specs.Trace.{value, Trace, traceRows}
-use Rattle.trace.proofs.TraceLaws.{rows-trace}
-use Rattle.proposed.specs.Proposed.{listRow}
-use Rattle.proposed.proofs.ProposedLaws.{row-kept}
-use Rattle.summed.specs.Sum.{sumsOf, outside, sumRows, isEntry, joinedOf, Summable, Joinable}
+use Rattle.trace.specs.Link.{valid, limited}
+use Rattle.trace.proofs.TraceLaws.{rows-trace, trace-rows}
+use Rattle.trace.proofs.Validity.{valid-wider}
+use Rattle.heights.specs.Budget.{StandsFor}
+use Rattle.proposed.specs.Proposed.{listRow, firstInvalid}
+use Rattle.proposed.proofs.ProposedLaws.{row-kept, all-valid}
+use Rattle.summed.specs.Sum.{sumsOf, outside, sumRows, isEntry, joinedOf, twiceSum, Summable, Joinable}
 use Rattle.summed.proofs.EntryLaws.{first-entry, last-entry, entries-listed}
 use Rattle.summed.proofs.JoinLaws.{joined-swap, joined-part}
 use Rattle.summed.proofs.SumLaws.{sums-swap}
 use Rattle.summed.proofs.RowLaws.{rows-addable, addable-fine}
 use Rattle.engine.specs.declared.Reduced.{Reduced}
 use Rattle.engine.specs.declared.Reduced.the-variants.{Kept, Refused as Declined}
+use Rattle.engine.specs.declared.Limits.{Limits}
+use Rattle.engine.specs.declared.Verdict.{Verdict}
+use Rattle.engine.specs.declared.Verdict.the-variants.{Yes}
+use Rattle.engine.specs.Prepare.{limitRows, commonRows, criterionOf}
+use Rattle.engine.specs.Judge.{judgeRows, JudgeOutcome}
+use Rattle.engine.specs.Write.{linkRow}
 use Rattle.engine.specs.Sum.{Summed, SumOutcome}
 use Rattle.engine.proofs.SumLaws.{sum-outcome}
 use Rattle.promises.specs.Sums.{zeros, ends}
+use Rattle.promises.proofs.Standing.{sum-stands}
 
 -- ---- exchanged
 
@@ -118,6 +131,28 @@ module _ (ts : List ℕ) (vs : List ℤ) (l : List ℕ) where
         let refused = s .0 in
         let z : _≡_ {A = ℕ} 0 1 = cc in
         absurd (omega arith)
+
+-- ---- at the bound
+
+-- the lists are within T1 and T2 and obey g; t has an allowed tolerance that is not below 2 (T1 + T2), and a gap limit that is not below g
+module _ {ts us : List ℕ} {vs ws : List ℤ} {l m : List ℕ} {o o′ : List ℤ} {p p′ : List ℕ} {n : ℕ} (a b : Ratio) (g : ℕ) (s : SumOutcome ts vs us ws l m o p (Kept n) o′ p′)
+    (first : StandsFor ts vs (limited g a) l) (second : StandsFor us ws (limited g b) m)
+    (t : Limits) (allowed : limitRows t ≡ Fine) (bound : twiceSum a b .p * criterionOf t .q ≤ criterionOf t .p * twiceSum a b .q) (limit : g ≤ criterionOf t .gap) where
+  joined-stands : StandsFor ts (sumsOf vs ws) (limited g (twiceSum a b)) (take n p′)
+  joined-stands = sum-stands a b g s first second
+
+  joined-valid : AllValid (valid ts (sumsOf vs ws) (criterionOf t)) (take n p′)
+  joined-valid = each-map (valid-wider ts (sumsOf vs ws) (limited g (twiceSum a b)) (criterionOf t) (joined-stands .positive) bound limit) (take n p′) (joined-stands .within)
+
+  pub sum-judged : (r : Verdict) → JudgeOutcome ts (sumsOf vs ws) (take n p′) t r → r ≡ Yes
+  unfolding judgeRows commonRows
+  sum-judged r h =
+      let k = joined-stands in
+      let trace = trace-rows 4096 ts (sumsOf vs ws) (k .trace) (k .trace .few) in
+      h .passed .1 (rw (trace, allowed) (row-kept (k .trace .some) (take n p′) .1 (k .kept)), k .kept, joined-valid)
+
+  pub sum-link-row : linkRow ts (sumsOf vs ws) (take n p′) t ≡ Fine
+  sum-link-row = rw (le-leb (length (take n p′) - 1) (firstInvalid ts (sumsOf vs ws) (criterionOf t) (take n p′)) (all-valid ts (sumsOf vs ws) (criterionOf t) (take n p′) .1 joined-valid))
 
 -- ---- how many samples are kept
 

@@ -38,16 +38,16 @@ module _ {v w : ℤ} (h : SFits w16 v) (k : SFits w16 w) where
   sum-read e = rw (e, toZ-ofZ {w = w16} h, toZ-ofZ {w = w16} k) (toZ-ofZ {w = w32} sum-short)
 
 -- a sum in range has 16 bits
-in-range : (z : ℤ) → outside z ≡ false → mag z < 32768
-in-range (pos n) e = omega (arith, ltb-false 32767 n (or-false (ltZ (pos n) (negsuc 32767)) _ e .1))
-in-range (negsuc n) e = omega (arith, ltb-false 32767 n (or-false (ltZ (negsuc n) (negsuc 32767)) _ e .0))
+inside-short : (z : ℤ) → outside z ≡ false → mag z < 32768
+inside-short (pos n) e = omega (arith, ltb-false 32767 n (or-false (ltZ (pos n) (negsuc 32767)) _ e .1))
+inside-short (negsuc n) e = omega (arith, ltb-false 32767 n (or-false (ltZ (negsuc n) (negsuc 32767)) _ e .0))
 
 module _ {v w : ℤ} (h : SFits w16 v) (k : SFits w16 w) (inside : outside (v +ℤ w) ≡ false) where
   short-of : toZ w16 (ofZ w16 v) +ℤ toZ w16 (ofZ w16 w) ≡ v +ℤ w
   short-of = rw (toZ-ofZ h, toZ-ofZ k)
 
   pub short-fits : SFits w16 (toZ w16 (ofZ w16 v) +ℤ toZ w16 (ofZ w16 w))
-  short-fits = rw short-of (record { sfits = in-range (v +ℤ w) inside })
+  short-fits = rw short-of (record { sfits = inside-short (v +ℤ w) inside })
 
   pub short-is : toZ w16 (ofZ w16 (toZ w16 (ofZ w16 v) +ℤ toZ w16 (ofZ w16 w))) ≡ v +ℤ w
   short-is = toZ-ofZ {w = w16} short-fits ∙ short-of
