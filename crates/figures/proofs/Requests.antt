@@ -29,7 +29,7 @@ use Rattle.engine.specs.Prepare.{unlimited, criterionOf}
 use Rattle.engine.specs.Report.{crateRows, reportRows}
 use Rattle.pedestals.specs.declared.Cause.the-variants.{Call, Trace}
 use Rattle.pedestals.specs.declared.Check.the-variants.{Fine as Passes, Refused as Declines}
-use Rattle.pedestals.specs.Sums.{spread, moved, noisy}
+use Rattle.verdicts.specs.Sums.{spread, moved, noisy}
 use Rattle.pedestals.specs.Compare.{Run, runOf, heldRatio, causeNumber, causeValue, runsRow, channelRow, compareRows, movedChannels, noisyChannels}
 
 -- ---- whole-crate report: lengths 5 0 2 1 at tolerance 2; the wave, no samples, a tick that does not rise, one sample

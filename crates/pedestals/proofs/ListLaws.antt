@@ -17,8 +17,8 @@ use Rattle.channels.proofs.ChannelLaws.{lent-part, place-next, place-fits}
 use Rattle.ratio.specs.declared.Ratio.{Ratio}
 use Rattle.tolerance.specs.declared.Tolerance.{Tolerance}
 use Rattle.pedestals.specs.declared.Counts.{Counts}
-use Rattle.pedestals.specs.declared.Verdict.{Verdict}
-use Rattle.pedestals.specs.Sums.{moved, noisy, Judged}
+use Rattle.verdicts.specs.declared.Verdict.{Verdict}
+use Rattle.verdicts.specs.Sums.{moved, noisy, Judged}
 use Rattle.pedestals.specs.Compare.{Run, valuesOf, movedChannels, Listed}
 use Rattle.pedestals.specs.Checking.{Passed}
 use Rattle.pedestals.specs.Listing.{Put, PartFits, Listable, movedIn, noisyIn, BothListed}

@@ -41,7 +41,7 @@ use Rattle.pedestals.specs.declared.Check.the-variants.{Fine, Refused}
 use Rattle.pedestals.specs.declared.Counts.{Counts}
 use Rattle.pedestals.specs.declared.Compared.{Compared}
 use Rattle.pedestals.specs.declared.Compared.the-variants.{Listed as IsListed, Refused as Declined}
-use Rattle.pedestals.specs.Sums.{moved, noisy}
+use Rattle.verdicts.specs.Sums.{moved, noisy}
 
 -- ---- runs
 

@@ -1,5 +1,4 @@
 -- What the crate `pedestals` holds.
-pub mod Sums
 pub mod Compare
 pub mod Checking
 pub mod Listing

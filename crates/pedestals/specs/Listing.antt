@@ -17,7 +17,7 @@ use Rattle.channels.specs.Channels.{sum, ofChannel}
 use Rattle.ratio.specs.declared.Ratio.{Ratio}
 use Rattle.tolerance.specs.Meaning.{Held}
 use Rattle.pedestals.specs.declared.Counts.{Counts}
-use Rattle.pedestals.specs.Sums.{moved, noisy}
+use Rattle.verdicts.specs.Sums.{moved, noisy}
 
 pub record Put (o : List ℕ) (n c : ℕ) (belongs : Bool) (r : ℕ) (o′ : List ℕ) : Type 0 where
   pub count : r ≡ cond belongs (n + 1) n

@@ -23,18 +23,6 @@ enum Ready {
     Refused(Cause),
 }
 
-// The sum of a trace's values and the sum of their squares.
-struct Sums {
-    sum: i32,
-    squares: u64,
-}
-
-// What the comparison says of a channel.
-struct Verdict {
-    moved: bool,
-    noisy: bool,
-}
-
 // How many channels have moved, and how many are noisy.
 pub struct Counts {
     pub moved: usize,
@@ -49,7 +37,6 @@ pub enum Compared {
 
 mod checks;
 mod listing;
-mod verdicts;
 
 // A cause's number: of a channel's trace its own.
 pub fn number(x: Cause) -> u32

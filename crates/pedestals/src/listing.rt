@@ -2,12 +2,12 @@
 ghost use Prim.Native.Nat.{_≤_, _<_};
 ghost use lib.ListN.{length};
 ghost use Rattle.channels.specs.Channels.{part};
-ghost use Rattle.pedestals.specs.Sums.{Judged};
+ghost use Rattle.verdicts.specs.Sums.{Judged};
 ghost use Rattle.pedestals.specs.Listing.{Put, PartFits, Listable, BothListed};
 use crate::Counts;
-use crate::Verdict;
-use crate::verdicts::verdict;
 use ratio::Ratio;
+use verdicts::Verdict;
+use verdicts::verdict_of;
 
 // Puts channel c behind the n entries of a list if it belongs there; returns how many there are then.
 fn put(list: &mut [u16], n: usize, c: usize, belongs: bool) -> usize
@@ -27,7 +27,7 @@ fn verdict_at(today: &[i16], earlier: &[i16], at: usize, n: usize, r: Ratio, k: 
     ensures { λ v. ⌜ Judged (part at n (now (today .entry))) (part at n (now (earlier .entry))) r k v ⌝ }
 {
     let end = at + n;
-    verdict(&today[at..end], &earlier[at..end], r, k)
+    verdict_of(&today[at..end], &earlier[at..end], r, k)
 }
 
 // Lists the channels that have moved and those that are noisy, for runs of the same lengths.

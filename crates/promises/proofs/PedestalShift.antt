@@ -9,8 +9,8 @@ use lib.IntN.{ℤ, pos, negsuc, _+ℤ_, natAbs}
 use lib.ListN.{length, length-map}
 use Rattle.ratio.specs.declared.Ratio.{Ratio}
 use Rattle.trace.proofs.Difference.{Diff, same, plus, less, alike}
-use Rattle.pedestals.specs.Sums.{total, spread, moved, noisy}
-use Rattle.pedestals.proofs.SumLaws.{sizeSquares, root-total, spread-natural}
+use Rattle.verdicts.specs.Sums.{total, spread, moved, noisy}
+use Rattle.verdicts.proofs.SumLaws.{sizeSquares, root-total, spread-natural}
 use Rattle.promises.specs.Pedestals.{addedTo}
 
 -- an integer is its upper part minus its lower part

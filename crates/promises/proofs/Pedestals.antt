@@ -25,7 +25,7 @@ use Rattle.pedestals.specs.declared.Counts.{Counts}
 use Rattle.pedestals.specs.declared.Compared.{Compared}
 use Rattle.pedestals.specs.declared.Compared.the-variants.{Listed as IsListed, Refused as Declined}
 use Rattle.pedestals.specs.Compare.{Run, valuesOf, heldRatio, runsRow, channelRow, channelRows, compareRows, hasMoved, isNoisy, movedChannels, noisyChannels, CompareOutcome}
-use Rattle.pedestals.proofs.SumLaws.{moved-itself, noisy-itself}
+use Rattle.verdicts.proofs.SumLaws.{moved-itself, noisy-itself}
 use Rattle.pedestals.proofs.CheckLaws.{passing-factor, passing-lengths}
 use Rattle.promises.specs.Pedestals.{Exactly, addedTo, shifted}
 use Rattle.promises.proofs.PedestalShift.{moved-shift, noisy-shift}

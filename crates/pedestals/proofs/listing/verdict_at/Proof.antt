@@ -7,50 +7,50 @@ use Rattle.pedestals.proofs.listing.verdict_at.Tie as tie
 add-end : tie.Need-add-end
 add-end c = search needs
 
-mul-verdict : tie.Need-mul-verdict
-mul-verdict c = search needs
+mul-verdict-of : tie.Need-mul-verdict-of
+mul-verdict-of c = search needs
 
-sub-verdict : tie.Need-sub-verdict
-sub-verdict c = search needs
+sub-verdict-of : tie.Need-sub-verdict-of
+sub-verdict-of c = search needs
 
-part-verdict-start : tie.Need-part-verdict-start
-part-verdict-start c = search needs
+part-verdict-of-start : tie.Need-part-verdict-of-start
+part-verdict-of-start c = search needs
 
-part-verdict-end : tie.Need-part-verdict-end
-part-verdict-end c = search needs
+part-verdict-of-end : tie.Need-part-verdict-of-end
+part-verdict-of-end c = search needs
 
-mul-verdict-2 : tie.Need-mul-verdict-2
-mul-verdict-2 c = search needs
+mul-verdict-of-2 : tie.Need-mul-verdict-of-2
+mul-verdict-of-2 c = search needs
 
-sub-verdict-2 : tie.Need-sub-verdict-2
-sub-verdict-2 c = search needs
+sub-verdict-of-2 : tie.Need-sub-verdict-of-2
+sub-verdict-of-2 c = search needs
 
-part-verdict-start-2 : tie.Need-part-verdict-start-2
-part-verdict-start-2 c = search needs
+part-verdict-of-start-2 : tie.Need-part-verdict-of-start-2
+part-verdict-of-start-2 c = search needs
 
-part-verdict-end-2 : tie.Need-part-verdict-end-2
-part-verdict-end-2 c = search needs
+part-verdict-of-end-2 : tie.Need-part-verdict-of-end-2
+part-verdict-of-end-2 c = search needs
 
-verdict-requires : tie.Need-verdict-requires
-verdict-requires c κs = search needs
+verdict-of-requires : tie.Need-verdict-of-requires
+verdict-of-requires c κs = search needs
 
 returns : tie.Need-returns
 returns c =
     let a = c .before .before .before .args in
-    part-judged (a .today .now) (a .earlier .now) (a .at) (a .n) (a .r) (a .k) (c .verdict .ensures)
+    part-judged (a .today .now) (a .earlier .now) (a .at) (a .n) (a .r) (a .k) (c .verdict-of .ensures)
 
 pub verdict-at-spec : {M : Type 1} → statement M
 verdict-at-spec =
     tie.close
     (tie.spec
     add-end
-    mul-verdict
-    sub-verdict
-    part-verdict-start
-    part-verdict-end
-    mul-verdict-2
-    sub-verdict-2
-    part-verdict-start-2
-    part-verdict-end-2
-    verdict-requires
+    mul-verdict-of
+    sub-verdict-of
+    part-verdict-of-start
+    part-verdict-of-end
+    mul-verdict-of-2
+    sub-verdict-of-2
+    part-verdict-of-start-2
+    part-verdict-of-end-2
+    verdict-of-requires
     returns)

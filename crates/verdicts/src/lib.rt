@@ -5,10 +5,20 @@ ghost use lib.Dec.{ltb};
 ghost use lib.IntN.{_+ℤ_, _-ℤ_, natAbs};
 ghost use lib.ListN.{length};
 ghost use Rattle.tolerance.specs.Meaning.{Held};
-ghost use Rattle.pedestals.specs.Sums.{Summed, Sized, spreadIn, Comparable, Judged};
-use crate::Sums;
-use crate::Verdict;
+ghost use Rattle.verdicts.specs.Sums.{Summed, Sized, spreadIn, Comparable, Judged};
 use ratio::Ratio;
+
+// The sum of a trace's values and the sum of their squares.
+struct Sums {
+    sum: i32,
+    squares: u64,
+}
+
+// What the comparison says of a channel.
+pub struct Verdict {
+    pub moved: bool,
+    pub noisy: bool,
+}
 
 // The sum with one value more.
 fn plus(s: i32, v: i16) -> i32
@@ -94,7 +104,7 @@ fn noisy(a: Sums, b: Sums, n: u64, k: u64) -> bool
 }
 
 // What the comparison says of a channel, from its values today and in the run before.
-pub fn verdict(today: &[i16], earlier: &[i16], r: Ratio, k: u64) -> Verdict
+pub fn verdict_of(today: &[i16], earlier: &[i16], r: Ratio, k: u64) -> Verdict
     requires { ⌜ Comparable (now today) (now earlier) r k ⌝ }
     ensures { λ v. ⌜ Judged (now (today .entry)) (now (earlier .entry)) r k v ⌝ }
 {

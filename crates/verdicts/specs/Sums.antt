@@ -17,8 +17,8 @@ use lib.ListN.{length}
 use lib.Signed.{ltZ}
 use Rattle.ratio.specs.declared.Ratio.{Ratio}
 use Rattle.tolerance.specs.Meaning.{Held}
-use Rattle.pedestals.specs.declared.Sums.{Sums}
-use Rattle.pedestals.specs.declared.Verdict.{Verdict}
+use Rattle.verdicts.specs.declared.Sums.{Sums}
+use Rattle.verdicts.specs.declared.Verdict.{Verdict}
 
 abbrev pub total : List ℤ → ℤ
 total [] = pos 0

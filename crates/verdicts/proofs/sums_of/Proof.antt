@@ -1,14 +1,14 @@
--- `pedestals::verdicts::sums_of` meets its contract: the loop has the sums of the values before i. Assumes nothing.
+-- `verdicts::sums_of` meets its contract: the loop has the sums of the values before i. Assumes nothing.
 use Prim.Native.Nat.{_-_}
 use native.Mathlib.Omega.{arith}
 use lib.ListN.{length}
 use mir.Syntax.{w32}
 use mir.Val.{toZ}
 use borrow.Author.Needs.{needs}
-use Rattle.pedestals.proofs.SumLaws.{summing-few, summing-all}
-use Rattle.pedestals.proofs.SignedLaws.{Halved, halved-none, halved-few, halved-step}
-use Rattle.pedestals.proofs.verdicts.sums_of.Statement.{statement}
-use Rattle.pedestals.proofs.verdicts.sums_of.Tie as tie
+use Rattle.verdicts.proofs.SumLaws.{summing-few, summing-all}
+use Rattle.verdicts.proofs.SignedLaws.{Halved, halved-none, halved-few, halved-step}
+use Rattle.verdicts.proofs.sums_of.Statement.{statement}
+use Rattle.verdicts.proofs.sums_of.Tie as tie
 
 abbrev Inv-loop : tie.InvT-loop
 Inv-loop values sum₀ low₀ high₀ i₀ sum low high i = Halved values (toZ w32 sum) low high i

@@ -1,10 +1,10 @@
--- `pedestals::verdicts::square` meets its contract. Assumes nothing.
+-- `verdicts::square` meets its contract. Assumes nothing.
 use mathlib.Core.Path.{refl}
 use native.Mathlib.Omega.{arith}
 use Rattle.lists.proofs.Widths.{wide-fits}
-use Rattle.pedestals.proofs.SignedLaws.{square-fits, square-is, square-small}
-use Rattle.pedestals.proofs.verdicts.square.Statement.{statement}
-use Rattle.pedestals.proofs.verdicts.square.Tie as tie
+use Rattle.verdicts.proofs.SignedLaws.{square-fits, square-is, square-small}
+use Rattle.verdicts.proofs.square.Statement.{statement}
+use Rattle.verdicts.proofs.square.Tie as tie
 
 cast-x : tie.Need-cast-x
 cast-x c = wide-fits (c .fits .v)

@@ -1,11 +1,11 @@
--- `pedestals::verdicts::spread` meets its contract: n Q is at most 2^54, and at least S squared. Assumes nothing.
+-- `verdicts::spread` meets its contract: n Q is at most 2^54, and at least S squared. Assumes nothing.
 use mathlib.Core.Path.{_≡_, refl, _∙_, ap}
 use native.Mathlib.Omega.{arith}
 use lib.IntN.{natAbs}
-use Rattle.pedestals.proofs.SignedLaws.{plain}
-use Rattle.pedestals.proofs.SumLaws.{sized-squares, sized-spread}
-use Rattle.pedestals.proofs.verdicts.spread.Statement.{statement}
-use Rattle.pedestals.proofs.verdicts.spread.Tie as tie
+use Rattle.verdicts.proofs.SignedLaws.{plain}
+use Rattle.verdicts.proofs.SumLaws.{sized-squares, sized-spread}
+use Rattle.verdicts.proofs.spread.Statement.{statement}
+use Rattle.verdicts.proofs.spread.Tie as tie
 
 size-requires : tie.Need-size-requires
 size-requires c κs =

@@ -1,12 +1,12 @@
--- `pedestals::verdicts::moved` meets its contract: both products are at most 2^48. Assumes nothing.
+-- `verdicts::moved` meets its contract: both products are at most 2^48. Assumes nothing.
 use mathlib.Core.Path.{_∙_, ap}
 use native.Mathlib.Omega.{arith}
 use lib.IntN.{natAbs}
 use borrow.Author.Needs.{needs}
-use Rattle.pedestals.proofs.SignedLaws.{less-of}
-use Rattle.pedestals.proofs.SumLaws.{limit-small, apart-small}
-use Rattle.pedestals.proofs.verdicts.moved.Statement.{statement}
-use Rattle.pedestals.proofs.verdicts.moved.Tie as tie
+use Rattle.verdicts.proofs.SignedLaws.{less-of}
+use Rattle.verdicts.proofs.SumLaws.{limit-small, apart-small}
+use Rattle.verdicts.proofs.moved.Statement.{statement}
+use Rattle.verdicts.proofs.moved.Tie as tie
 
 mul-result : tie.Need-mul-result
 mul-result c =

@@ -1,10 +1,10 @@
--- `pedestals::verdicts::noisy` meets its contract: k squared times a spread is at most 2^62. Assumes nothing.
+-- `verdicts::noisy` meets its contract: k squared times a spread is at most 2^62. Assumes nothing.
 use native.Mathlib.Nat.{mul-le-mul, lt-of-le-of-lt}
 use native.Mathlib.Omega.{arith}
 use borrow.Author.Needs.{needs}
-use Rattle.pedestals.proofs.SumLaws.{factor-small}
-use Rattle.pedestals.proofs.verdicts.noisy.Statement.{statement}
-use Rattle.pedestals.proofs.verdicts.noisy.Tie as tie
+use Rattle.verdicts.proofs.SumLaws.{factor-small}
+use Rattle.verdicts.proofs.noisy.Statement.{statement}
+use Rattle.verdicts.proofs.noisy.Tie as tie
 
 mul-result : tie.Need-mul-result
 mul-result c = omega (arith, factor-small (c .pre .2))

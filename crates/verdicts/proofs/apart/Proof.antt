@@ -1,10 +1,10 @@
--- `pedestals::verdicts::apart` meets its contract. Assumes nothing.
+-- `verdicts::apart` meets its contract. Assumes nothing.
 use mathlib.Core.Path.{_∙_, ap}
 use native.Mathlib.Omega.{arith}
 use lib.IntN.{natAbs}
-use Rattle.pedestals.proofs.SignedLaws.{less-fits, less-is, less-small}
-use Rattle.pedestals.proofs.verdicts.apart.Statement.{statement}
-use Rattle.pedestals.proofs.verdicts.apart.Tie as tie
+use Rattle.verdicts.proofs.SignedLaws.{less-fits, less-is, less-small}
+use Rattle.verdicts.proofs.apart.Statement.{statement}
+use Rattle.verdicts.proofs.apart.Tie as tie
 
 sub-size : tie.Need-sub-size
 sub-size c = less-fits (c .args .s) (c .args .t) (c .pre .0) (c .pre .1)

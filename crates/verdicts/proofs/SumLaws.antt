@@ -15,8 +15,8 @@ use lib.Seq.{drop-cons}
 use lib.Signed.{mag, natAbs-le}
 use borrow.Author.Tests.{ltb-true, ltb-false, le-ltb}
 use Rattle.ratio.specs.declared.Ratio.{Ratio}
-use Rattle.pedestals.specs.declared.Sums.{Sums}
-use Rattle.pedestals.specs.Sums.{total, squares, spread, moved, noisy, Summed, Sized, spreadIn, Judged}
+use Rattle.verdicts.specs.declared.Sums.{Sums}
+use Rattle.verdicts.specs.Sums.{total, squares, spread, moved, noisy, Summed, Sized, spreadIn, Judged}
 
 -- ---- sizes
 

@@ -16,7 +16,7 @@ use lib.Dec.{T}
 use mir.Syntax.{w16, w32}
 use mir.Val.{SFits, toZ, ofZ}
 use mir.Facts.{toZ-ofZ}
-use Rattle.pedestals.proofs.SumLaws.{abs-plus, abs-minus, abs-negated, squared, mag-abs, Summing, summing-none, summing-more}
+use Rattle.verdicts.proofs.SumLaws.{abs-plus, abs-minus, abs-negated, squared, mag-abs, Summing, summing-none, summing-more}
 
 pub fits32 : {z : ℤ} → natAbs z ≤ 1073741824 → SFits w32 z
 fits32 {z} h = record { sfits = omega (arith, mag-abs z) }

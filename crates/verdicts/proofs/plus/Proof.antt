@@ -1,8 +1,8 @@
--- `pedestals::verdicts::plus` meets its contract. Assumes nothing.
+-- `verdicts::plus` meets its contract. Assumes nothing.
 use Rattle.lists.proofs.Widths.{wide-fits}
-use Rattle.pedestals.proofs.SignedLaws.{sum-fits, sum-is}
-use Rattle.pedestals.proofs.verdicts.plus.Statement.{statement}
-use Rattle.pedestals.proofs.verdicts.plus.Tie as tie
+use Rattle.verdicts.proofs.SignedLaws.{sum-fits, sum-is}
+use Rattle.verdicts.proofs.plus.Statement.{statement}
+use Rattle.verdicts.proofs.plus.Tie as tie
 
 cast-result : tie.Need-cast-result
 cast-result c = wide-fits (c .fits .v)

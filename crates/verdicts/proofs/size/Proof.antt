@@ -1,10 +1,10 @@
--- `pedestals::verdicts::size` meets its contract. Assumes nothing.
+-- `verdicts::size` meets its contract. Assumes nothing.
 use native.Mathlib.Omega.{arith}
 use borrow.Author.Needs.{needs}
-use Rattle.pedestals.proofs.SumLaws.{abs-negated}
-use Rattle.pedestals.proofs.SignedLaws.{plain, flip-fits, flip-is, below-zero, not-below-zero}
-use Rattle.pedestals.proofs.verdicts.size.Statement.{statement}
-use Rattle.pedestals.proofs.verdicts.size.Tie as tie
+use Rattle.verdicts.proofs.SumLaws.{abs-negated}
+use Rattle.verdicts.proofs.SignedLaws.{plain, flip-fits, flip-is, below-zero, not-below-zero}
+use Rattle.verdicts.proofs.size.Statement.{statement}
+use Rattle.verdicts.proofs.size.Tie as tie
 
 sub-result : tie.Need-sub-result
 sub-result c = flip-fits (c .before .args .s) (c .before .pre)

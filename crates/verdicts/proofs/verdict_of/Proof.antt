@@ -1,10 +1,10 @@
--- `pedestals::verdicts::verdict` meets its contract. Assumes nothing.
+-- `verdicts::verdict_of` meets its contract. Assumes nothing.
 use lib.ListN.{length}
 use borrow.Author.Needs.{needs}
-use Rattle.pedestals.specs.Sums.{Sized}
-use Rattle.pedestals.proofs.SumLaws.{both-sized, judged}
-use Rattle.pedestals.proofs.verdicts.verdict.Statement.{statement}
-use Rattle.pedestals.proofs.verdicts.verdict.Tie as tie
+use Rattle.verdicts.specs.Sums.{Sized}
+use Rattle.verdicts.proofs.SumLaws.{both-sized, judged}
+use Rattle.verdicts.proofs.verdict_of.Statement.{statement}
+use Rattle.verdicts.proofs.verdict_of.Tie as tie
 
 sums-of-requires : tie.Need-sums-of-requires
 sums-of-requires c κs = search needs
@@ -27,6 +27,6 @@ returns c =
     let h = c .before .before .before .before .pre in
     judged (c .before .before .before .sums-of .ensures) (c .before .before .sums-of2 .ensures) (h .same) (h .few) (c .before .moved .ensures) (c .noisy .ensures)
 
-pub verdict-spec : {M : Type 1} → statement M
-verdict-spec =
+pub verdict-of-spec : {M : Type 1} → statement M
+verdict-of-spec =
     tie.close (tie.spec sums-of-requires sums-of-requires-2 moved-requires noisy-requires returns)

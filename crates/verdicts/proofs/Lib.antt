@@ -1,0 +1,3 @@
+-- The laws of the crate `verdicts`.
+pub mod SumLaws
+pub mod SignedLaws
