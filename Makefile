@@ -28,13 +28,6 @@ ifneq ($(filter install install-cli install-python uninstall,$(MAKECMDGOALS)),)
 $(CHECK_PLACES)
 endif
 
-# Provers that run at once: one more than processors, since they run in groups, each of which waits for its slowest; at most
-# five, each of which may need a gigabyte.
-ifndef RT_JOBS
-RT_JOBS := $(shell n=$$(nproc); if [ "$$n" -gt 4 ]; then n=4; fi; expr "$$n" + 1)
-endif
-export RT_JOBS
-
 # Runs rt with these words. Prints a line for each crate once it is proved; where rt fails, all that it has said.
 RT = log=$$(mktemp); trap 'rm -f "$$log" "$$log.status"' EXIT; \
 { rt $(1) 2>&1; echo $$? >"$$log.status"; } | tee "$$log" | sed -un '/^rt:/p'; \
