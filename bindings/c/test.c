@@ -844,6 +844,7 @@ static void cut(int line, const uint8_t *record, size_t record_len, const size_t
     faulty(line, record, length, commands[k]);
     same(line, record, length, record, record_len, KOVRELNA_REFUSED_RECORD, 0, commands[k]);
     same(line, record, record_len, record, length, KOVRELNA_REFUSED_SECOND_RECORD, 0, commands[k]);
+    same(line, record, length, record, length, KOVRELNA_REFUSED_RECORD, 0, commands[k]);
   }
 }
 
@@ -1619,11 +1620,19 @@ static void records(void) {
   changed[8] = 4;
   FAULTY(changed, 22, 0);
 
+  /* Another q, another p, another value, all of these, and other samples. */
+  SAME(figure, 22, figure, 22, 0, 1, 0);
   memcpy(changed, figure, 22);
   changed[8] = 5;
-  SAME(figure, 22, figure, 22, 0, 1, 0);
-  SAME(figure, 22, changed, 22, 0, 1, 0);
+  SAME(figure, 22, changed, 22, 0, 0, 0);
+  changed[5] = 1;
+  changed[8] = 3;
+  SAME(figure, 22, changed, 22, 0, 0, 0);
+  changed[5] = 2;
   changed[18] = 2;
+  SAME(figure, 22, changed, 22, 0, 0, 0);
+  changed[5] = 1;
+  changed[8] = 5;
   SAME(figure, 22, changed, 22, 0, 0, 0);
   SAME(figure, 22, steps, 37, 0, 0, 0);
   SAME(figure, 22, figure, 21, KOVRELNA_REFUSED_SECOND_RECORD, 0, 19);

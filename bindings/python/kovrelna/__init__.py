@@ -892,11 +892,16 @@ def read(
 
 
 def same(first: Lent, second: Lent) -> bool:
-    """Whether two records have the same samples, whatever their tolerances. Refusals: 8 for the
-    first record, then 9 for the second.
+    """Whether two records are the same: their samples agree, and so do their tolerances. For
+    accepted records that is so exactly if their bytes agree. Whether the samples alone agree,
+    `read` of each shows. Refusals: 8 for the first record, then 9 for the second, also for two
+    faulty records whose bytes agree.
 
     >>> records = [write([0, 1, 3], [0, 1, 1], [0, 2], counts) for counts in (1.0, 2.5)]
     >>> same(*records)
+    False
+    >>> one, other = map(read, records)
+    >>> (one.ticks, one.values) == (other.ticks, other.values)
     True
     """
     with Loan() as loan:

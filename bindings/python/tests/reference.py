@@ -416,8 +416,8 @@ def read(record):
 
 def same(first, second):
     """Row 9 for the second record."""
-    samples = read(first)[:2]
+    content = read(first)
     try:
-        return samples == read(second)[:2]
+        return content == read(second)
     except Refused as refused:
         raise Refused(9, refused.args[1])

@@ -304,6 +304,23 @@ class Figures(Case):
         ticks = [2**32 - 1048576, 2**32 - 1]
         self.assertEqual(sum_of(ticks, [1, 2], ticks, [3, 4], [0, 1], [0, 1]), ([4, 6], [0, 1]))
 
+    def test_same(self):
+        """A trace kept at 2 counts and at 5 ends with the same samples."""
+        values, records = [0, 2, 0, 2, 0], []
+        for counts in (2, 5):
+            kept = kovrelna.walk(EVEN, values, counts)
+            self.assertEqual(list(kept), [0, 4])
+            records.append(kovrelna.write(EVEN, values, kept, counts))
+        self.assertEqual(kovrelna.read(records[0])[:2], kovrelna.read(records[1])[:2])
+        self.assertIs(kovrelna.same(*records), False)
+        for form in (5, 5.0, Ratio(10, 2), Counts(5), Noise(2.5, 2)):
+            again = kovrelna.write(EVEN, values, [0, 4], form)
+            self.assertIs(kovrelna.same(records[1], again), True)
+        # Another value, another tick, a sample more.
+        for ticks, changed in [([0, 4], [0, 1]), ([0, 5], [0, 0]), ([0, 4, 5], [0, 0, 0])]:
+            other = kovrelna.write(ticks, changed, range(len(ticks)), 5)
+            self.assertIs(kovrelna.same(records[1], other), False)
+
     def test_every_pair_of_lists(self):
         for size in range(1, 6):
             every = list(reference.kept_lists(size, size))
@@ -798,6 +815,7 @@ class Refusals(Case):
             self.refused(8, byte, kovrelna.read, RECORD[:length], *outputs)
             self.refused(8, byte, kovrelna.same, RECORD[:length], RECORD)
             self.refused(8, byte, kovrelna.same, RECORD[:length], b"")
+            self.refused(8, byte, kovrelna.same, RECORD[:length], RECORD[:length])
             self.refused(9, byte, kovrelna.same, RECORD, RECORD[:length])
         self.refused(8, 22, kovrelna.read, RECORD + b"\x45")
         self.refused(9, 22, kovrelna.same, RECORD, RECORD + b"\x45")

@@ -932,8 +932,10 @@ pub fn read(record: &[u8], ticks: &mut [u32], values: &mut [i16]) -> Result<Cont
     })
 }
 
-/// Whether two records have the same samples, whatever their tolerances. Refusals:
-/// [`Refusal::Record`] for the first, then [`Refusal::SecondRecord`] for the second.
+/// Whether two records are the same: their samples agree, and so do their tolerances. For accepted
+/// records that is so exactly if their bytes agree. Whether the samples alone agree, [`read`] of each
+/// shows. Refusals: [`Refusal::Record`] for the first, then [`Refusal::SecondRecord`] for the second,
+/// also for two faulty records whose bytes agree.
 ///
 /// ```
 /// use kovrelna::{same, write, Refusal, Tolerance};
@@ -942,7 +944,8 @@ pub fn read(record: &[u8], ticks: &mut [u32], values: &mut [i16]) -> Result<Cont
 /// for (record, counts) in records.iter_mut().zip([1.0, 2.5]) {
 ///     write(&[0, 1, 3], &[0, 1, 1], &[0, 2], Tolerance::Counts(counts), record, 0)?;
 /// }
-/// assert_eq!(same(&records[0], &records[1]), Ok(true));
+/// assert_eq!(same(&records[0], &records[0]), Ok(true));
+/// assert_eq!(same(&records[0], &records[1]), Ok(false));
 /// assert_eq!(same(&records[0], &records[1][..21]), Err(Refusal::SecondRecord(19)));
 /// # Ok::<(), Refusal>(())
 /// ```

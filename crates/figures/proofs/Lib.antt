@@ -3,3 +3,4 @@ pub mod Figures
 pub mod Requests
 pub mod Links
 pub mod Sums
+pub mod Records

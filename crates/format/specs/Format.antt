@@ -18,7 +18,7 @@
 --   stepTo, stepsOnto, samplesOnto   a step as a command; steps as they are written, before other bytes; all samples' commands
 --   encode                           the record of a content
 --   Accepted                         what holds of an accepted record and its content
---   SameRecord                       two records are the same: their kept samples agree, tolerance disregarded
+--   SameRecord                       two records are the same: their tolerances and their kept samples agree
 -- Where a fault lies is said without the parser in Fault.
 -- Laws are in RuleLaws, ParseEncode, EncodeParse, FaultLaws and SameLaws; examples are in proofs/Examples. Assumes nothing.
 use mathlib.Core.Path.{_≡_}
@@ -202,6 +202,8 @@ pub record Accepted (b : List ℕ) (x : Content) : Type 0 where
 
 -- ---- comparison
 
+-- document 02, wish 9
 pub record SameRecord (x y : Content) : Type 0 where
+  pub tolerance : x .tolerance ≡ y .tolerance
   pub ticks : x .ticks ≡ y .ticks
   pub values : x .values ≡ y .values

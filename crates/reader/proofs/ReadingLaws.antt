@@ -1,6 +1,7 @@
--- Laws of the outcomes: what the header, a record's verdict and the bytes after the tolerance say.
+-- Laws of the outcomes: what the header, a record's verdict and the bytes of two records say.
 -- Assumes nothing.
 use mathlib.Core.Path.{_≡_, refl, sym, ap, _∙_, subst}
+use mathlib.Core.Logic.{_↔_}
 use mathlib.Core.Bool.{Bool, true, false, _&&_}
 use mathlib.Core.List.{List}
 use Prim.Native.Nat.{ℕ, _-_, _≤_}
@@ -9,12 +10,12 @@ use borrow.Author.Tests.{le-leb}
 use lib.Dec.{leb}
 use lib.IntN.{ℤ}
 use lib.ListN.{length, take, drop, length-drop}
-use Rattle.lists.specs.Decides.{Decides}
 use Rattle.lists.proofs.OverwriteLaws.{wrote-read}
-use Rattle.lists.proofs.PartLaws.{part-from}
 use Rattle.ratio.specs.declared.Ratio.{Ratio}
+use Rattle.refusal.specs.declared.Refusal.{Refusal}
 use Rattle.refusal.specs.declared.Refusal.the-variants.{Record, SecondRecord, Room}
-use Rattle.refusal.specs.declared.Checked.the-variants.{Refused as Declined}
+use Rattle.refusal.specs.declared.Checked.the-variants.{Fine, Refused as Declined}
+use Rattle.refusal.specs.Table.{_thenCheck_}
 use Rattle.trace.specs.Trace.{Trace}
 use Rattle.format.specs.declared.Cursor.{Cursor}
 use Rattle.format.specs.declared.Command.{Command}
@@ -23,14 +24,15 @@ use Rattle.format.specs.declared.Header.{Header}
 use Rattle.format.specs.declared.Header.the-variants.{Start, Fault as NoHeader}
 use Rattle.format.specs.Number.{Bytes}
 use Rattle.format.specs.Command.{choose, commandOf}
-use Rattle.format.specs.Format.{SameRecord, isHeld, Samples, fault, samples, samplesFrom, sampleHeader, toleranceHeader, headerOf, Parsed, faulty, says, attach, began, parse}
+use Rattle.format.specs.Format.{Content, Accepted, SameRecord, isHeld, Samples, fault, samples, samplesFrom, sampleHeader, toleranceHeader, headerOf, Parsed, faulty, says, attach, began, parse}
 use Rattle.format.proofs.NumberLaws.{bytes-drop}
 use Rattle.format.proofs.CommandLaws.{Starts, Read, read}
-use Rattle.format.proofs.ParseEncode.{record-long}
 use Rattle.format.proofs.EncodeParse.{encode-parse}
-use Rattle.format.proofs.SameLaws.{same-tails}
-use Rattle.reader.specs.Reading.{readRows, sameRows, Said, CheckOutcome, ReadBack, Compared, recordVerdict, AfterFirst, Fitting, Filled}
+use Rattle.format.proofs.SameLaws.{same-bytes}
+use Rattle.reader.specs.Reading.{recordRow, readRows, sameRows, Said, CheckOutcome, ReadBack, Compared, SameOutcome, recordVerdict, AfterFirst, Fitting, Filled}
 use Rattle.reader.specs.declared.Verdict.{Verdict}
+use Rattle.reader.specs.declared.Comparison.{Comparison}
+use Rattle.reader.specs.declared.Comparison.the-variants.{Same, Different, Refused as NotCompared}
 
 -- ---- the header
 
@@ -131,31 +133,39 @@ read-trace h = rw (wrote-read (h .ticks), wrote-read (h .values)) (h .accepted .
 
 -- ---- same
 
-pub enough : {b : List ℕ} {n : ℕ} {r : Ratio} → Said b n r → 9 ≤ length b
-enough s = omega (arith, ap length (s .accepted .bytes), record-long (s .content))
-
-module _ {a b : List ℕ} {n m : ℕ} {r q : Ratio} (s : Said a n r) (t : Said b m q) {y : Bool}
-    (d : Decides (take (length a - 9) (drop 9 a) ≡ take (length b - 9) (drop 9 b)) y) where
-  pub same-yes : y ≡ true → Compared a b SameRecord
-  same-yes e = record {
-    first = s .content;
-    second = t .content;
-    first-accepted = s .accepted;
-    second-accepted = t .accepted;
-    holds = same-tails (s .accepted) (t .accepted) .0 (sym (part-from a 9) ∙ d .holds e ∙ part-from b 9);
-  }
-
-  pub same-no : y ≡ false → Compared a b (λ x y. SameRecord x y → ⊥)
-  same-no e = record {
-    first = s .content;
-    second = t .content;
-    first-accepted = s .accepted;
-    second-accepted = t .accepted;
-    holds = λ h. d .fails e (part-from a 9 ∙ same-tails (s .accepted) (t .accepted) .1 h ∙ sym (part-from b 9));
-  }
+pub both-fine : {a b : List ℕ} {n m : ℕ} {r q : Ratio} → Said a n r → Said b m q → sameRows a b ≡ Fine
+both-fine s t = rw (s .accepted .parsed, t .accepted .parsed)
 
 pub first-fault : (a b : List ℕ) {k : ℕ} → parse a ≡ faulty k → sameRows a b ≡ Declined (Record k)
 first-fault a b e = rw e
 
 pub second-fault : {a : List ℕ} {n : ℕ} {r : Ratio} → Said a n r → (b : List ℕ) {k : ℕ} → parse b ≡ faulty k → sameRows a b ≡ Declined (SecondRecord k)
 second-fault s b e = rw (s .accepted .parsed, e)
+
+not-declined : {A : Type 0} {x : Refusal} → Declined x ≡ Fine → A
+not-declined e = let z : _≡_ {A = ℕ} 0 1 = cc in absurd (omega arith)
+
+module _ {a b : List ℕ} (by : Bytes a) (bz : Bytes b) (fine : sameRows a b ≡ Fine) where
+  compared : {P : Content → Content → Type 0} → ((x y : Content) → SameRecord x y ↔ a ≡ b → P x y) → Compared a b P
+  compared {P} h = go (parse a) (parse b) refl refl fine
+    where
+      go : (p q : Parsed) → parse a ≡ p → parse b ≡ q → recordRow Record p thenCheck recordRow SecondRecord q ≡ Fine → Compared a b P
+      go (faulty k) q e d f = not-declined f
+      go (says x) (faulty k) e d f = not-declined f
+      go (says x) (says y) e d f =
+          let s = encode-parse by e in
+          let t = encode-parse bz d in
+          let w = same-bytes s t in
+          record { first = x; second = y; first-accepted = s; second-accepted = t; bytes = w; holds = h x y w }
+
+  pub same-yes : a ≡ b → Compared a b SameRecord
+  same-yes e = compared (λ x y w. w .1 e)
+
+  pub same-no : (a ≡ b → ⊥) → Compared a b (λ x y. SameRecord x y → ⊥)
+  same-no n = compared (λ x y w s. n (w .0 s))
+
+-- of two accepted records the answer is yes exactly if their bytes agree
+pub yes-bytes : {a b : List ℕ} {x y : Content} → Accepted a x → Accepted b y → (r : Comparison) → SameOutcome a b r → r ≡ Same ↔ a ≡ b
+yes-bytes p q Same o = (λ e. o .bytes .0 (o .holds), λ e. refl)
+yes-bytes p q Different o = (λ e. cc, λ e. absurd (o .holds (o .bytes .1 e)))
+yes-bytes p q (NotCompared c) o = let fine = rw (p .parsed, q .parsed) at o in (λ e. cc, λ e. cc)

@@ -10,6 +10,7 @@
 --   Entry, Fitting, Filled                   lists with an entry for a sample; for all samples; samples written over them
 -- Laws are in ReadingLaws, FaultPlaces, PassLaws and CommandsAt. Assumes nothing.
 use mathlib.Core.Path.{_≡_}
+use mathlib.Core.Logic.{_↔_}
 use mathlib.Core.Bool.{Bool, true, false, _&&_}
 use mathlib.Core.List.{List}
 use Prim.Native.Nat.{ℕ, _≤_}
@@ -84,12 +85,13 @@ abbrev pub ReadOutcome : List ℕ → List ℕ → List ℤ → Answer → List 
 ReadOutcome b ts vs (Given n r) ts′ vs′ = ReadBack b ts vs n r ts′ vs′
 ReadOutcome b ts vs (Refused e) ts′ vs′ = ReadDeclined b ts vs e ts′ vs′
 
--- both records are accepted, and P holds of their contents
+-- both records are accepted, they are the same exactly if their bytes agree, and P holds of their contents
 pub record Compared (a b : List ℕ) (P : Content → Content → Type 0) : Type 0 where
   pub first : Content
   pub second : Content
   pub first-accepted : Accepted a first
   pub second-accepted : Accepted b second
+  pub bytes : SameRecord first second ↔ a ≡ b
   pub holds : P first second
 
 abbrev pub SameOutcome : List ℕ → List ℕ → Comparison → Type 0

@@ -4,10 +4,11 @@ ghost use mathlib.Core.Path.{_≡_};
 ghost use Rattle.lists.specs.Decides.{Decides};
 ghost use Rattle.format.specs.Format.{headerOf};
 ghost use Rattle.format.specs.declared.Header.the-variants.{Start};
-ghost use Rattle.reader.specs.Reading.{CheckOutcome, ReadOutcome, SameOutcome};
+ghost use Rattle.reader.specs.Reading.{CheckOutcome, ReadOutcome, sameRows, SameOutcome};
 use format::Cursor;
 use format::Header;
 use ratio::Ratio;
+use refusal::Checked;
 use refusal::Refusal;
 
 // What a record says: the number of its samples and its tolerance, or the fault's byte.
@@ -77,7 +78,7 @@ pub fn read(bytes: &[u8], ticks: &mut [u32], values: &mut [i16]) -> Answer
     }
 }
 
-// Whether two lists of bytes are equal.
+// Whether two lists of bytes are equal. One pass without a way out, so that it is compiled to vector instructions.
 fn equal(a: &[u8], b: &[u8]) -> bool
     ensures { λ r. ⌜ Decides (now (a .entry) ≡ now (b .entry)) r ⌝ }
 {
@@ -85,35 +86,53 @@ fn equal(a: &[u8], b: &[u8]) -> bool
     if b.len() != n {
         return false;
     }
+    let mut some = false;
     let mut i = 0;
     while i < n {
-        if a[i] != b[i] {
-            return false;
-        }
+        let differ = a[i] != b[i];
+        some = some | differ;
         i += 1;
     }
-    true
+    !some
 }
 
-// Compares two records. Accepted ones have the same samples exactly if their bytes after the tolerance agree.
-pub fn same(a: &[u8], b: &[u8]) -> Comparison
-    ensures { λ r. ⌜ SameOutcome (now (a .entry)) (now (b .entry)) r ⌝ }
+// Checks two records: 8 for the first, then 9 for the second.
+fn check_both(a: &[u8], b: &[u8]) -> Checked
+    ensures { λ r. ⌜ r ≡ sameRows (now (a .entry)) (now (b .entry)) ⌝ }
 {
     let x = check(a);
     match x {
         Verdict::Samples(_, _) => {
             let y = check(b);
             match y {
-                Verdict::Samples(_, _) => {
-                    if equal(&a[9..], &b[9..]) {
-                        Comparison::Same
-                    } else {
-                        Comparison::Different
-                    }
-                }
-                Verdict::Fault(k) => Comparison::Refused(Refusal::SecondRecord(k)),
+                Verdict::Samples(_, _) => Checked::Fine,
+                Verdict::Fault(k) => Checked::Refused(Refusal::SecondRecord(k)),
             }
         }
-        Verdict::Fault(k) => Comparison::Refused(Refusal::Record(k)),
+        Verdict::Fault(k) => Checked::Refused(Refusal::Record(k)),
     }
+}
+
+// Compares two records that were checked. Accepted ones are the same exactly if their bytes agree.
+fn compare(a: &[u8], b: &[u8], checked: Checked) -> Comparison
+    requires { ⌜ checked ≡ sameRows (now a) (now b) ⌝ }
+    ensures { λ r. ⌜ SameOutcome (now (a .entry)) (now (b .entry)) r ⌝ }
+{
+    match checked {
+        Checked::Fine => {
+            if equal(a, b) {
+                return Comparison::Same;
+            }
+            Comparison::Different
+        }
+        Checked::Refused(cause) => Comparison::Refused(cause),
+    }
+}
+
+// Compares two records.
+pub fn same(a: &[u8], b: &[u8]) -> Comparison
+    ensures { λ r. ⌜ SameOutcome (now (a .entry)) (now (b .entry)) r ⌝ }
+{
+    let checked = check_both(a, b);
+    compare(a, b, checked)
 }

@@ -9,7 +9,7 @@ use crate::source::Source;
 use crate::stray::{crosses, lies};
 use crate::text::{self, List, Text};
 use crate::{
-    budget, check, draw, help, measure, near, output, pedestals, probes, report, sum, summary,
+    budget, check, draw, help, measure, near, output, pedestals, probes, report, same, sum, summary,
 };
 use kovrelna::{Least, Ratio, Refusal, Side, Tolerance, Verdict, GAP_MAX};
 use std::ffi::{OsStr, OsString};
@@ -24,6 +24,7 @@ pub fn find(name: &str) -> Option<Command> {
         "show" => show,
         "judge" => judge,
         "check" => check::check,
+        "same" => same::same,
         "measure" => measure::measure,
         "least" => least,
         "near" => near::near,

@@ -13,6 +13,7 @@ Usage: kovrelna COMMAND [OPTION..] [FILE..]
   show      print records as text
   judge     say whether a list of samples is within a tolerance
   check     say whether a record may stand for a trace
+  same      say whether two records are the same, or what differs
   measure   say how far a link strays from its trace, and at which sample
   least     say how near a list of so many samples can come
   near      say how near the lists of walk and gallop are to the shortest
@@ -38,10 +39,10 @@ lie further apart are a hole: no link crosses it but the one between these two.
 Without a file, or with -, standard input is read. Errors go to standard error
 as `kovrelna: FILE: cause` or `kovrelna: FILE:LINE: cause`.
 
-Exit status: 0 done (judge, check: yes; pedestals: nothing is listed), 1 judge
-or check says no, or pedestals lists a channel, 2 error, also, without a word,
-where a pipe is closed before all is written. A closed standard output (>&-) is
-not noticed: what is written there is lost.
+Exit status: 0 done (judge, check, same: yes; pedestals: nothing is listed), 1
+judge, check or same says no, or pedestals lists a channel, 2 error, also,
+without a word, where a pipe is closed before all is written. A closed standard
+output (>&-) is not noticed: what is written there is lost.
 ";
 
 pub const RECORD: &str = "\
@@ -130,6 +131,24 @@ Usage: kovrelna check [--gap G] RECORD TRACE
 
 Exit status: 0 yes, 1 no, 2 error (the record is faulty, TRACE is no trace, or
 one of them cannot be read).
+";
+
+pub const SAME: &str = "\
+Says whether two records are the same: their samples agree, and so do their
+tolerances. That is so exactly if their bytes agree. Prints `yes`, or a line
+with what differs,
+
+  no: the samples differ
+  no: the tolerances differ
+  no: the samples and the tolerances differ
+
+and after it a line with the first sample that differs or that one of them
+lacks, and one with the two tolerances, each if it does. Samples are counted
+from 0. One of the two may be - for standard input.
+
+Usage: kovrelna same RECORD RECORD
+
+Exit status: 0 yes, 1 no, 2 error (a record is faulty or cannot be read).
 ";
 
 pub const MEASURE: &str = "\

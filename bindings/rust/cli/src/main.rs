@@ -26,8 +26,8 @@
 //! - `rounded`: numbers that are rounded in print.
 //! - `budget`: what an error budget may say.
 //! - `commands`: one function for each command.
-//! - `check`, `draw`, `measure`, `near`, `pedestals`, `probes`, `report`, `sum`, `summary`: commands with
-//!   a file of their own.
+//! - `check`, `draw`, `measure`, `near`, `pedestals`, `probes`, `report`, `same`, `sum`, `summary`:
+//!   commands with a file of their own.
 //!
 //! Which samples are kept, whether a list is within a tolerance and where it strays, what a tolerance is
 //! held as, what is in a record, what two traces add up to and which channels have moved or are noisy:
@@ -61,6 +61,7 @@ mod records;
 mod report;
 mod rounded;
 mod runs;
+mod same;
 mod source;
 mod stray;
 mod sum;

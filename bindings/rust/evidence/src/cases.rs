@@ -433,6 +433,7 @@ fn damaged_record(most: i64, random: &mut Random) {
     let _ = read(&damaged, 4_096, room);
     let _ = same(&record, &damaged);
     let _ = same(&damaged, &record);
+    let _ = same(&damaged, &damaged);
 }
 
 /// Commands in any order, with any operands. Whether they are a record.
@@ -455,19 +456,22 @@ pub fn random_commands(random: &mut Random) -> bool {
     read(&record, 4_096, 4_096).is_ok()
 }
 
-/// Equal samples under different tolerances, and contents that differ in one place.
+/// A record beside itself, one with the same samples at another tolerance, and contents that differ in one
+/// place of their samples.
 pub fn comparison(random: &mut Random) {
     let samples = random.within(1, 12) as usize;
     let one = content(samples, random);
     let record = encode(&one);
+    assert_eq!(same(&record, &record), Ok(true));
     // The same samples.
     let tolerance = content(1, random).tolerance;
+    let agree = tolerance == one.tolerance;
     let other = Content {
         tolerance,
         ..one.clone()
     };
-    assert_eq!(same(&record, &encode(&other)), Ok(true));
-    assert_eq!(same(&encode(&other), &record), Ok(true));
+    assert_eq!(same(&record, &encode(&other)), Ok(agree));
+    assert_eq!(same(&encode(&other), &record), Ok(agree));
     // Another value, another tick, other ticks, a sample fewer; where that is still a trace.
     let at = random.below(samples as u64) as usize;
     let mut others = vec![one.clone(); 4];

@@ -509,10 +509,12 @@ pub fn read(record: &[u8], ticks_room: usize, values_room: usize) -> Result<Cont
 }
 
 /// Calls `same` between two kinds of guard elements, compares with the reference, sees that no
-/// element changed, and returns the answer or the refusal's row.
+/// element changed and that accepted records are the same exactly if their bytes agree, and returns the
+/// answer or the refusal's row.
 pub fn same(one: &[u8], other: &[u8]) -> Result<bool, Row> {
     let expected = record::same(one, other);
     Call::Same.count(&expected);
+    assert!(expected.is_err() || expected == Ok(one == other));
     for guards in GUARDS {
         let (one, other) = (Guarded::new(one, guards.3), Guarded::new(other, guards.3));
         let answer = kovrelna::same(one.slice(), other.slice()).map_err(row);

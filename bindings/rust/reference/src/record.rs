@@ -238,11 +238,11 @@ pub fn read(record: &[u8], ticks: usize, values: usize) -> Result<Content, Row> 
     Ok(content)
 }
 
-/// The first row that fits, or whether the kept samples agree.
+/// The first row that fits, or whether the kept samples and the tolerances agree.
 pub fn same(one: &[u8], other: &[u8]) -> Result<bool, Row> {
     let one = decode(one).map_err(|fault| (8, fault as u64))?;
     let other = decode(other).map_err(|fault| (9, fault as u64))?;
-    Ok(one.samples == other.samples)
+    Ok(one.samples == other.samples && one.tolerance == other.tolerance)
 }
 
 #[cfg(test)]

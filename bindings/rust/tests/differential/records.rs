@@ -201,6 +201,7 @@ fn damage(record: &[u8], at: usize, values: impl Iterator<Item = u8>, seen: &mut
         }
         same(record, &damaged).ok();
         same(&damaged, record).ok();
+        same(&damaged, &damaged).ok();
     }
 }
 
@@ -271,6 +272,25 @@ fn cut_at_every_length() {
             // Of two faulty records the first is refused.
             assert_eq!(same(cut, &record[1..]), Err((8, fault)));
             assert_eq!(same(&record[1..], cut), Err((8, 0)));
+            assert_eq!(same(cut, cut), Err((8, fault)));
+        }
+    }
+}
+
+/// One list of samples under each two of these tolerances, whose ratios differ in one byte or in more.
+#[test]
+fn tolerances_compared() {
+    const PRIME: u64 = 1_048_573;
+    let mut tolerances = vec![(0, 1), (1, 1), (2, 1), (65_535, 1), (5, PRIME)];
+    tolerances.extend([8, 16, 24, 32].map(|shift| (5 + (1 << shift), PRIME)));
+    tolerances.extend([2, 257, 65_537].map(|q| (1, q)));
+    let records: Vec<Vec<u8>> = tolerances
+        .iter()
+        .map(|&(p, q)| [tolerance(p, q), first(5, 0), short(3, 1), end(2)].concat())
+        .collect();
+    for (i, one) in records.iter().enumerate() {
+        for (j, other) in records.iter().enumerate() {
+            assert_eq!(same(one, other), Ok(i == j), "{one:02x?} {other:02x?}");
         }
     }
 }

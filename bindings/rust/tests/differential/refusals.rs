@@ -1064,8 +1064,9 @@ fn links() -> Vec<Entry> {
 
 fn records() -> Vec<Entry> {
     let whole = accepted().record;
-    let cases: [(&[u8], &[u8], Option<Row>); 7] = [
+    let cases: [(&[u8], &[u8], Option<Row>); 8] = [
         (&whole, &whole, None),
+        (&whole[..18], &whole[..18], Some((8, 16))),
         (&whole[..18], &whole, Some((8, 16))),
         (&whole, &whole[..18], Some((9, 16))),
         (&whole[..18], &whole[..20], Some((8, 16))),

@@ -11,6 +11,7 @@
 //! - `pedestals`: two runs of a crate.
 //! - `probes`: gallop's probes.
 //! - `report`: the sheet of a crate.
+//! - `same`: whether two records are the same.
 //! - `signals`: runs that are ended while they write a file.
 //! - `sum`: two traces added.
 
@@ -25,6 +26,7 @@ mod near;
 mod pedestals;
 mod probes;
 mod report;
+mod same;
 mod signals;
 mod sum;
 
@@ -430,6 +432,8 @@ fn noise() {
             &["probes", "-t1"],
             &["check", "-", path(&pulse)],
             &["check", path(&wave), "-"],
+            &["same", "-", path(&wave)],
+            &["same", path(&wave), "-"],
             &["measure", "0", "1"],
             &["pedestals", "-t1", "-k1", "-", path(&pulse)],
             &["pedestals", "-t1", "-k1", path(&pulse), "-"],
@@ -517,6 +521,7 @@ fn help() {
         "show",
         "judge",
         "check",
+        "same",
         "measure",
         "least",
         "near",
@@ -556,6 +561,7 @@ fn full_output() {
         &["draw", "-t1"],
         &["judge", "-t1", "-l0,4"],
         &["check", wave, "-"],
+        &["same", wave, wave],
         &["measure", "0", "1"],
         &["near", "-t1"],
         &["probes", "-t1"],

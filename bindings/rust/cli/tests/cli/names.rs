@@ -34,6 +34,12 @@ fn bytes_of_names() {
         text.as_bytes(),
     ];
     assert_eq!(shown.stdout, expected.concat());
+    let mut other = fs::read(&wave).unwrap();
+    other[5] = 3;
+    fs::write(folder.join("w"), other).unwrap();
+    let differ = b"no: the tolerances differ\nthe tolerance is 3/1 in w, and 2/1 in ";
+    let same = run_on(&folder, &["same", "w"], NAME);
+    assert_eq!(same.stdout, [&differ[..], NAME, b"\n"].concat());
     let summary = run_on(&folder, &["summary"], NAME);
     let line = [b"\n5\t4\t2/1\t-2\t2\t31\t", NAME, b"\n"].concat();
     let found = summary.stdout.windows(line.len()).any(|part| part == line);
