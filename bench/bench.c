@@ -252,7 +252,7 @@ typedef struct kept_record {
   int16_t expanded[SAMPLES];
   uint16_t list[SAMPLES];
   size_t kept, length;
-  uint8_t bytes[BYTES];
+  uint8_t bytes[BYTES], copy[BYTES];
   uint32_t read_ticks[SAMPLES];
   int16_t read_values[SAMPLES];
   summand other;
@@ -284,6 +284,15 @@ static size_t library_read(kept_record *r) {
 
 static size_t plain_read(kept_record *r) {
   return read_c(r->bytes, r->length, r->read_ticks, r->read_values, SAMPLES);
+}
+
+/* How many samples the record has, if its copy is the same. */
+static size_t library_same(kept_record *r) {
+  return kovrelna_same(r->bytes, r->length, r->copy, r->length).passed ? r->kept : 0;
+}
+
+static size_t plain_same(kept_record *r) {
+  return same_c(r->bytes, r->length, r->copy, r->length) > 0 ? r->kept : 0;
 }
 
 /* How many samples are kept, if the list passes. */
@@ -362,6 +371,8 @@ enum {
   WRITE_C,
   READ,
   READ_C,
+  SAME,
+  SAME_C,
   JUDGE,
   JUDGE_C,
   MEASURE,
@@ -383,6 +394,8 @@ static const struct {
                          {"write_c", plain_write},
                          {"kovrelna_read", library_read},
                          {"read_c", plain_read},
+                         {"kovrelna_same", library_same},
+                         {"same_c", plain_same},
                          {"kovrelna_judge", library_judge},
                          {"judge_c", plain_judge},
                          {"kovrelna_measure", library_measure},
@@ -426,6 +439,7 @@ static void make_record(kept_record *r, size_t kind, int all, size_t (*write)(ke
   for (k = 0; k < SAMPLES; k++) r->codes[k] = (uint8_t)(7 * k + (size_t)r->values[k]);
   for (k = 0; k < CODES; k++) r->table[k] = (int16_t)(k * (k + 1) / 2);
   r->length = write(r);
+  memcpy(r->copy, r->bytes, r->length);
 }
 
 /* What a call answers. */
@@ -498,11 +512,9 @@ static int is_expanded(const kept_record *r, int by_table) {
 
 /* Times every call on the record of all samples or of walk's list. */
 static void measure_records(kept_record *r, size_t kind, int all) {
-  static uint8_t bytes[BYTES];
   link_measure measure;
   int repetition, x, k;
   make_record(r, kind, all, plain_write);
-  memcpy(bytes, r->bytes, r->length);
   same_verdicts(r);
   plain_measure(r);
   measure = r->measure;
@@ -519,7 +531,7 @@ static void measure_records(kept_record *r, size_t kind, int all) {
       start = now();
       for (k = 0; k < RECORD_CALLS; k++) answer = RECORDER[x].call(r);
       record_times[x][repetition] = 1e-3 * (now() - start) / RECORD_CALLS;
-      if (answer != expected(r, x) || memcmp(r->bytes, bytes, r->length) != 0 ||
+      if (answer != expected(r, x) || memcmp(r->bytes, r->copy, r->length) != 0 ||
           !same_measure(&r->measure, &measure) ||
           ((x == READ || x == READ_C) && !is_read(r)) ||
           ((x == SUM || x == SUM_C) && !is_summed(r)) ||
@@ -533,12 +545,14 @@ static void print_records(void) {
   static kept_record r;
   int x, all;
   size_t kind;
-  printf("\nWalk's list and all samples at tolerance 7.50: written to a record, read, judged; the\n"
-         "link from the first sample to the last measured; the trace and its list added to another\n"
-         "with such a list; and %d range codes expanded, also by a table of the caller; last C that\n"
-         "expands them by a table of its own, and the ratio of expand to it. Microseconds a call.\n"
+  printf("\nWalk's list and all samples at tolerance 7.50: written to a record, read, compared with a\n"
+         "copy, judged; the link from the first sample to the last measured; the trace and its list\n"
+         "added to another with such a list; and %d range codes expanded, also by a table of the\n"
+         "caller; last C that expands them by a table of its own, and the ratio of expand to it.\n"
+         "Microseconds a call.\n"
          "         samples   bytes     write       C   ratio      read       C   ratio"
-         "     judge       C   ratio   measure       C   ratio       sum       C   ratio"
+         "      same       C   ratio     judge       C   ratio   measure       C   ratio"
+         "       sum       C   ratio"
          "    expand       C   ratio  by table       C   ratio C table   ratio\n",
          SAMPLES);
   for (kind = 0; kind < COUNT(KINDS); kind++) {

@@ -33,7 +33,7 @@ bench=$1
 echo
 echo "Instructions a sample, whole call, 4096 samples, tolerance 7.50; records and lists of all samples,"
 echo "and the link from the first to the last"
-table 4096 walk gallop minimum write read judge measure sum expand expand_with
+table 4096 walk gallop minimum write read same judge measure sum expand expand_with
 echo
 echo "Instructions a sample, whole call, 256 samples, allowance 20"
 table 256 least

@@ -778,13 +778,14 @@ static const uint8_t *take_step(const uint8_t *at, int64_t *tick, int64_t *value
   return at + LONG;
 }
 
-size_t read_c(const uint8_t *record, size_t length, uint32_t *ticks, int16_t *values, size_t room) {
-  const uint8_t *at, *steps, *end = record + length;
-  size_t samples = 1, k;
+/* The number of the record's samples, 0 if it is faulty. */
+static size_t samples_in(const uint8_t *record, size_t length) {
+  const uint8_t *at, *end = record + length;
+  size_t samples = 1;
   int64_t first, tick, value;
   if (length < TOLERANCE + FIRST + END || record[0] != 0x54 || record[TOLERANCE] != 0x41) return 0;
   if (!is_reduced(get(record + 1, 5), get(record + 6, 3))) return 0;
-  at = steps = record + TOLERANCE + FIRST;
+  at = record + TOLERANCE + FIRST;
   first = tick = (int64_t)get(record + TOLERANCE + 1, 4);
   value = (int16_t)get(record + TOLERANCE + 5, 2);
   while ((end - at >= SHORT && at[0] == 0x53) || (end - at >= LONG && at[0] == 0x4C)) {
@@ -796,8 +797,15 @@ size_t read_c(const uint8_t *record, size_t length, uint32_t *ticks, int16_t *va
       return 0;
     samples++;
   }
-  if (end - at != END || at[0] != 0x45 || get(at + 1, 2) != samples || room < samples) return 0;
-  tick = first;
+  return end - at == END && at[0] == 0x45 && get(at + 1, 2) == samples ? samples : 0;
+}
+
+size_t read_c(const uint8_t *record, size_t length, uint32_t *ticks, int16_t *values, size_t room) {
+  const uint8_t *steps = record + TOLERANCE + FIRST;
+  size_t samples = samples_in(record, length), k;
+  int64_t tick, value;
+  if (samples == 0 || room < samples) return 0;
+  tick = (int64_t)get(record + TOLERANCE + 1, 4);
   value = (int16_t)get(record + TOLERANCE + 5, 2);
   ticks[0] = (uint32_t)tick;
   values[0] = (int16_t)value;
@@ -807,4 +815,9 @@ size_t read_c(const uint8_t *record, size_t length, uint32_t *ticks, int16_t *va
     values[k] = (int16_t)value;
   }
   return samples;
+}
+
+int same_c(const uint8_t *first, size_t first_n, const uint8_t *second, size_t second_n) {
+  if (samples_in(first, first_n) == 0 || samples_in(second, second_n) == 0) return -1;
+  return first_n == second_n && memcmp(first, second, first_n) == 0;
 }

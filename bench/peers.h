@@ -161,4 +161,8 @@ size_t write_c(const uint32_t *ticks, const int16_t *values, size_t n, const uin
  * output has no room. */
 size_t read_c(const uint8_t *record, size_t length, uint32_t *ticks, int16_t *values, size_t room);
 
+/* Checks both records, then compares their bytes: 1 if they are the same, 0 if not, -1 if one is
+ * faulty. */
+int same_c(const uint8_t *first, size_t first_n, const uint8_t *second, size_t second_n);
+
 #endif

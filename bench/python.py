@@ -88,6 +88,7 @@ def main():
         "write": (listed, kovrelna.write, *whole, kept, 7.5),
         "sum": (summed, kovrelna.sum, *pair),
         "read": (f"a record of {len(kept)} samples", kovrelna.read, record),
+        "same": (f"two records of {len(kept)} samples", kovrelna.same, record, bytes(record)),
         "expand": (f"{len(codes):,} codes", kovrelna.expand, codes),
         "expand_with": (f"{len(codes):,} codes, a table", kovrelna.expand_with, codes, table),
         "shortest": ("2 samples", kovrelna.walk, *two, 7.5),

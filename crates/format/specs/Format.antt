@@ -202,7 +202,7 @@ pub record Accepted (b : List ℕ) (x : Content) : Type 0 where
 
 -- ---- comparison
 
--- document 02, wish 9
+-- document 02, "Same record, strictly"
 pub record SameRecord (x y : Content) : Type 0 where
   pub tolerance : x .tolerance ≡ y .tolerance
   pub ticks : x .ticks ≡ y .ticks
