@@ -1635,6 +1635,11 @@ static void records(void) {
   changed[8] = 5;
   SAME(figure, 22, changed, 22, 0, 0, 0);
   SAME(figure, 22, steps, 37, 0, 0, 0);
+  /* The high byte of p alone. */
+  memcpy(changed, wide, 25);
+  changed[1] = 0x0E;
+  SAME(wide, 25, changed, 25, 0, 0, 0);
+  SAME(changed, 25, changed, 25, 0, 1, 0);
   SAME(figure, 22, figure, 21, KOVRELNA_REFUSED_SECOND_RECORD, 0, 19);
   SAME(figure, 15, figure, 22, KOVRELNA_REFUSED_RECORD, 0, 9);
   SAME(figure, 15, figure, 21, KOVRELNA_REFUSED_RECORD, 0, 9);

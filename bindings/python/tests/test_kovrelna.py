@@ -320,6 +320,13 @@ class Figures(Case):
         for ticks, changed in [([0, 4], [0, 1]), ([0, 5], [0, 0]), ([0, 4, 5], [0, 0, 0])]:
             other = kovrelna.write(ticks, changed, range(len(ticks)), 5)
             self.assertIs(kovrelna.same(records[1], other), False)
+        # Ratios that differ in one byte of the record or in more.
+        forms = [Ratio(1, q) for q in (1, 2, 257, 65537)]
+        forms += [Ratio(5 + more, 1048573) for more in (0, 2**8, 2**16, 2**24, 2**32)]
+        records = [kovrelna.write([0, 4], [0, 0], [0, 1], form) for form in forms]
+        for one in records:
+            for other in records:
+                self.assertIs(kovrelna.same(one, other), one is other)
 
     def test_every_pair_of_lists(self):
         for size in range(1, 6):
