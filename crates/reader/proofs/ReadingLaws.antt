@@ -4,7 +4,7 @@ use mathlib.Core.Path.{_≡_, refl, sym, ap, _∙_, subst}
 use mathlib.Core.Logic.{_↔_}
 use mathlib.Core.Bool.{Bool, true, false, _&&_}
 use mathlib.Core.List.{List}
-use Prim.Native.Nat.{ℕ, _-_, _≤_}
+use Prim.Native.Nat.{ℕ, _≤_}
 use native.Mathlib.Omega.{arith}
 use borrow.Author.Tests.{le-leb}
 use lib.Dec.{leb}
@@ -145,6 +145,7 @@ second-fault s b e = rw (s .accepted .parsed, e)
 not-declined : {A : Type 0} {x : Refusal} → Declined x ≡ Fine → A
 not-declined e = let z : _≡_ {A = ℕ} 0 1 = cc in absurd (omega arith)
 
+-- records that no row declines are accepted
 module _ {a b : List ℕ} (by : Bytes a) (bz : Bytes b) (fine : sameRows a b ≡ Fine) where
   compared : {P : Content → Content → Type 0} → ((x y : Content) → SameRecord x y ↔ a ≡ b → P x y) → Compared a b P
   compared {P} h = go (parse a) (parse b) refl refl fine
