@@ -558,8 +558,8 @@ typedef struct kovrelna_verdict {
 
 /* Whether two records are the same: their samples agree, and so do their tolerances. For accepted
  * records that is so exactly if their bytes agree. Whether the samples alone agree, kovrelna_read of
- * each shows. Refusals: 8 for the first record, then 9 for the second, also for two faulty records
- * whose bytes agree. */
+ * each shows. Refusals: 8 for the first record, then 9 for the second; 8 for two faulty records with
+ * the same bytes. */
 kovrelna_verdict kovrelna_same(const uint8_t *first, size_t first_len,
                                const uint8_t *second, size_t second_len);
 

@@ -894,8 +894,8 @@ def read(
 def same(first: Lent, second: Lent) -> bool:
     """Whether two records are the same: their samples agree, and so do their tolerances. For
     accepted records that is so exactly if their bytes agree. Whether the samples alone agree,
-    `read` of each shows. Refusals: 8 for the first record, then 9 for the second, also for two
-    faulty records whose bytes agree.
+    `read` of each shows. Refusals: 8 for the first record, then 9 for the second; 8 for two faulty
+    records with the same bytes.
 
     >>> records = [write([0, 1, 3], [0, 1, 1], [0, 2], counts) for counts in (1.0, 2.5)]
     >>> same(*records)

@@ -934,8 +934,8 @@ pub fn read(record: &[u8], ticks: &mut [u32], values: &mut [i16]) -> Result<Cont
 
 /// Whether two records are the same: their samples agree, and so do their tolerances. For accepted
 /// records that is so exactly if their bytes agree. Whether the samples alone agree, [`read`] of each
-/// shows. Refusals: [`Refusal::Record`] for the first, then [`Refusal::SecondRecord`] for the second,
-/// also for two faulty records whose bytes agree.
+/// shows. Refusals: [`Refusal::Record`] for the first, then [`Refusal::SecondRecord`] for the second;
+/// [`Refusal::Record`] for two faulty records with the same bytes.
 ///
 /// ```
 /// use kovrelna::{same, write, Refusal, Tolerance};

@@ -142,9 +142,9 @@ with what differs,
   no: the tolerances differ
   no: the samples and the tolerances differ
 
-and after it a line with the first sample that differs or that one of them
-lacks, and one with the two tolerances, each if it does. Samples are counted
-from 0. One of the two may be - for standard input.
+and after it, where samples differ, a line with the first that differs or that
+one of them lacks; where tolerances differ, a line with both. Samples are
+counted from 0. One of the two may be - for standard input.
 
 Usage: kovrelna same RECORD RECORD
 
