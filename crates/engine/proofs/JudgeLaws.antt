@@ -16,7 +16,7 @@ use Rattle.refusal.specs.declared.Checked.{Checked}
 use Rattle.refusal.specs.declared.Checked.the-variants.{Fine, Refused}
 use Rattle.refusal.proofs.TableLaws.{then-fine}
 use Rattle.kept.specs.Kept.{KeptList, AllValid}
-use Rattle.engine.specs.declared.Limits.{Limits}
+use Rattle.limits.specs.declared.Limits.{Limits}
 use Rattle.trace.specs.declared.Criterion.{Criterion}
 use Rattle.trace.specs.declared.Measure.{Measure}
 use Rattle.trace.specs.Trace.{Trace}
@@ -27,9 +27,9 @@ use Rattle.proposed.specs.Proposed.{entry, listRow, invalidAt, firstInvalid, fa
 use Rattle.proposed.proofs.ProposedLaws.{row-kept, kept-link, all-valid}
 use Rattle.engine.specs.declared.Verdict.{Verdict}
 use Rattle.engine.specs.declared.Verdict.the-variants.{Yes, No, Refused as Declined}
-use Rattle.engine.specs.Prepare.{commonRows, criterionOf}
+use Rattle.limits.specs.Prepare.{commonRows, criterionOf}
 use Rattle.engine.specs.Judge.{judgeRows, listVerdict, declineOr, judgeOf, judgedAt, JudgeOutcome}
-use Rattle.engine.proofs.PrepareLaws.{common-trace}
+use Rattle.limits.proofs.PrepareLaws.{common-trace}
 
 -- ---- the verdict
 

@@ -26,7 +26,7 @@ use Rattle.trace.proofs.Errors.{trace-measures}
 use Rattle.closest.specs.declared.Found.{Found}
 use Rattle.closest.specs.Closest.{leastError, obeyingList, fewestSamples, Task}
 use Rattle.closest.proofs.ClosestLaws.{obeying-kept, obeying-obeys, none-fits}
-use Rattle.engine.specs.Prepare.{gapRow}
+use Rattle.limits.specs.Prepare.{gapRow}
 use Rattle.engine.specs.Least.{allowanceRow, holesRow, allowedRows, leastRows, okAt, LeastKept}
 
 module _ (ts : List ℕ) (g m room : ℕ) where

@@ -1,6 +1,5 @@
 -- The laws of the public calls' definitions.
 pub mod HoldLaws
-pub mod PrepareLaws
 pub mod MeasureLaws
 pub mod JudgeLaws
 pub mod ReduceLaws

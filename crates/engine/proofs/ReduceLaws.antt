@@ -9,7 +9,7 @@ use lib.ListN.{length}
 use Rattle.lists.specs.Overwrite.{Wrote}
 use Rattle.lists.proofs.OverwriteLaws.{wrote-read}
 use Rattle.kept.specs.Kept.{Greedy}
-use Rattle.engine.specs.declared.Limits.{Limits}
+use Rattle.limits.specs.declared.Limits.{Limits}
 use Rattle.trace.specs.declared.Criterion.{Criterion}
 use Rattle.trace.specs.Trace.{Trace}
 use Rattle.reduction.specs.Walking.{walkList}
@@ -17,7 +17,7 @@ use Rattle.reduction.specs.Galloping.{gallopList, gallopTotal}
 use Rattle.reduction.proofs.ReductionLaws.{walk-list-greedy, gallop-list-greedy, greedy-short, gallop-stop-probes, gallop-total}
 use Rattle.shortest.specs.Shortest.{minimumList}
 use Rattle.shortest.proofs.ShortestLaws.{minimum-list}
-use Rattle.engine.specs.Prepare.{criterionOf, OutputReady}
+use Rattle.limits.specs.Prepare.{criterionOf, OutputReady}
 use Rattle.engine.specs.Reduce.{okOf, GreedyList, WalkKept, GallopKept}
 use Rattle.engine.specs.Minimum.{MinimumKept}
 

@@ -11,7 +11,7 @@ use Rattle.lists.specs.Overwrite.{overwrite}
 use Rattle.refusal.specs.declared.Refusal.{Refusal}
 use Rattle.refusal.specs.declared.Refusal.the-variants.{Room}
 use Rattle.refusal.specs.declared.Checked.the-variants.{Fine, Refused}
-use Rattle.engine.specs.declared.Limits.{Limits}
+use Rattle.limits.specs.declared.Limits.{Limits}
 use Rattle.trace.specs.declared.Criterion.{Criterion}
 use Rattle.sheet.specs.declared.Summary.{Summary}
 use Rattle.sheet.specs.declared.Reported.{Reported}
@@ -19,7 +19,7 @@ use Rattle.sheet.specs.declared.Sheet.{Sheet}
 use Rattle.channels.specs.Channels.{crateRow}
 use Rattle.channels.proofs.ChannelLaws.{crate-divided}
 use Rattle.sheet.specs.Report.{rowsFrom, totalsOf, Rows, Declined, filled}
-use Rattle.engine.specs.Prepare.{limitRows, Sets}
+use Rattle.limits.specs.Prepare.{limitRows, Sets}
 use Rattle.engine.specs.Report.{crateRows, ReportOutcome, Surveyed}
 
 module _ (ts : List ℕ) (vs : List ℤ) (ls : List ℕ) (t : Limits) (room : ℕ) where

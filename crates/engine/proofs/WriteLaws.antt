@@ -12,7 +12,7 @@ use Rattle.refusal.specs.declared.Refusal.the-variants.{Link}
 use Rattle.refusal.specs.declared.Checked.{Checked}
 use Rattle.refusal.specs.declared.Checked.the-variants.{Fine, Refused}
 use Rattle.refusal.proofs.TableLaws.{then-fine}
-use Rattle.engine.specs.declared.Limits.{Limits}
+use Rattle.limits.specs.declared.Limits.{Limits}
 use Rattle.tolerance.specs.declared.Meaning.{Meaning}
 use Rattle.tolerance.specs.declared.Meaning.the-variants.{Exact, NotAllowed}
 use Rattle.tolerance.specs.Meaning.{meaning, Held}
@@ -24,8 +24,7 @@ use Rattle.proposed.specs.Proposed.{listRow, firstInvalid}
 use Rattle.proposed.proofs.ProposedLaws.{row-kept}
 use Rattle.format.specs.Format.{encode}
 use Rattle.writer.specs.Writing.{Kept, selected, writeRow, WrittenAt, WriteDeclined}
-use Rattle.engine.specs.Hold.{toleranceRow}
-use Rattle.engine.specs.Prepare.{commonRows, criterionIn, criterionOf, ReadyAt}
+use Rattle.limits.specs.Prepare.{toleranceRow, commonRows, criterionIn, criterionOf, ReadyAt}
 use Rattle.engine.specs.Judge.{judgeRows}
 use Rattle.engine.specs.Write.{contentOf, writeRows, Recorded, ListReady}
 

@@ -1,23 +1,16 @@
 -- The outcome of `hold` (document 01, "Tolerances" and row 4 of "When the engine declines").
---   toleranceRow   4: tolerance not allowed
---   holdingOf      what `hold` answers for a meaning
---   HoldOutcome    the contract
+--   holdingOf     what `hold` answers for a meaning
+--   HoldOutcome   the contract
 -- Assumes nothing.
 use mathlib.Core.Path.{_≡_}
 use Rattle.ratio.specs.declared.Ratio.{Ratio}
 use Rattle.refusal.specs.declared.Refusal.the-variants.{Tolerance as NotAllowedTolerance}
-use Rattle.refusal.specs.declared.Checked.{Checked}
-use Rattle.refusal.specs.declared.Checked.the-variants.{Fine, Refused}
 use Rattle.tolerance.specs.declared.Tolerance.{Tolerance}
 use Rattle.tolerance.specs.declared.Meaning.{Meaning}
 use Rattle.tolerance.specs.declared.Meaning.the-variants.{Exact, NotAllowed}
 use Rattle.tolerance.specs.Meaning.{meaning, Held as IsHeld}
 use Rattle.engine.specs.declared.Holding.{Holding}
 use Rattle.engine.specs.declared.Holding.the-variants.{Held, Refused as Declined}
-
-abbrev pub toleranceRow : Meaning → Checked
-toleranceRow (Exact r) = Fine
-toleranceRow NotAllowed = Refused NotAllowedTolerance
 
 abbrev pub holdingOf : Meaning → Holding
 holdingOf (Exact r) = Held r

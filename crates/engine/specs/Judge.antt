@@ -18,7 +18,7 @@ use Rattle.refusal.specs.declared.Checked.{Checked}
 use Rattle.refusal.specs.declared.Checked.the-variants.{Fine, Refused}
 use Rattle.refusal.specs.Table.{_thenCheck_}
 use Rattle.kept.specs.Kept.{KeptList, AllValid}
-use Rattle.engine.specs.declared.Limits.{Limits}
+use Rattle.limits.specs.declared.Limits.{Limits}
 use Rattle.trace.specs.declared.Criterion.{Criterion}
 use Rattle.trace.specs.declared.Measure.{Measure}
 use Rattle.trace.specs.Link.{valid}
@@ -26,7 +26,7 @@ use Rattle.trace.specs.Measure.{Offends}
 use Rattle.proposed.specs.Proposed.{entry, listRow, firstInvalid, faultAt}
 use Rattle.engine.specs.declared.Verdict.{Verdict}
 use Rattle.engine.specs.declared.Verdict.the-variants.{Yes, No, Refused as Declined}
-use Rattle.engine.specs.Prepare.{commonRows, criterionOf}
+use Rattle.limits.specs.Prepare.{commonRows, criterionOf}
 
 unfoldable pub judgeRows : List ℕ → List ℤ → List ℕ → Limits → Checked
 judgeRows ts vs l t = commonRows ts vs t thenCheck listRow (length ts) l

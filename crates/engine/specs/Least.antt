@@ -25,7 +25,7 @@ use Rattle.trace.specs.Link.{obeys, valid, linkError, limited, criterion, Bound
 use Rattle.shortest.specs.Shortest.{minimumList}
 use Rattle.closest.specs.declared.Found.{Found}
 use Rattle.closest.specs.Closest.{leastError, fewestSamples}
-use Rattle.engine.specs.Prepare.{gapRow}
+use Rattle.limits.specs.Prepare.{gapRow}
 use Rattle.engine.specs.declared.Closest.{Closest}
 use Rattle.engine.specs.declared.Closest.the-variants.{Kept, Refused as Declined}
 

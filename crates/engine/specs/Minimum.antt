@@ -11,11 +11,11 @@ use lib.ListN.{length}
 use Rattle.lists.specs.Overwrite.{Wrote}
 use Rattle.refusal.specs.declared.Checked.the-variants.{Fine, Refused}
 use Rattle.kept.specs.Minimum.{Minimum}
-use Rattle.engine.specs.declared.Limits.{Limits}
+use Rattle.limits.specs.declared.Limits.{Limits}
 use Rattle.shortest.specs.Shortest.{minimumList}
 use Rattle.engine.specs.declared.Reduced.{Reduced}
 use Rattle.engine.specs.declared.Reduced.the-variants.{Kept, Refused as Declined}
-use Rattle.engine.specs.Prepare.{criterionOf, outputRows}
+use Rattle.limits.specs.Prepare.{criterionOf, outputRows}
 use Rattle.engine.specs.Reduce.{okOf}
 
 -- minimum kept n samples, and the lent list o became o′: a kept list of valid links, none is shorter, and of those of its length the latest

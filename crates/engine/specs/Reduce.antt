@@ -15,7 +15,7 @@ use Rattle.lists.specs.Overwrite.{Wrote}
 use Rattle.refusal.specs.declared.Checked.the-variants.{Fine, Refused}
 use Rattle.kept.specs.Kept.{KeptList, AllValid, MaximalStops, EachLink}
 use Rattle.kept.specs.Gallop.{gallopSearch, stopProbes, listProbes}
-use Rattle.engine.specs.declared.Limits.{Limits}
+use Rattle.limits.specs.declared.Limits.{Limits}
 use Rattle.trace.specs.Link.{valid, NoLonger}
 use Rattle.reduction.specs.Walking.{walkList}
 use Rattle.reduction.specs.Galloping.{gallopList, gallopTotal}
@@ -23,7 +23,7 @@ use Rattle.engine.specs.declared.Reduced.{Reduced}
 use Rattle.engine.specs.declared.Reduced.the-variants.{Kept, Refused as Declined}
 use Rattle.engine.specs.declared.Probed.{Probed}
 use Rattle.engine.specs.declared.Probed.the-variants.{Kept as Galloped, Refused as NotGalloped}
-use Rattle.engine.specs.Prepare.{criterionOf, outputRows}
+use Rattle.limits.specs.Prepare.{criterionOf, outputRows}
 
 abbrev pub okOf : List ℕ → List ℤ → Limits → ℕ → ℕ → Bool
 okOf ts vs t = valid ts vs (criterionOf t)

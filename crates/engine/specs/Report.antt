@@ -15,7 +15,7 @@ use Rattle.lists.specs.Overwrite.{overwrite}
 use Rattle.refusal.specs.declared.Checked.{Checked}
 use Rattle.refusal.specs.declared.Checked.the-variants.{Fine, Refused}
 use Rattle.refusal.specs.Table.{roomRow, _thenCheck_}
-use Rattle.engine.specs.declared.Limits.{Limits}
+use Rattle.limits.specs.declared.Limits.{Limits}
 use Rattle.sheet.specs.declared.Summary.{Summary}
 use Rattle.sheet.specs.declared.Totals.{Totals}
 use Rattle.sheet.specs.declared.Reported.{Reported}
@@ -23,7 +23,7 @@ use Rattle.sheet.specs.declared.Reported.the-variants.{Counted, Refused as NotC
 use Rattle.sheet.specs.declared.Sheet.{Sheet}
 use Rattle.channels.specs.Channels.{crateRow}
 use Rattle.sheet.specs.Report.{rowsFrom, totalsOf, Fits, filled}
-use Rattle.engine.specs.Prepare.{criterionOf, limitRows}
+use Rattle.limits.specs.Prepare.{criterionOf, limitRows}
 
 unfoldable pub crateRows : List ℕ → List ℤ → List ℕ → Limits → ℕ → Checked
 crateRows ts vs ls t room = crateRow ts vs ls thenCheck limitRows t thenCheck roomRow (length ls) room

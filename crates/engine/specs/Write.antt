@@ -18,7 +18,7 @@ use Rattle.refusal.specs.declared.Checked.{Checked}
 use Rattle.refusal.specs.declared.Checked.the-variants.{Fine, Refused}
 use Rattle.refusal.specs.Table.{placed, _thenCheck_}
 use Rattle.kept.specs.Kept.{KeptList}
-use Rattle.engine.specs.declared.Limits.{Limits}
+use Rattle.limits.specs.declared.Limits.{Limits}
 use Rattle.trace.specs.declared.Criterion.{Criterion}
 use Rattle.trace.specs.Link.{ratioOf}
 use Rattle.proposed.specs.Proposed.{listRow, firstInvalid}
@@ -26,7 +26,7 @@ use Rattle.format.specs.Format.{Content, encode, Accepted}
 use Rattle.writer.specs.Writing.{selected, writeRow}
 use Rattle.engine.specs.declared.Written.{Written}
 use Rattle.engine.specs.declared.Written.the-variants.{Count, Refused as Declined}
-use Rattle.engine.specs.Prepare.{criterionOf, ReadyAt}
+use Rattle.limits.specs.Prepare.{criterionOf, ReadyAt}
 use Rattle.engine.specs.Judge.{judgeRows}
 
 abbrev pub contentOf : List ℕ → List ℤ → List ℕ → Limits → Content

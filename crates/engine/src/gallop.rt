@@ -1,9 +1,9 @@
 // The public call `gallop`: the samples that gallop keeps of a trace, and its probes.
 ghost use Rattle.engine.specs.Reduce.{GallopOutcome};
-use crate::Limits;
 use crate::Probed;
-use crate::Ready;
-use crate::prepare::prepare_output;
+use limits::Limits;
+use limits::Ready;
+use limits::prepare_output;
 
 // Writes gallop's list into the first entries of `out`, which has as many entries as the trace has samples or more.
 pub fn gallop(ticks: &[u32], values: &[i16], t: Limits, out: &mut [u16]) -> Probed

@@ -6,10 +6,10 @@ ghost use Rattle.kept.specs.Kept.{KeptList};
 ghost use Rattle.trace.specs.Trace.{Trace};
 ghost use Rattle.trace.specs.Link.{Bounded};
 ghost use Rattle.engine.specs.Judge.{listVerdict, judgedAt, JudgeOutcome};
-use crate::Limits;
-use crate::Ready;
 use crate::Verdict;
-use crate::prepare::prepare;
+use limits::Limits;
+use limits::Ready;
+use limits::prepare;
 use refusal::Checked;
 use trace::Criterion;
 

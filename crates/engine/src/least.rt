@@ -6,7 +6,7 @@ ghost use Rattle.refusal.specs.Table.{roomRow, _thenCheck_};
 ghost use Rattle.trace.specs.Trace.{Trace};
 ghost use Rattle.engine.specs.Least.{allowanceRow, holesRow, allowedRows, leastRows, LeastOutcome};
 use crate::Closest;
-use crate::prepare::check_gap;
+use limits::check_gap;
 use refusal::Checked;
 use refusal::Refusal;
 

@@ -3,25 +3,11 @@ use closest::Found;
 use ratio::Ratio;
 use reduction::Galloped;
 use refusal::Refusal;
-use tolerance::Tolerance;
-use trace::Criterion;
 use trace::Measure;
-
-// What links are asked to meet: a tolerance, and a gap limit in ticks from 1 to 1,048,575.
-pub struct Limits {
-    pub tolerance: Tolerance,
-    pub gap: u32,
-}
 
 // What `hold` answers: the tolerance in lowest terms, or a refusal.
 pub enum Holding {
     Held(Ratio),
-    Refused(Refusal),
-}
-
-// What the checks of a trace and its limits find: the criterion that the limits set, or a refusal.
-enum Ready {
-    At(Criterion),
     Refused(Refusal),
 }
 
@@ -71,7 +57,6 @@ pub mod judge;
 pub mod least;
 pub mod measure;
 pub mod minimum;
-mod prepare;
 pub mod read;
 pub mod report;
 pub mod same;

@@ -1,9 +1,9 @@
 // The public call `minimum`: the shortest kept list of a trace whose links are valid.
 ghost use Rattle.engine.specs.Minimum.{MinimumOutcome};
-use crate::Limits;
-use crate::Ready;
 use crate::Reduced;
-use crate::prepare::prepare_output;
+use limits::Limits;
+use limits::Ready;
+use limits::prepare_output;
 
 // Writes the minimum's list into the first entries of `out`, which has as many entries as the trace has samples or more.
 pub fn minimum(ticks: &[u32], values: &[i16], t: Limits, out: &mut [u16]) -> Reduced

@@ -1,9 +1,9 @@
 // The public call `walk`: the samples that walk keeps of a trace.
 ghost use Rattle.engine.specs.Reduce.{WalkOutcome};
-use crate::Limits;
-use crate::Ready;
 use crate::Reduced;
-use crate::prepare::prepare_output;
+use limits::Limits;
+use limits::Ready;
+use limits::prepare_output;
 
 // Writes walk's list into the first entries of `out`, which has as many entries as the trace has samples or more.
 pub fn walk(ticks: &[u32], values: &[i16], t: Limits, out: &mut [u16]) -> Reduced

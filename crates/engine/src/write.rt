@@ -1,10 +1,10 @@
 // The public call `write`: the record of a list's samples, into the event buffer from a place on.
-ghost use Rattle.engine.specs.Prepare.{ReadyAt};
+ghost use Rattle.limits.specs.Prepare.{ReadyAt};
 ghost use Rattle.engine.specs.Write.{ListReady, WriteOutcome};
-use crate::Limits;
-use crate::Ready;
 use crate::Written;
-use crate::prepare::prepare;
+use limits::Limits;
+use limits::Ready;
+use limits::prepare;
 use ratio::Ratio;
 use refusal::Checked;
 use refusal::Refusal;

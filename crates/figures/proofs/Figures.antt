@@ -32,7 +32,7 @@ use Rattle.shortest.specs.Shortest.{minimumList}
 use Rattle.closest.specs.Closest.{leastError}
 use Rattle.proposed.specs.Proposed.{badAt, listRow, firstInvalid}
 use Rattle.engine.specs.declared.Verdict.the-variants.{Yes, No}
-use Rattle.engine.specs.Prepare.{unlimited, commonRows, criterionOf}
+use Rattle.limits.specs.Prepare.{unlimited, commonRows, criterionOf}
 use Rattle.engine.specs.Judge.{judgeRows, listVerdict, judgeOf}
 use Rattle.engine.specs.Write.{contentOf}
 

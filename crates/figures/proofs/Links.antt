@@ -30,10 +30,10 @@ use Rattle.reduction.specs.Galloping.{gallopList, gallopTotal}
 use Rattle.shortest.specs.Shortest.{minimumList}
 use Rattle.closest.specs.Closest.{obeyingList, leastError}
 use Rattle.proposed.specs.Proposed.{badAt, listRow, endsRow, firstInvalid, firstWorst, listSample, listStray}
-use Rattle.engine.specs.declared.Limits.{Limits}
+use Rattle.limits.specs.declared.Limits.{Limits}
 use Rattle.engine.specs.declared.Measured.the-variants.{Link as Measured}
 use Rattle.engine.specs.declared.Verdict.the-variants.{No}
-use Rattle.engine.specs.Prepare.{commonRows, criterionOf, outputRows}
+use Rattle.limits.specs.Prepare.{commonRows, criterionOf, outputRows}
 use Rattle.engine.specs.Measure.{measureRows, measuredBy}
 use Rattle.engine.specs.Judge.{judgeRows, listVerdict, judgeOf}
 use Rattle.engine.specs.Least.{allowedRows, leastRows}

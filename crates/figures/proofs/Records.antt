@@ -24,7 +24,7 @@ use Rattle.reduction.specs.Walking.{walkList}
 use Rattle.reader.specs.declared.Comparison.{Comparison}
 use Rattle.reader.specs.declared.Comparison.the-variants.{Same, Different, Refused as NotCompared}
 use Rattle.reader.specs.Reading.{sameRows, SameOutcome}
-use Rattle.engine.specs.Prepare.{unlimited, criterionOf}
+use Rattle.limits.specs.Prepare.{unlimited, criterionOf}
 use Rattle.engine.specs.Write.{contentOf}
 
 -- ---- ticks 0 to 4, values 0 2 0 2 0: at 2 counts and at 5 the ends are kept

@@ -25,7 +25,7 @@ use Rattle.codes.specs.RangeTable.{valuesIn, tableRow, expandWithRows}
 use Rattle.channels.specs.Channels.{crateRow}
 use Rattle.sheet.specs.Report.{keptRow, walkedRow, declinedRow, rowOf, totalled, totalsOf}
 use Rattle.proposed.specs.Proposed.{firstWorst, listSample}
-use Rattle.engine.specs.Prepare.{unlimited, criterionOf}
+use Rattle.limits.specs.Prepare.{unlimited, criterionOf}
 use Rattle.engine.specs.Report.{crateRows, reportRows}
 use Rattle.pedestals.specs.declared.Cause.the-variants.{Call, Trace}
 use Rattle.pedestals.specs.declared.Check.the-variants.{Fine as Passes, Refused as Declines}

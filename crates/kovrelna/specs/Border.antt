@@ -14,7 +14,7 @@ use lib.IntN.{ℤ}
 use Rattle.refusal.specs.Table.{numberOf, returnedOf}
 use Rattle.tolerance.specs.declared.Tolerance as T
 use Rattle.tolerance.specs.declared.Tolerance.the-variants.{Ratio, Counts, Noise}
-use Rattle.engine.specs.declared.Limits as L
+use Rattle.limits.specs.declared.Limits as L
 use Rattle.engine.specs.declared.Holding.{Holding}
 use Rattle.engine.specs.declared.Holding.the-variants.{Held as IsHeld, Refused as HoldRefused}
 use Rattle.trace.specs.declared.Side.{Side}

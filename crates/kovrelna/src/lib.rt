@@ -137,12 +137,12 @@ fn tolerance_of(t: Tolerance) -> tolerance::Tolerance
     tolerance::Tolerance::Ratio(0, 0)
 }
 
-fn limits_of(t: Limits) -> engine::Limits
+fn limits_of(t: Limits) -> limits::Limits
     ensures { λ r. ⌜ r ≡ limitsOf t ⌝ }
 {
     let given = t.tolerance;
     let tolerance = tolerance_of(given);
-    engine::Limits {
+    limits::Limits {
         tolerance,
         gap: t.gap,
     }

@@ -28,7 +28,8 @@ use Rattle.tolerance.specs.Meaning.{meaning}
 use Rattle.engine.specs.declared.Holding.{Holding}
 use Rattle.engine.specs.declared.Holding.the-variants.{Held, Refused as NotHeld}
 use Rattle.engine.specs.Checks.{ownRows, TraceOutcome, CrateOutcome}
-use Rattle.engine.specs.Hold.{toleranceRow, holdingOf, HoldOutcome}
+use Rattle.limits.specs.Prepare.{toleranceRow}
+use Rattle.engine.specs.Hold.{holdingOf, HoldOutcome}
 use Rattle.pedestals.specs.declared.Cause.{Cause}
 use Rattle.pedestals.specs.declared.Cause.the-variants.{Call, Trace}
 use Rattle.pedestals.specs.declared.Check.{Check}

@@ -33,7 +33,7 @@ use Rattle.tolerance.specs.declared.Meaning.{Meaning}
 use Rattle.tolerance.specs.declared.Meaning.the-variants.{Exact, NotAllowed}
 use Rattle.tolerance.specs.Meaning.{meaning}
 use Rattle.engine.specs.Checks.{ownRows}
-use Rattle.engine.specs.Hold.{toleranceRow}
+use Rattle.limits.specs.Prepare.{toleranceRow}
 use Rattle.pedestals.specs.declared.Cause.{Cause}
 use Rattle.pedestals.specs.declared.Cause.the-variants.{Call, Trace}
 use Rattle.pedestals.specs.declared.Check.{Check}

@@ -8,7 +8,7 @@ use lib.IntN.{ℤ, pos}
 use lib.ListN.{take}
 use Rattle.lists.specs.Select.{select}
 use Rattle.refusal.specs.declared.Checked.the-variants.{Fine}
-use Rattle.engine.specs.declared.Limits.{Limits}
+use Rattle.limits.specs.declared.Limits.{Limits}
 use Rattle.trace.specs.declared.Criterion.{Criterion}
 use Rattle.trace.proofs.TraceLaws.{trace-rows}
 use Rattle.trace.proofs.SelectedTrace.{selected-trace}
@@ -16,7 +16,7 @@ use Rattle.heights.specs.Budget.{StandsFor}
 use Rattle.heights.specs.Again.{ReducedAgain}
 use Rattle.heights.proofs.AgainLaws.{reduced-again}
 use Rattle.engine.specs.declared.Reduced.the-variants.{Kept}
-use Rattle.engine.specs.Prepare.{limitRows, commonRows, criterionOf}
+use Rattle.limits.specs.Prepare.{limitRows, commonRows, criterionOf}
 use Rattle.engine.specs.Reduce.{WalkOutcome}
 use Rattle.promises.proofs.Standing.{walk-stands}
 

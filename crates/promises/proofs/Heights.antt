@@ -5,7 +5,7 @@ use mathlib.Core.List.{List}
 use Prim.Native.Nat.{ℕ}
 use lib.IntN.{ℤ}
 use lib.ListN.{take}
-use Rattle.engine.specs.declared.Limits.{Limits}
+use Rattle.limits.specs.declared.Limits.{Limits}
 use Rattle.ratio.specs.declared.Ratio.{Ratio}
 use Rattle.trace.specs.Link.{limited}
 use Rattle.heights.specs.Budget.{StandsFor, ErrorBudget}
@@ -17,7 +17,7 @@ use Rattle.engine.specs.declared.Reduced.the-variants.{Kept}
 use Rattle.engine.specs.declared.Probed.the-variants.{Kept as KeptBy}
 use Rattle.engine.specs.declared.Closest.the-variants.{Kept as KeptAt}
 use Rattle.engine.specs.declared.Verdict.the-variants.{Yes}
-use Rattle.engine.specs.Prepare.{criterionOf}
+use Rattle.limits.specs.Prepare.{criterionOf}
 use Rattle.engine.specs.Reduce.{WalkOutcome, GallopOutcome}
 use Rattle.engine.specs.Minimum.{MinimumOutcome}
 use Rattle.engine.specs.Least.{LeastOutcome}

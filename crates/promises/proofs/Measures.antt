@@ -16,10 +16,10 @@ use Rattle.trace.specs.Link.{AllWithin, criterion}
 use Rattle.trace.proofs.Errors.{within-link-error}
 use Rattle.trace.proofs.MeasureLaws.{fault-error, fault-measure}
 use Rattle.proposed.specs.Proposed.{entry}
-use Rattle.engine.specs.declared.Limits.{Limits}
+use Rattle.limits.specs.declared.Limits.{Limits}
 use Rattle.engine.specs.declared.Measured.the-variants.{Link}
 use Rattle.engine.specs.declared.Verdict.the-variants.{No}
-use Rattle.engine.specs.Prepare.{criterionOf}
+use Rattle.limits.specs.Prepare.{criterionOf}
 use Rattle.engine.specs.Measure.{MeasureOutcome}
 use Rattle.engine.specs.Judge.{JudgeOutcome}
 use Rattle.engine.proofs.MeasureLaws.{measure-is}

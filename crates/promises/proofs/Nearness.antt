@@ -17,7 +17,7 @@ use Rattle.refusal.proofs.TableLaws.{then-fine}
 use Rattle.tolerance.specs.declared.Meaning.{Meaning}
 use Rattle.tolerance.specs.declared.Meaning.the-variants.{Exact, NotAllowed}
 use Rattle.tolerance.specs.Meaning.{meaning}
-use Rattle.engine.specs.declared.Limits.{Limits}
+use Rattle.limits.specs.declared.Limits.{Limits}
 use Rattle.kept.proofs.KeptLaws.{each-map}
 use Rattle.trace.specs.Link.{half, limited, ratioOf}
 use Rattle.trace.proofs.Validity.{valid-obeys}
@@ -28,9 +28,9 @@ use Rattle.closest.specs.declared.Found.{Found}
 use Rattle.engine.specs.declared.Reduced.the-variants.{Kept}
 use Rattle.engine.specs.declared.Probed.the-variants.{Kept as KeptBy}
 use Rattle.engine.specs.declared.Closest.the-variants.{Kept as KeptAt}
-use Rattle.engine.specs.Prepare.{commonRows, criterionIn, criterionOf, outputRows}
+use Rattle.limits.specs.Prepare.{commonRows, criterionIn, criterionOf, outputRows}
 use Rattle.engine.specs.Reduce.{GreedyList, WalkOutcome, GallopOutcome}
-use Rattle.engine.proofs.PrepareLaws.{common-trace}
+use Rattle.limits.proofs.PrepareLaws.{common-trace}
 use Rattle.engine.specs.Least.{LeastOutcome}
 use Rattle.promises.specs.Nearness.{NearShortest, Nearest}
 

@@ -38,10 +38,10 @@ use Rattle.engine.specs.declared.Reduced.{Reduced}
 use Rattle.engine.specs.declared.Reduced.the-variants.{Kept, Refused as Declined}
 use Rattle.engine.specs.declared.Probed.{Probed}
 use Rattle.engine.specs.declared.Probed.the-variants.{Kept as KeptBy, Refused as NotGalloped}
-use Rattle.engine.specs.Prepare.{criterionOf, Sets, ReadyAt, outputRows}
+use Rattle.limits.specs.Prepare.{criterionOf, Sets, ReadyAt, outputRows}
 use Rattle.engine.specs.Reduce.{WalkOutcome, GallopOutcome}
 use Rattle.engine.specs.Minimum.{MinimumOutcome}
-use Rattle.engine.proofs.PrepareLaws.{exact-sets, sets-ready, room-fine}
+use Rattle.limits.proofs.PrepareLaws.{exact-sets, sets-ready, room-fine}
 use Rattle.promises.specs.NoFactor.{counting, zigzag, justWide, NoFactor}
 
 -- p/q is 3 m / (m + 1): less than 3, and no less than what sample k, at level z, deviates by from a line of m + 1 ticks that climbs from 0 to 3

@@ -12,12 +12,12 @@ use Rattle.lists.proofs.OverwriteLaws.{wrote-read}
 use Rattle.refusal.proofs.TableLaws.{then-fine}
 use Rattle.kept.specs.Gallop.{listProbes}
 use Rattle.kept.proofs.ProbeLaws.{total-stops, total-samples, total-reached, reached-only}
-use Rattle.engine.specs.declared.Limits.{Limits}
+use Rattle.limits.specs.declared.Limits.{Limits}
 use Rattle.reduction.specs.declared.Galloped.{Galloped}
 use Rattle.engine.specs.declared.Probed.the-variants.{Kept}
-use Rattle.engine.specs.Prepare.{commonRows, outputRows}
+use Rattle.limits.specs.Prepare.{commonRows, outputRows}
 use Rattle.engine.specs.Reduce.{GallopOutcome}
-use Rattle.engine.proofs.PrepareLaws.{common-trace}
+use Rattle.limits.proofs.PrepareLaws.{common-trace}
 use Rattle.promises.specs.Probes.{ProbeBudget}
 
 pub probe-budget : {ts : List ℕ} {vs : List ℤ} {t : Limits} {o o′ : List ℕ} {g : Galloped}

@@ -25,7 +25,7 @@ use Rattle.refusal.specs.declared.Checked.{Checked}
 use Rattle.refusal.specs.declared.Checked.the-variants.{Fine, Refused}
 use Rattle.refusal.specs.Table.{_thenCheck_}
 use Rattle.refusal.proofs.TableLaws.{then-fine}
-use Rattle.engine.specs.declared.Limits.{Limits}
+use Rattle.limits.specs.declared.Limits.{Limits}
 use Rattle.trace.specs.Trace.{Trace, traceRows}
 use Rattle.trace.specs.Link.{ratioOf}
 use Rattle.trace.proofs.TraceLaws.{rows-trace}
@@ -39,7 +39,7 @@ use Rattle.sheet.specs.Report.{keptRow, declinedRow, rowOf, rowError, largestEr
 use Rattle.sheet.proofs.RowLaws.{rows-length, rows-own, row-within, row-positive, row-lowest, largest-one, largest-least}
 use Rattle.sheet.proofs.ReportLaws.{channel-fine, channel-refused, walked-row, walked-kept, walked-length}
 use Rattle.engine.specs.declared.Reduced.the-variants.{Kept, Refused as Declined}
-use Rattle.engine.specs.Prepare.{limitRows, commonRows, criterionOf, outputRows}
+use Rattle.limits.specs.Prepare.{limitRows, commonRows, criterionOf, outputRows}
 use Rattle.engine.specs.Reduce.{WalkOutcome}
 use Rattle.engine.specs.Report.{reportRows, ReportOutcome}
 

@@ -13,7 +13,7 @@ use Rattle.lists.proofs.OverwriteLaws.{wrote-read}
 use Rattle.refusal.specs.declared.Checked.the-variants.{Fine}
 use Rattle.refusal.proofs.TableLaws.{then-fine}
 use Rattle.kept.specs.Kept.{KeptList, AllValid}
-use Rattle.engine.specs.declared.Limits.{Limits}
+use Rattle.limits.specs.declared.Limits.{Limits}
 use Rattle.ratio.specs.declared.Ratio.{Ratio}
 use Rattle.trace.specs.Link.{limited}
 use Rattle.heights.specs.Budget.{StandsFor}
@@ -24,14 +24,14 @@ use Rattle.engine.specs.declared.Reduced.the-variants.{Kept}
 use Rattle.engine.specs.declared.Probed.the-variants.{Kept as KeptBy}
 use Rattle.engine.specs.declared.Closest.the-variants.{Kept as KeptAt}
 use Rattle.engine.specs.declared.Verdict.the-variants.{Yes}
-use Rattle.engine.specs.Prepare.{commonRows, criterionOf, outputRows}
+use Rattle.limits.specs.Prepare.{commonRows, criterionOf, outputRows}
 use Rattle.engine.specs.Reduce.{okOf, WalkOutcome, GallopOutcome}
 use Rattle.engine.specs.Minimum.{MinimumOutcome}
 use Rattle.engine.specs.Least.{LeastOutcome}
 use Rattle.engine.specs.Sum.{SumOutcome}
 use Rattle.engine.specs.Judge.{judgeRows, JudgeOutcome}
 use Rattle.engine.proofs.LeastLaws.{least-task}
-use Rattle.engine.proofs.PrepareLaws.{common-trace}
+use Rattle.limits.proofs.PrepareLaws.{common-trace}
 use Rattle.engine.proofs.WriteLaws.{common-held}
 
 module _ (ts : List ℕ) (vs : List ℤ) (t : Limits) where

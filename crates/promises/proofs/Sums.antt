@@ -35,10 +35,10 @@ use Rattle.summed.proofs.SumLaws.{sums-swap}
 use Rattle.summed.proofs.RowLaws.{rows-addable, addable-fine}
 use Rattle.engine.specs.declared.Reduced.{Reduced}
 use Rattle.engine.specs.declared.Reduced.the-variants.{Kept, Refused as Declined}
-use Rattle.engine.specs.declared.Limits.{Limits}
+use Rattle.limits.specs.declared.Limits.{Limits}
 use Rattle.engine.specs.declared.Verdict.{Verdict}
 use Rattle.engine.specs.declared.Verdict.the-variants.{Yes}
-use Rattle.engine.specs.Prepare.{limitRows, commonRows, criterionOf}
+use Rattle.limits.specs.Prepare.{limitRows, commonRows, criterionOf}
 use Rattle.engine.specs.Judge.{judgeRows, JudgeOutcome}
 use Rattle.engine.specs.Write.{linkRow}
 use Rattle.engine.specs.Sum.{Summed, SumOutcome}

@@ -27,8 +27,7 @@ use Rattle.reduction.specs.Galloping.{gallopList, gallopTotal}
 use Rattle.shortest.specs.Shortest.{minimumList}
 use Rattle.closest.specs.Closest.{leastError}
 use Rattle.channels.specs.Channels.{crateRow}
-use Rattle.engine.specs.Hold.{toleranceRow}
-use Rattle.engine.specs.Prepare.{unlimited, commonRows, outputRows}
+use Rattle.limits.specs.Prepare.{unlimited, toleranceRow, commonRows, outputRows}
 use Rattle.engine.specs.Least.{allowanceRow, leastRows}
 use Rattle.engine.specs.Report.{crateRows}
 use Rattle.promises.specs.Pedestals.{Exactly}

@@ -10,10 +10,10 @@ use lib.ListN.{length}
 use Rattle.ratio.specs.Gcd.{gcd}
 use Rattle.ratio.specs.Order.{AtMost}
 use Rattle.kept.specs.Kept.{KeptList, AllValid}
-use Rattle.engine.specs.declared.Limits.{Limits}
+use Rattle.limits.specs.declared.Limits.{Limits}
 use Rattle.trace.specs.Link.{obeys, listError, NoLonger, half, ratioOf}
 use Rattle.closest.specs.declared.Found.{Found}
-use Rattle.engine.specs.Prepare.{criterionOf}
+use Rattle.limits.specs.Prepare.{criterionOf}
 use Rattle.engine.specs.Reduce.{okOf}
 
 -- l is a kept list of n samples whose links are valid, so that its error is at most the tolerance, and no kept list within half of it that obeys the gap

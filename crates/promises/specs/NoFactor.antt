@@ -16,12 +16,12 @@ use Rattle.reduction.specs.declared.Galloped.{Galloped}
 use Rattle.reduction.specs.Walking.{walkList}
 use Rattle.reduction.specs.Galloping.{gallopList}
 use Rattle.shortest.specs.Shortest.{minimumList}
-use Rattle.engine.specs.declared.Limits.{Limits}
+use Rattle.limits.specs.declared.Limits.{Limits}
 use Rattle.engine.specs.declared.Reduced.{Reduced}
 use Rattle.engine.specs.declared.Reduced.the-variants.{Kept}
 use Rattle.engine.specs.declared.Probed.{Probed}
 use Rattle.engine.specs.declared.Probed.the-variants.{Kept as KeptBy}
-use Rattle.engine.specs.Prepare.{unlimited, criterionOf, outputRows}
+use Rattle.limits.specs.Prepare.{unlimited, criterionOf, outputRows}
 use Rattle.engine.specs.Reduce.{WalkOutcome, GallopOutcome}
 use Rattle.engine.specs.Minimum.{MinimumOutcome}
 

@@ -1,9 +1,9 @@
 // The program reduce: reads one record from standard input, treats its samples as a trace, and prints what walk, gallop and minimum keep of it.
 // Each printing function says whether all was written; what is cut off is reported on standard error.
 ghost use Prim.Native.Nat.{_≤_};
-use engine::Limits;
 use engine::Probed;
 use engine::Reduced;
+use limits::Limits;
 use ratio::Ratio;
 use reader::Answer;
 use tolerance::Tolerance;

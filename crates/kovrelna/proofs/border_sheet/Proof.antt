@@ -1,6 +1,6 @@
 -- `kovrelna::border_sheet` meets its contract. Assumes nothing.
 use mathlib.Core.Path.{subst}
-use Rattle.engine.specs.declared.Limits.{Limits}
+use Rattle.limits.specs.declared.Limits.{Limits}
 use Rattle.engine.specs.Report.{Surveyed}
 use borrow.Author.Needs.{needs}
 use Rattle.kovrelna.proofs.border_sheet.Statement.{statement}

@@ -1,7 +1,7 @@
 -- `kovrelna::kovrelna_minimum` meets its contract: it has the outcome of the public call. Assumes nothing.
 use mathlib.Core.Path.{subst}
 use Rattle.engine.specs.Minimum.{MinimumOutcome}
-use Rattle.engine.specs.declared.Limits.{Limits}
+use Rattle.limits.specs.declared.Limits.{Limits}
 use borrow.Author.Needs.{needs}
 use Rattle.kovrelna.proofs.kovrelna_minimum.Statement.{statement}
 use Rattle.kovrelna.proofs.kovrelna_minimum.Tie as tie

@@ -1,7 +1,7 @@
 -- `engine::gallop::gallop` meets its contract. Assumes nothing.
 use mathlib.Core.Path.{refl, subst}
 use lib.ListN.{length}
-use Rattle.engine.specs.Prepare.{OutputPrepared, OutputReady}
+use Rattle.limits.specs.Prepare.{OutputPrepared, OutputReady}
 use Rattle.engine.proofs.ReduceLaws.{gallop-kept}
 use borrow.Author.Needs.{needs}
 use Rattle.engine.proofs.gallop.gallop.Statement.{statement}

@@ -2,7 +2,7 @@
 use borrow.Author.Needs.{needs}
 use mathlib.Core.Path.{subst, ap, _∙_}
 use Rattle.trace.specs.declared.Criterion.{Criterion}
-use Rattle.engine.specs.Prepare.{Prepared, ReadyAt}
+use Rattle.limits.specs.Prepare.{Prepared, ReadyAt}
 use Rattle.engine.specs.Judge.{judgedAt}
 use Rattle.engine.proofs.JudgeLaws.{common-fine, judge-refused, judge-outcome}
 use Rattle.engine.proofs.judge.judge.Statement.{statement}

@@ -1,7 +1,7 @@
 -- `engine::report::allowed_sheet` meets its contract. Assumes nothing.
 use mathlib.Core.Path.{subst}
 use Rattle.channels.proofs.ChannelLaws.{crate-divided}
-use Rattle.engine.specs.Prepare.{Sets, Allowed}
+use Rattle.limits.specs.Prepare.{Sets, Allowed}
 use Rattle.engine.proofs.ReportLaws.{sheet-refused, limits-refused, room-refused, sheet-counted}
 use borrow.Author.Needs.{needs}
 use Rattle.engine.proofs.report.allowed_sheet.Statement.{statement}

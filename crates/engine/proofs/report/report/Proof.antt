@@ -55,9 +55,9 @@ use Rattle.sheet.proofs.answer_of as answer-of
 use Rattle.sheet.proofs.answer_of.Symbol as answer-of-def
 use Rattle.sheet.proofs.answer_of.Symbol.{name as #sheet·answer-of}
 use Rattle.sheet.proofs.answer_of.Met as answer-of-thm
-use Rattle.engine.specs.declared.Limits.{Limits}
-use Rattle.engine.proofs.Limits as L
-use Rattle.engine.proofs.Limits.Laws as L′
+use Rattle.limits.specs.declared.Limits.{Limits}
+use Rattle.limits.proofs.Limits as L
+use Rattle.limits.proofs.Limits.Laws as L′
 use Rattle.engine.specs.Report.{ReportOutcome, Surveyed}
 use Rattle.engine.proofs.report.sheet_of as sheet-of
 use Rattle.engine.proofs.report.sheet_of.Symbol as sheet-of-def

@@ -1,7 +1,7 @@
 -- `engine::walk::walk` meets its contract. Assumes nothing.
 use mathlib.Core.Path.{refl, subst}
 use lib.ListN.{length}
-use Rattle.engine.specs.Prepare.{OutputPrepared, OutputReady}
+use Rattle.limits.specs.Prepare.{OutputPrepared, OutputReady}
 use Rattle.engine.proofs.ReduceLaws.{walk-kept}
 use borrow.Author.Needs.{needs}
 use Rattle.engine.proofs.walk.walk.Statement.{statement}

@@ -1,7 +1,7 @@
 -- `engine::write::write` meets its contract. Assumes nothing.
 use mathlib.Core.Path.{refl, subst}
 use lib.ListN.{length}
-use Rattle.engine.specs.Prepare.{Prepared}
+use Rattle.limits.specs.Prepare.{Prepared}
 use Rattle.engine.proofs.WriteLaws.{common-refuses}
 use borrow.Author.Needs.{needs}
 use Rattle.engine.proofs.write.write.Statement.{statement}

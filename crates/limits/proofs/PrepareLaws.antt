@@ -12,7 +12,7 @@ use Rattle.refusal.specs.declared.Refusal.{Refusal}
 use Rattle.refusal.specs.declared.Refusal.the-variants.{Room, Gap}
 use Rattle.refusal.specs.declared.Checked.the-variants.{Fine, Refused}
 use Rattle.refusal.proofs.TableLaws.{then-fine}
-use Rattle.engine.specs.declared.Limits.{Limits}
+use Rattle.limits.specs.declared.Limits.{Limits}
 use Rattle.tolerance.specs.declared.Meaning.the-variants.{Exact}
 use Rattle.tolerance.specs.Meaning.{meaning}
 use Rattle.tolerance.proofs.Meanings.{exact-held}
@@ -20,9 +20,9 @@ use Rattle.trace.specs.declared.Criterion.{Criterion}
 use Rattle.trace.specs.Trace.{Trace, traceRows}
 use Rattle.trace.specs.Link.{limited}
 use Rattle.trace.proofs.TraceLaws.{rows-trace}
-use Rattle.engine.specs.declared.Ready.{Ready}
-use Rattle.engine.specs.declared.Ready.the-variants.{At, Refused as Declined}
-use Rattle.engine.specs.Prepare.{gapRow, Under, commonRows, criterionIn, criterionOf, Sets, Allowed, ReadyAt, Prepared, outputRows, OutputReady}
+use Rattle.limits.specs.declared.Ready.{Ready}
+use Rattle.limits.specs.declared.Ready.the-variants.{At, Refused as Declined}
+use Rattle.limits.specs.Prepare.{gapRow, Under, commonRows, criterionIn, criterionOf, Sets, Allowed, ReadyAt, Prepared, outputRows, OutputReady}
 
 pub gap-low : (g : ℕ) → g < 1 → Refused Gap ≡ gapRow g
 gap-low g h = rw (lt-leb 1 g h)

@@ -1,13 +1,24 @@
-// What the calls on a trace with limits have in common: the checks 1 to 4 and 15, and 10 for those that write a list.
+// Limits, and what the calls on a trace with limits have in common: the checks 1 to 4 and 15, and 10 for those that write a list.
 ghost use mathlib.Core.Path.{_≡_};
-ghost use Rattle.engine.specs.Prepare.{gapRow, Under, Prepared, Allowed, OutputPrepared};
-use crate::Limits;
-use crate::Ready;
+ghost use Rattle.limits.specs.Prepare.{gapRow, Under, Prepared, Allowed, OutputPrepared};
 use ratio::Ratio;
 use refusal::Checked;
 use refusal::Refusal;
 use tolerance::Meaning;
+use tolerance::Tolerance;
 use trace::Criterion;
+
+// What links are asked to meet: a tolerance, and a gap limit in ticks from 1 to 1,048,575.
+pub struct Limits {
+    pub tolerance: Tolerance,
+    pub gap: u32,
+}
+
+// What the checks of a trace and its limits find: the criterion that the limits set, or a refusal.
+pub enum Ready {
+    At(Criterion),
+    Refused(Refusal),
+}
 
 // Check 15.
 pub fn check_gap(gap: u32) -> Checked

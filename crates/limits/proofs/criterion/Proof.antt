@@ -1,9 +1,9 @@
--- `engine::prepare::criterion` meets its contract. Assumes nothing.
+-- `limits::criterion` meets its contract. Assumes nothing.
 use mathlib.Core.Path.{sym, _∙_}
 use borrow.Author.Needs.{needs}
-use Rattle.engine.proofs.PrepareLaws.{exact-allowed}
-use Rattle.engine.proofs.prepare.criterion.Statement.{statement}
-use Rattle.engine.proofs.prepare.criterion.Tie as tie
+use Rattle.limits.proofs.PrepareLaws.{exact-allowed}
+use Rattle.limits.proofs.criterion.Statement.{statement}
+use Rattle.limits.proofs.criterion.Tie as tie
 
 meaning-of-requires : tie.Need-meaning-of-requires
 meaning-of-requires c κs = search needs

@@ -1,10 +1,10 @@
--- `engine::prepare::prepare_output` meets its contract. Assumes nothing.
+-- `limits::prepare_output` meets its contract. Assumes nothing.
 use mathlib.Core.Path.{refl, subst}
-use Rattle.engine.specs.Prepare.{Prepared, ReadyAt}
-use Rattle.engine.proofs.PrepareLaws.{room-refused, room-fine, output-refused}
+use Rattle.limits.specs.Prepare.{Prepared, ReadyAt}
+use Rattle.limits.proofs.PrepareLaws.{room-refused, room-fine, output-refused}
 use borrow.Author.Needs.{needs}
-use Rattle.engine.proofs.prepare.prepare_output.Statement.{statement}
-use Rattle.engine.proofs.prepare.prepare_output.Tie as tie
+use Rattle.limits.proofs.prepare_output.Statement.{statement}
+use Rattle.limits.proofs.prepare_output.Tie as tie
 
 prepare-requires : tie.Need-prepare-requires
 prepare-requires c κs = search needs

@@ -1,7 +1,7 @@
--- `engine::prepare::check_gap` meets its contract. Assumes nothing.
-use Rattle.engine.proofs.PrepareLaws.{gap-low, gap-high, gap-fine}
-use Rattle.engine.proofs.prepare.check_gap.Statement.{statement}
-use Rattle.engine.proofs.prepare.check_gap.Tie as tie
+-- `limits::check_gap` meets its contract. Assumes nothing.
+use Rattle.limits.proofs.PrepareLaws.{gap-low, gap-high, gap-fine}
+use Rattle.limits.proofs.check_gap.Statement.{statement}
+use Rattle.limits.proofs.check_gap.Tie as tie
 
 returns : tie.Need-returns
 returns c = gap-low _ (c .if1 .taken)

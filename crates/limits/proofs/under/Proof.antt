@@ -1,8 +1,8 @@
--- `engine::prepare::under` meets its contract. Assumes nothing.
+-- `limits::under` meets its contract. Assumes nothing.
 use mathlib.Core.Path.{refl, sym, _∙_}
 use borrow.Author.Needs.{needs}
-use Rattle.engine.proofs.prepare.under.Statement.{statement}
-use Rattle.engine.proofs.prepare.under.Tie as tie
+use Rattle.limits.proofs.under.Statement.{statement}
+use Rattle.limits.proofs.under.Tie as tie
 
 check-gap-requires : tie.Need-check-gap-requires
 check-gap-requires c κs = search needs

@@ -1,9 +1,9 @@
--- `engine::prepare::prepare` meets its contract. Assumes nothing.
+-- `limits::prepare` meets its contract. Assumes nothing.
 use mathlib.Core.Path.{sym, _∙_}
-use Rattle.engine.proofs.PrepareLaws.{trace-fine, trace-refused}
+use Rattle.limits.proofs.PrepareLaws.{trace-fine, trace-refused}
 use borrow.Author.Needs.{needs}
-use Rattle.engine.proofs.prepare.prepare.Statement.{statement}
-use Rattle.engine.proofs.prepare.prepare.Tie as tie
+use Rattle.limits.proofs.prepare.Statement.{statement}
+use Rattle.limits.proofs.prepare.Tie as tie
 
 check-requires : tie.Need-check-requires
 check-requires c κs = search needs

@@ -1,7 +1,8 @@
 -- The checks of a trace and its limits, a tolerance and a gap limit, which several calls have in common (document 01, "When the engine declines";
 -- document 02, "Dropouts").
 --   unlimited                     the limits of a tolerance alone: the gap limit is at its largest
---   gapRow, limitRows             row 15; the first of the rows 4, 15 that applies
+--   toleranceRow, gapRow          rows 4 and 15
+--   limitRows                     the first of the rows 4, 15 that applies
 --   commonRows                    the first of the rows 1, 2, 3, 4, 15 that applies
 --   criterionIn, criterionOf      the criterion that a meaning under a gap limit, that limits set
 --   Under                         what check 15 gives: the criterion of a ratio under the gap limit, or the row
@@ -19,7 +20,7 @@ use lib.IntN.{ℤ}
 use lib.ListN.{length}
 use Rattle.ratio.specs.declared.Ratio.{Ratio}
 use Rattle.ratio.specs.Order.{over}
-use Rattle.refusal.specs.declared.Refusal.the-variants.{Gap}
+use Rattle.refusal.specs.declared.Refusal.the-variants.{Tolerance as NotAllowedTolerance, Gap}
 use Rattle.refusal.specs.declared.Checked.{Checked}
 use Rattle.refusal.specs.declared.Checked.the-variants.{Fine, Refused}
 use Rattle.refusal.specs.Table.{row, roomRow, _thenCheck_}
@@ -30,13 +31,17 @@ use Rattle.tolerance.specs.Meaning.{meaning}
 use Rattle.trace.specs.declared.Criterion.{Criterion}
 use Rattle.trace.specs.Trace.{Trace, traceRows}
 use Rattle.trace.specs.Link.{limited, Bounded}
-use Rattle.engine.specs.declared.Limits.{Limits}
-use Rattle.engine.specs.declared.Ready.{Ready}
-use Rattle.engine.specs.declared.Ready.the-variants.{At, Refused as Declined}
-use Rattle.engine.specs.Hold.{toleranceRow}
+use Rattle.limits.specs.declared.Limits.{Limits}
+use Rattle.limits.specs.declared.Ready.{Ready}
+use Rattle.limits.specs.declared.Ready.the-variants.{At, Refused as Declined}
 
 abbrev pub unlimited : Tolerance → Limits
 unlimited t = record { tolerance = t; gap = 1048575 }
+
+-- 4: tolerance not allowed
+abbrev pub toleranceRow : Meaning → Checked
+toleranceRow (Exact r) = Fine
+toleranceRow NotAllowed = Refused NotAllowedTolerance
 
 -- 15: gap limit out of range
 abbrev pub gapRow : ℕ → Checked
