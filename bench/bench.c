@@ -239,9 +239,9 @@ typedef struct summand {
   size_t kept;
 } summand;
 
-/* A kept list of a trace and its record; the measure of the link over the whole trace; codes, a
- * range table and their values; another trace with the same ticks, the sums of both and the joined
- * list. */
+/* A kept list of a trace, its record and a copy of it; the measure of the link over the whole trace;
+ * codes, a range table and their values; another trace with the same ticks, the sums of both and the
+ * joined list. */
 typedef struct kept_record {
   const uint32_t *ticks;
   const int16_t *values;
