@@ -1,2 +1,2 @@
 -- The definitions of the crate `kovrelna`.
-pub mod Border
+pub mod Exports

@@ -37,28 +37,29 @@ use denote.Triple.Table.{entered, cited}
 use denote.Triple.Walked.{says, Stays, stay-none, stay-none-slice, gave-slice, walkOf, goes-none, goes-none-slice, goes-gave-slice, Walks, ends-at, walked, walk-meets}
 use denote.Exit.{yes}
 use denote.Signature.{plain}
-use Rattle.kovrelna.specs.declared.Limits.{Limits}
-use Rattle.kovrelna.proofs.Limits as L
-use Rattle.kovrelna.proofs.Limits.Laws as L′
+use Rattle.border.specs.declared.Limits.{Limits}
+use Rattle.border.proofs.Limits as L
+use Rattle.border.proofs.Limits.Laws as L′
 use Rattle.sheet.specs.declared.Summary.{Summary}
-use Rattle.kovrelna.specs.declared.Report.{Report}
+use Rattle.border.specs.declared.Report.{Report}
 use Rattle.sheet.specs.declared.Sheet.{Sheet}
 use Rattle.sheet.specs.Report.{filled}
 use Rattle.sheet.proofs.Summary as T
-use Rattle.kovrelna.proofs.Report as N
-use Rattle.kovrelna.proofs.Report.Laws as N′
+use Rattle.border.proofs.Report as N
+use Rattle.border.proofs.Report.Laws as N′
 use Rattle.sheet.proofs.Sheet as S
 use Rattle.sheet.proofs.Sheet.Laws as S′
 use Rattle.sheet.proofs.fill as fill
 use Rattle.sheet.proofs.fill.Symbol as fill-def
 use Rattle.sheet.proofs.fill.Symbol.{name as #sheet·fill}
 use Rattle.sheet.proofs.fill.Met as fill-thm
-use Rattle.kovrelna.proofs.report_of as report-of
-use Rattle.kovrelna.proofs.report_of.Symbol as report-of-def
-use Rattle.kovrelna.proofs.report_of.Symbol.{name as #kovrelna·report-of}
-use Rattle.kovrelna.proofs.report_of.Met as report-of-thm
+use Rattle.border.proofs.report_of as report-of
+use Rattle.border.proofs.report_of.Symbol as report-of-def
+use Rattle.border.proofs.report_of.Symbol.{name as #border·report-of}
+use Rattle.border.proofs.report_of.Met as report-of-thm
 use Rattle.engine.specs.Report.{ReportOutcome, Surveyed}
-use Rattle.kovrelna.specs.Border.{limitsOf, reportOf, ReportExport}
+use Rattle.border.specs.Border.{limitsOf, reportOf}
+use Rattle.kovrelna.specs.Exports.{ReportExport}
 use Rattle.kovrelna.proofs.border_sheet as border-sheet
 use Rattle.kovrelna.proofs.border_sheet.Symbol as border-sheet-def
 use Rattle.kovrelna.proofs.border_sheet.Symbol.{name as #kovrelna·border-sheet}
@@ -193,7 +194,7 @@ module _ {M : Type 1} (𝓤 : URA M) (H : Heap 𝓤) (A : Atoms 𝓤) (W : Given
   outcome : {h : Sheet} {r : Report} {zs : List Summary} → Surveyed (ts .now) (vs .now) (ls .now) (limitsOf t) n h → zs ≡ filled h ys → r ≡ reportOf (h .answer) → Outcome r zs
   outcome {h} {r} {zs} sv e d = record { answer = h .answer; is = d; outcome = subst (λ (l : List Summary). ReportOutcome (ts .now) (vs .now) (ls .now) (limitsOf t) ys (h .answer) l) (sym e) (sv .outcome ys refl) }
 
-  module _ (C : Calls 𝓤 H) (Λ : Loops 𝓤 H) (fm : FmC 𝓤 H (W .laws) C) (known-sheet : Triple 𝓤 (C #kovrelna·border-sheet) (BorderSheet 𝓤 H A mem run)) (known-fill : Triple 𝓤 (C #sheet·fill) (Fill 𝓤 H A mem run)) (known-answer : Triple 𝓤 (C #kovrelna·report-of) (ReportOf 𝓤 H A mem run)) where
+  module _ (C : Calls 𝓤 H) (Λ : Loops 𝓤 H) (fm : FmC 𝓤 H (W .laws) C) (known-sheet : Triple 𝓤 (C #kovrelna·border-sheet) (BorderSheet 𝓤 H A mem run)) (known-fill : Triple 𝓤 (C #sheet·fill) (Fill 𝓤 H A mem run)) (known-answer : Triple 𝓤 (C #border·report-of) (ReportOf 𝓤 H A mem run)) where
     walk : ent 𝓤 (onEntry 𝓤 H A f.signature (κ₀, (κ₁, (κ₂, (κ₃, tt)))) (q₀, (q₁, (q₂, (q₃, tt)))) a vals) (WpFn 𝓤 H C Λ code.function (s-t ∷ s-v ∷ s-l ∷ m-t ∷ s ∷ []) Post)
     walk =
         qed W ((‵ (flft κ₀ q₀) ⊛ (‵ (flft κ₁ q₁) ⊛ (‵ (flft κ₂ q₂) ⊛ (‵ (flft κ₃ q₃) ⊛ ‵ ftrue)))) ∷ ‵ (owns (ShrSlice (named 0) κ₀ u32 ∷ ShrSlice (named 1) κ₁ i16 ∷ ShrSlice (named 2) κ₂ usize ∷ L.the-row ∷ MutSlice (named 3) κ₃ R ∷ []) a vals) ∷ []) ∵ enter ! C Λ code.function (s-t ∷ s-v ∷ s-l ∷ m-t ∷ s ∷ []) _ $
@@ -244,7 +245,7 @@ module _ {M : Type 1} (𝓤 : URA M) (H : Heap 𝓤) (A : Atoms 𝓤) (W : Given
         keep ! (5 ∷ 2 ∷ 8 ∷ 7 ∷ 6 ∷ 3 ∷ 0 ∷ []) $ by ! (exits r w₂ (zs .0) (outcome sv e e-r) l))))))))))))))))))))))))))
 
 module _ {M : Type 1} (𝓤 : URA M) (H : Heap 𝓤) (A : Atoms 𝓤) (W : Given 𝓤 H A) (mem : Memory → SProp 𝓤) (run : Routine → Fun 𝓤) where
-  report-walks : (C : Calls 𝓤 H) (Λ : Loops 𝓤 H) → FmC 𝓤 H (W .laws) C → Triple 𝓤 (C #kovrelna·border-sheet) (BorderSheet 𝓤 H A mem run) → Triple 𝓤 (C #sheet·fill) (Fill 𝓤 H A mem run) → Triple 𝓤 (C #kovrelna·report-of) (ReportOf 𝓤 H A mem run)
+  report-walks : (C : Calls 𝓤 H) (Λ : Loops 𝓤 H) → FmC 𝓤 H (W .laws) C → Triple 𝓤 (C #kovrelna·border-sheet) (BorderSheet 𝓤 H A mem run) → Triple 𝓤 (C #sheet·fill) (Fill 𝓤 H A mem run) → Triple 𝓤 (C #border·report-of) (ReportOf 𝓤 H A mem run)
       → Walks 𝓤 H A f.ended stayed (WpFn 𝓤 H C Λ code.function) (f.clauses 𝓤 H A mem run)
   report-walks C Λ fm k₁ k₂ k₃ = walked 𝓤 H A f.ended stayed (f.clauses 𝓤 H A mem run) (WpFn 𝓤 H C Λ code.function)
       (λ κs. (slice-vals, (slice-vals, (slice-vals, (LL.vals L.the-type L′.the-laws, (slice-vals, tt))))))
@@ -254,7 +255,7 @@ module _ {M : Type 1} (𝓤 : URA M) (H : Heap 𝓤) (A : Atoms 𝓤) (W : Given
       (are .0 .0 .1) (are .1 .0 .0 .1) (are .1 .1 .0 .0 .1) (are .1 .1 .1 .0) (are .1 .1 .1 .1 .0 .0 .1) C Λ fm k₁ k₂ k₃))
 
 report-meets : {M : Type 1} (𝓤 : URA M) (H : Heap 𝓤) (A : Atoms 𝓤) → Given 𝓤 H A → (mem : Memory → SProp 𝓤) (run : Routine → Fun 𝓤) (𝓣 : Tables 𝓤 H)
-    → Triple 𝓤 (𝓣 .C #kovrelna·border-sheet) (BorderSheet 𝓤 H A mem run) → Triple 𝓤 (𝓣 .C #sheet·fill) (Fill 𝓤 H A mem run) → Triple 𝓤 (𝓣 .C #kovrelna·report-of) (ReportOf 𝓤 H A mem run)
+    → Triple 𝓤 (𝓣 .C #kovrelna·border-sheet) (BorderSheet 𝓤 H A mem run) → Triple 𝓤 (𝓣 .C #sheet·fill) (Fill 𝓤 H A mem run) → Triple 𝓤 (𝓣 .C #border·report-of) (ReportOf 𝓤 H A mem run)
     → Meets 𝓤 H A f.signature (WpFn 𝓤 H (𝓣 .C) (𝓣 .Λ) code.function) (f.spec 𝓤 H A mem run)
 report-meets 𝓤 H A W mem run 𝓣 k₁ k₂ k₃ =
     walk-meets 𝓤 H A f.ended stayed W (goes-none-slice 𝓤 H A W 4 (0 ∷ []) tt (plain (λ _. u32)) yes, (goes-none-slice 𝓤 H A W 4 (1 ∷ []) tt (plain (λ _. i16)) yes, (goes-none-slice 𝓤 H A W 4 (2 ∷ []) tt (plain (λ _. usize)) yes, (goes-none 𝓤 H A W 4 (λ _. L.the-row) yes (λ κs x f. refl), (goes-gave-slice 𝓤 H A W 4 3 tt (plain (λ _. R)), tt))))) (f.clauses 𝓤 H A mem run)
@@ -268,4 +269,4 @@ kovrelna-report-spec 𝓤 H 𝓜 𝓖 𝓡 =
     (report-meets 𝓤 H (𝓖 .A) (givenOf 𝓤 H 𝓜 𝓖) (𝓜 .mem) (𝓡 .run) (tablesOf 𝓤 H 𝓜 (tables 𝓤 H 𝓜 𝓡 code.env))
     (cited 𝓤 H (BorderSheet 𝓤 H (𝓖 .A) (𝓜 .mem) (𝓡 .run)) 𝓜 𝓡 code.env #kovrelna·border-sheet border-sheet-def.routine code.calls-kovrelna·border-sheet (border-sheet-thm.met 𝓤 H 𝓜 𝓖 𝓡))
     (cited 𝓤 H (Fill 𝓤 H (𝓖 .A) (𝓜 .mem) (𝓡 .run)) 𝓜 𝓡 code.env #sheet·fill fill-def.routine code.calls-sheet·fill (fill-thm.met 𝓤 H 𝓜 𝓖 𝓡))
-    (cited 𝓤 H (ReportOf 𝓤 H (𝓖 .A) (𝓜 .mem) (𝓡 .run)) 𝓜 𝓡 code.env #kovrelna·report-of report-of-def.routine code.calls-kovrelna·report-of (report-of-thm.met 𝓤 H 𝓜 𝓖 𝓡)))
+    (cited 𝓤 H (ReportOf 𝓤 H (𝓖 .A) (𝓜 .mem) (𝓡 .run)) 𝓜 𝓡 code.env #border·report-of report-of-def.routine code.calls-border·report-of (report-of-thm.met 𝓤 H 𝓜 𝓖 𝓡)))

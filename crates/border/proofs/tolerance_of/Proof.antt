@@ -1,8 +1,8 @@
--- `kovrelna::tolerance_of` meets its contract. Assumes nothing.
+-- `border::tolerance_of` meets its contract. Assumes nothing.
 use borrow.Author.Tests.{eq-eqb, ne-eqb}
-use Rattle.kovrelna.specs.Border.{toleranceOf}
-use Rattle.kovrelna.proofs.tolerance_of.Statement.{statement}
-use Rattle.kovrelna.proofs.tolerance_of.Tie as tie
+use Rattle.border.specs.Border.{toleranceOf}
+use Rattle.border.proofs.tolerance_of.Statement.{statement}
+use Rattle.border.proofs.tolerance_of.Tie as tie
 
 returns : tie.Need-returns
 unfolding toleranceOf

@@ -1,7 +1,7 @@
--- `kovrelna::judged_of` meets its contract. Assumes nothing.
+-- `border::judged_of` meets its contract. Assumes nothing.
 use borrow.Author.Needs.{needs}
-use Rattle.kovrelna.proofs.judged_of.Statement.{statement}
-use Rattle.kovrelna.proofs.judged_of.Tie as tie
+use Rattle.border.proofs.judged_of.Statement.{statement}
+use Rattle.border.proofs.judged_of.Tie as tie
 
 enum-told : tie.Need-enum-told
 enum-told c = search needs

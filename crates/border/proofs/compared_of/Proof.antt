@@ -1,7 +1,7 @@
--- `kovrelna::compared_of` meets its contract. Assumes nothing.
+-- `border::compared_of` meets its contract. Assumes nothing.
 use borrow.Author.Needs.{needs}
-use Rattle.kovrelna.proofs.compared_of.Statement.{statement}
-use Rattle.kovrelna.proofs.compared_of.Tie as tie
+use Rattle.border.proofs.compared_of.Statement.{statement}
+use Rattle.border.proofs.compared_of.Tie as tie
 
 enum-told : tie.Need-enum-told
 enum-told c = search needs

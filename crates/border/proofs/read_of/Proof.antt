@@ -1,7 +1,7 @@
--- `kovrelna::read_of` meets its contract. Assumes nothing.
+-- `border::read_of` meets its contract. Assumes nothing.
 use borrow.Author.Needs.{needs}
-use Rattle.kovrelna.proofs.read_of.Statement.{statement}
-use Rattle.kovrelna.proofs.read_of.Tie as tie
+use Rattle.border.proofs.read_of.Statement.{statement}
+use Rattle.border.proofs.read_of.Tie as tie
 
 enum-known-a : tie.Need-enum-known-a
 enum-known-a c = search needs

@@ -1,7 +1,7 @@
--- `kovrelna::closest_of` meets its contract. Assumes nothing.
+-- `border::galloped_of` meets its contract. Assumes nothing.
 use borrow.Author.Needs.{needs}
-use Rattle.kovrelna.proofs.closest_of.Statement.{statement}
-use Rattle.kovrelna.proofs.closest_of.Tie as tie
+use Rattle.border.proofs.galloped_of.Statement.{statement}
+use Rattle.border.proofs.galloped_of.Tie as tie
 
 enum-known-a : tie.Need-enum-known-a
 enum-known-a c = search needs
@@ -16,12 +16,12 @@ returned-requires : tie.Need-returned-requires
 returned-requires c κs = search needs
 
 returns : tie.Need-returns
-returns c = rw (c .before .before .a .given .1)
+returns c = rw (c .before .a .given .1)
 
 returns-2 : tie.Need-returns-2
 returns-2 c = rw (c .before .before .before .a2 .given .1, c .returned .ensures, c .before .number .ensures)
 
-pub closest-of-spec : {M : Type 1} → statement M
-closest-of-spec =
+pub galloped-of-spec : {M : Type 1} → statement M
+galloped-of-spec =
     tie.close
     (tie.spec enum-known-a enum-known-a-2 number-requires returned-requires returns returns-2)

@@ -1,7 +1,7 @@
--- `kovrelna::held_of` meets its contract. Assumes nothing.
+-- `border::held_of` meets its contract. Assumes nothing.
 use borrow.Author.Needs.{needs}
-use Rattle.kovrelna.proofs.held_of.Statement.{statement}
-use Rattle.kovrelna.proofs.held_of.Tie as tie
+use Rattle.border.proofs.held_of.Statement.{statement}
+use Rattle.border.proofs.held_of.Tie as tie
 
 enum-known-h : tie.Need-enum-known-h
 enum-known-h c = search needs

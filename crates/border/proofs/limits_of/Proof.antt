@@ -1,7 +1,7 @@
--- `kovrelna::limits_of` meets its contract. Assumes nothing.
+-- `border::limits_of` meets its contract. Assumes nothing.
 use borrow.Author.Needs.{needs}
-use Rattle.kovrelna.proofs.limits_of.Statement.{statement}
-use Rattle.kovrelna.proofs.limits_of.Tie as tie
+use Rattle.border.proofs.limits_of.Statement.{statement}
+use Rattle.border.proofs.limits_of.Tie as tie
 
 tolerance-of-requires : tie.Need-tolerance-of-requires
 tolerance-of-requires c κs = search needs

@@ -1,7 +1,7 @@
--- `kovrelna::galloped_of` meets its contract. Assumes nothing.
+-- `border::kept_of` meets its contract. Assumes nothing.
 use borrow.Author.Needs.{needs}
-use Rattle.kovrelna.proofs.galloped_of.Statement.{statement}
-use Rattle.kovrelna.proofs.galloped_of.Tie as tie
+use Rattle.border.proofs.kept_of.Statement.{statement}
+use Rattle.border.proofs.kept_of.Tie as tie
 
 enum-known-a : tie.Need-enum-known-a
 enum-known-a c = search needs
@@ -21,7 +21,7 @@ returns c = rw (c .before .a .given .1)
 returns-2 : tie.Need-returns-2
 returns-2 c = rw (c .before .before .before .a2 .given .1, c .returned .ensures, c .before .number .ensures)
 
-pub galloped-of-spec : {M : Type 1} → statement M
-galloped-of-spec =
+pub kept-of-spec : {M : Type 1} → statement M
+kept-of-spec =
     tie.close
     (tie.spec enum-known-a enum-known-a-2 number-requires returned-requires returns returns-2)
