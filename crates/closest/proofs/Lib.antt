@@ -1,2 +1,3 @@
 -- The laws of the crate `closest`.
 pub mod ClosestLaws
+pub mod RowLaws

@@ -1,2 +1,3 @@
 -- The definitions of the crate `closest`.
 pub mod Closest
+pub mod Rows

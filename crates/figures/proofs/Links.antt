@@ -29,6 +29,7 @@ use Rattle.reduction.specs.Walking.{walkList}
 use Rattle.reduction.specs.Galloping.{gallopList, gallopTotal}
 use Rattle.shortest.specs.Shortest.{minimumList}
 use Rattle.closest.specs.Closest.{obeyingList, leastError}
+use Rattle.closest.specs.Rows.{allowedRows, leastRows}
 use Rattle.proposed.specs.Proposed.{badAt, listRow, endsRow, firstInvalid, firstWorst, listSample, listStray}
 use Rattle.limits.specs.declared.Limits.{Limits}
 use Rattle.engine.specs.declared.Measured.the-variants.{Link as Measured}
@@ -36,7 +37,6 @@ use Rattle.engine.specs.declared.Verdict.the-variants.{No}
 use Rattle.limits.specs.Prepare.{commonRows, criterionOf, outputRows}
 use Rattle.engine.specs.Measure.{measureRows, measuredBy}
 use Rattle.engine.specs.Judge.{judgeRows, listVerdict, judgeOf}
-use Rattle.engine.specs.Least.{allowedRows, leastRows}
 use Rattle.engine.specs.Write.{writeRows}
 use Rattle.engine.specs.Report.{crateRows}
 

@@ -19,6 +19,7 @@ use Rattle.trace.specs.Link.{limited}
 use Rattle.heights.specs.Budget.{StandsFor}
 use Rattle.reduction.specs.declared.Galloped.{Galloped}
 use Rattle.closest.specs.declared.Found.{Found}
+use Rattle.closest.proofs.RowLaws.{least-task}
 use Rattle.summed.specs.Sum.{sumsOf, twiceSum}
 use Rattle.engine.specs.declared.Reduced.the-variants.{Kept}
 use Rattle.engine.specs.declared.Probed.the-variants.{Kept as KeptBy}
@@ -30,7 +31,6 @@ use Rattle.engine.specs.Minimum.{MinimumOutcome}
 use Rattle.engine.specs.Least.{LeastOutcome}
 use Rattle.engine.specs.Sum.{SumOutcome}
 use Rattle.engine.specs.Judge.{judgeRows, JudgeOutcome}
-use Rattle.engine.proofs.LeastLaws.{least-task}
 use Rattle.limits.proofs.PrepareLaws.{common-trace}
 use Rattle.engine.proofs.WriteLaws.{common-held}
 

@@ -26,9 +26,9 @@ use Rattle.reduction.specs.Walking.{walkList}
 use Rattle.reduction.specs.Galloping.{gallopList, gallopTotal}
 use Rattle.shortest.specs.Shortest.{minimumList}
 use Rattle.closest.specs.Closest.{leastError}
+use Rattle.closest.specs.Rows.{allowanceRow, leastRows}
 use Rattle.channels.specs.Channels.{crateRow}
 use Rattle.limits.specs.Prepare.{unlimited, toleranceRow, commonRows, outputRows}
-use Rattle.engine.specs.Least.{allowanceRow, leastRows}
 use Rattle.engine.specs.Report.{crateRows}
 use Rattle.promises.specs.Pedestals.{Exactly}
 

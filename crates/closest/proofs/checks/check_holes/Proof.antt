@@ -1,9 +1,9 @@
--- `engine::least::check_holes` meets its contract. Assumes nothing.
+-- `closest::checks::check_holes` meets its contract. Assumes nothing.
 use mathlib.Core.Path.{refl}
 use borrow.Author.Needs.{needs}
-use Rattle.engine.proofs.LeastLaws.{holes-some, holes-room, holes-fine}
-use Rattle.engine.proofs.least.check_holes.Statement.{statement}
-use Rattle.engine.proofs.least.check_holes.Tie as tie
+use Rattle.closest.proofs.RowLaws.{holes-some, holes-room, holes-fine}
+use Rattle.closest.proofs.checks.check_holes.Statement.{statement}
+use Rattle.closest.proofs.checks.check_holes.Tie as tie
 
 fewest-requires : tie.Need-fewest-requires
 fewest-requires c κs = search needs
