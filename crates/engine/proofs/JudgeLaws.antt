@@ -18,11 +18,11 @@ use Rattle.refusal.proofs.TableLaws.{then-fine}
 use Rattle.kept.specs.Kept.{KeptList, AllValid}
 use Rattle.limits.specs.declared.Limits.{Limits}
 use Rattle.trace.specs.declared.Criterion.{Criterion}
-use Rattle.trace.specs.declared.Measure.{Measure}
+use Rattle.measures.specs.declared.Measure.{Measure}
 use Rattle.trace.specs.Trace.{Trace}
 use Rattle.trace.specs.Link.{valid}
-use Rattle.trace.specs.Measure.{Offends}
-use Rattle.trace.proofs.MeasureLaws.{fault-offends}
+use Rattle.measures.specs.Measure.{Offends}
+use Rattle.measures.proofs.MeasureLaws.{fault-offends}
 use Rattle.proposed.specs.Proposed.{entry, listRow, invalidAt, firstInvalid, faultAt}
 use Rattle.proposed.proofs.ProposedLaws.{row-kept, kept-link, all-valid}
 use Rattle.engine.specs.declared.Verdict.{Verdict}

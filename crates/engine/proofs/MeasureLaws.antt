@@ -10,11 +10,11 @@ use Rattle.refusal.specs.declared.Refusal.{Refusal}
 use Rattle.refusal.specs.declared.Checked.{Checked}
 use Rattle.refusal.specs.declared.Checked.the-variants.{Fine, Refused}
 use Rattle.refusal.proofs.TableLaws.{then-fine}
-use Rattle.trace.specs.declared.Measure.{Measure}
+use Rattle.measures.specs.declared.Measure.{Measure}
 use Rattle.trace.specs.Link.{Linked}
-use Rattle.trace.specs.Measure.{measureOf, Strays}
+use Rattle.measures.specs.Measure.{measureOf, Strays}
 use Rattle.trace.proofs.TraceLaws.{rows-trace}
-use Rattle.trace.proofs.MeasureLaws.{measure-strays}
+use Rattle.measures.proofs.MeasureLaws.{measure-strays}
 use Rattle.proposed.specs.Proposed.{endsRow}
 use Rattle.proposed.proofs.ProposedLaws.{ends-linked}
 use Rattle.engine.specs.declared.Measured.{Measured}

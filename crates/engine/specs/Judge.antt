@@ -20,9 +20,9 @@ use Rattle.refusal.specs.Table.{_thenCheck_}
 use Rattle.kept.specs.Kept.{KeptList, AllValid}
 use Rattle.limits.specs.declared.Limits.{Limits}
 use Rattle.trace.specs.declared.Criterion.{Criterion}
-use Rattle.trace.specs.declared.Measure.{Measure}
+use Rattle.measures.specs.declared.Measure.{Measure}
 use Rattle.trace.specs.Link.{valid}
-use Rattle.trace.specs.Measure.{Offends}
+use Rattle.measures.specs.Measure.{Offends}
 use Rattle.proposed.specs.Proposed.{entry, listRow, firstInvalid, faultAt}
 use Rattle.engine.specs.declared.Verdict.{Verdict}
 use Rattle.engine.specs.declared.Verdict.the-variants.{Yes, No, Refused as Declined}

@@ -13,9 +13,9 @@ use lib.ListN.{length}
 use Rattle.refusal.specs.declared.Checked.{Checked}
 use Rattle.refusal.specs.declared.Checked.the-variants.{Fine, Refused}
 use Rattle.refusal.specs.Table.{_thenCheck_}
-use Rattle.trace.specs.declared.Measure.{Measure}
+use Rattle.measures.specs.declared.Measure.{Measure}
 use Rattle.trace.specs.Link.{Linked}
-use Rattle.trace.specs.Measure.{measureOf, Strays}
+use Rattle.measures.specs.Measure.{measureOf, Strays}
 use Rattle.proposed.specs.Proposed.{endsRow}
 use Rattle.engine.specs.declared.Measured.{Measured}
 use Rattle.engine.specs.declared.Measured.the-variants.{Link, Refused as Declined}

@@ -1,9 +1,9 @@
 // The public calls. None has a requirement: each states its outcome for every input, and declines by the table of document 01.
 use closest::Found;
+use measures::Measure;
 use ratio::Ratio;
 use reduction::Galloped;
 use refusal::Refusal;
-use trace::Measure;
 
 // What `hold` answers: the tolerance in lowest terms, or a refusal.
 pub enum Holding {

@@ -12,7 +12,7 @@ fn measure_at(ticks: &[u32], values: &[i16], i: usize, j: usize) -> Measured
 {
     let checked = proposed::check_ends(ticks.len(), i, j);
     match checked {
-        Checked::Fine => Measured::Link(trace::measures::link_measure(ticks, values, i, j)),
+        Checked::Fine => Measured::Link(measures::link_measure(ticks, values, i, j)),
         Checked::Refused(x) => Measured::Refused(x),
     }
 }

@@ -22,7 +22,7 @@ use Rattle.trace.specs.Level.{level}
 use Rattle.trace.specs.Trace.{traceRows}
 use Rattle.trace.specs.declared.Side.the-variants.{Above}
 use Rattle.trace.specs.Link.{deviation, within, allFrom, hole, obeys, allWithin, valid, criterion, greatest, farthest, linkError}
-use Rattle.trace.specs.Measure.{worstSample, faultOf}
+use Rattle.measures.specs.Measure.{worstSample, faultOf}
 use Rattle.codes.specs.Code.{codeValue, codeValues}
 use Rattle.format.specs.Number.{bytesOnto}
 use Rattle.format.specs.Format.{stepsOnto, samplesOnto, encode}

@@ -23,7 +23,7 @@ use Rattle.tolerance.specs.declared.Tolerance.the-variants.{Ratio}
 use Rattle.trace.specs.declared.Side.the-variants.{On, Above, Below, Gap as OverGap}
 use Rattle.trace.specs.Trace.{traceRows}
 use Rattle.trace.specs.Link.{deviation, within, allFrom, hole, obeys, allWithin, linksEnd, valid, greatest, farthest, linkError, listError, half}
-use Rattle.trace.specs.Measure.{worstSample, measureOf, faultOf}
+use Rattle.measures.specs.Measure.{worstSample, measureOf, faultOf}
 use Rattle.channels.specs.Channels.{crateRow}
 use Rattle.reduction.specs.Walking.{walkList}
 use Rattle.reduction.specs.Galloping.{gallopList, gallopTotal}

@@ -20,7 +20,7 @@ use Rattle.tolerance.specs.declared.Tolerance.the-variants.{Ratio}
 use Rattle.tolerance.specs.Meaning.{meaning}
 use Rattle.trace.specs.Trace.{traceRows}
 use Rattle.trace.specs.Link.{deviation, within, allFrom, hole, obeys, allWithin, valid, greatest, farthest, linkError}
-use Rattle.trace.specs.Measure.{worstSample}
+use Rattle.measures.specs.Measure.{worstSample}
 use Rattle.codes.specs.RangeTable.{valuesIn, tableRow, expandWithRows}
 use Rattle.channels.specs.Channels.{crateRow}
 use Rattle.sheet.specs.Report.{keptRow, walkedRow, declinedRow, rowOf, totalled, totalsOf}

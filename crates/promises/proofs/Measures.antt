@@ -10,11 +10,11 @@ use Prim.Native.Nat.{ℕ, suc}
 use lib.IntN.{ℤ}
 use Rattle.ratio.specs.declared.Ratio.{Ratio}
 use Rattle.ratio.specs.Order.{AtMost}
-use Rattle.trace.specs.declared.Measure.{Measure}
+use Rattle.measures.specs.declared.Measure.{Measure}
 use Rattle.trace.specs.declared.Side.the-variants.{Gap}
 use Rattle.trace.specs.Link.{AllWithin, criterion}
 use Rattle.trace.proofs.Errors.{within-link-error}
-use Rattle.trace.proofs.MeasureLaws.{fault-error, fault-measure}
+use Rattle.measures.proofs.MeasureLaws.{fault-error, fault-measure}
 use Rattle.proposed.specs.Proposed.{entry}
 use Rattle.limits.specs.declared.Limits.{Limits}
 use Rattle.engine.specs.declared.Measured.the-variants.{Link}

@@ -22,7 +22,7 @@ use Rattle.channels.specs.Channels.{sum, Divided}
 use Rattle.channels.proofs.ChannelLaws.{lent-part}
 use Rattle.trace.specs.declared.Criterion.{Criterion}
 use Rattle.trace.specs.Trace.{Trace, traceRows}
-use Rattle.trace.specs.declared.Stray.{Stray}
+use Rattle.measures.specs.declared.Stray.{Stray}
 use Rattle.trace.specs.Link.{criterion, Bounded}
 use Rattle.proposed.specs.Proposed.{listStray}
 use Rattle.reduction.specs.Walking.{walkList}

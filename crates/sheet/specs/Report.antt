@@ -29,7 +29,7 @@ use Rattle.ratio.specs.Order.{over, greater}
 use Rattle.channels.specs.Channels.{part}
 use Rattle.trace.specs.declared.Criterion.{Criterion}
 use Rattle.trace.specs.Trace.{traceRows}
-use Rattle.trace.specs.declared.Stray.{Stray}
+use Rattle.measures.specs.declared.Stray.{Stray}
 use Rattle.trace.specs.Link.{criterion, Bounded}
 use Rattle.proposed.specs.Proposed.{listStray}
 use Rattle.reduction.specs.Walking.{walkList}

@@ -1,0 +1,2 @@
+-- The definitions of the crate `measures`.
+pub mod Measure
