@@ -1,3 +1,2 @@
 -- The laws of the crate `closest`.
 pub mod ClosestLaws
-pub mod RowLaws

@@ -1,3 +1,2 @@
 -- The definitions of the crate `closest`.
 pub mod Closest
-pub mod Rows

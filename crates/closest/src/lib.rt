@@ -1,7 +1,6 @@
 // The reduction least: the least error over the kept lists of at most m samples that obey the gap limit (search), and the minimum's list at
 // that error.
 // A tolerance is tried by the minimum's list at it (tries); tolerances are chosen among fractions of bounded denominator (choices).
-// What is given is checked before (checks).
 ghost use mathlib.Core.Path.{_≡_};
 ghost use Prim.Native.Nat.{_≤_};
 ghost use lib.ListN.{length};
@@ -30,7 +29,6 @@ pub struct Found {
     pub error: Ratio,
 }
 
-pub mod checks;
 pub mod choices;
 pub mod search;
 pub mod tries;

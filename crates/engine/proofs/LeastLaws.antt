@@ -13,9 +13,9 @@ use Rattle.trace.specs.Link.{criterion, Bounded}
 use Rattle.trace.proofs.Errors.{trace-measures}
 use Rattle.closest.specs.declared.Found.{Found}
 use Rattle.closest.specs.Closest.{leastError, obeyingList}
-use Rattle.closest.specs.Rows.{leastRows}
+use Rattle.allowance.specs.Rows.{leastRows}
 use Rattle.closest.proofs.ClosestLaws.{obeying-kept, obeying-obeys}
-use Rattle.closest.proofs.RowLaws.{least-task}
+use Rattle.allowance.proofs.RowLaws.{least-task}
 use Rattle.engine.specs.Least.{okAt, LeastKept}
 
 pub least-kept : {ts : List ℕ} {vs : List ℤ} {g m : ℕ} {o o′ : List ℕ} {f : Found} → leastRows ts vs g m (length o) ≡ Fine → f .error ≡ leastError ts vs g m

@@ -18,7 +18,7 @@ use Rattle.trace.specs.Link.{obeys, valid, linkError, limited, criterion, Bound
 use Rattle.shortest.specs.Shortest.{minimumList}
 use Rattle.closest.specs.declared.Found.{Found}
 use Rattle.closest.specs.Closest.{leastError}
-use Rattle.closest.specs.Rows.{leastRows}
+use Rattle.allowance.specs.Rows.{leastRows}
 use Rattle.engine.specs.declared.Closest.{Closest}
 use Rattle.engine.specs.declared.Closest.the-variants.{Kept, Refused as Declined}
 

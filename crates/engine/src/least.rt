@@ -7,7 +7,7 @@ use refusal::Checked;
 pub fn least(ticks: &[u32], values: &[i16], gap: u32, m: usize, out: &mut [u16]) -> Closest
     ensures { λ r. ⌜ LeastOutcome (now (ticks .entry)) (now (values .entry)) gap m (now (out .entry)) r (now (out .exit)) ⌝ }
 {
-    let checked = closest::checks::check(ticks, values, gap, m, out.len());
+    let checked = allowance::check(ticks, values, gap, m, out.len());
     match checked {
         Checked::Fine => Closest::Kept(closest::least(ticks, values, gap, m, out)),
         Checked::Refused(x) => Closest::Refused(x),

@@ -29,7 +29,7 @@ use Rattle.reduction.specs.Walking.{walkList}
 use Rattle.reduction.specs.Galloping.{gallopList, gallopTotal}
 use Rattle.shortest.specs.Shortest.{minimumList}
 use Rattle.closest.specs.Closest.{obeyingList, leastError}
-use Rattle.closest.specs.Rows.{allowedRows, leastRows}
+use Rattle.allowance.specs.Rows.{allowedRows, leastRows}
 use Rattle.proposed.specs.Proposed.{badAt, listRow, endsRow, firstInvalid, firstWorst, listSample, listStray}
 use Rattle.limits.specs.declared.Limits.{Limits}
 use Rattle.engine.specs.declared.Measured.the-variants.{Link as Measured}

@@ -41,9 +41,9 @@ use Rattle.trace.proofs.TraceLaws.{rows-trace}
 use Rattle.trace.proofs.Holes.{some-hole, true-obeys, widest-obeys}
 use Rattle.trace.proofs.Validity.{widest-valid}
 use Rattle.closest.specs.Closest.{obeyingList, fewestSamples}
-use Rattle.closest.specs.Rows.{allowanceRow, holesRow, allowedRows, leastRows}
+use Rattle.allowance.specs.Rows.{allowanceRow, holesRow, allowedRows, leastRows}
 use Rattle.closest.proofs.ClosestLaws.{obeying-kept, obeying-obeys, obeying-fewest}
-use Rattle.closest.proofs.RowLaws.{holes-exact}
+use Rattle.allowance.proofs.RowLaws.{holes-exact}
 use Rattle.limits.specs.Prepare.{toleranceRow, gapRow, commonRows, outputRows}
 use Rattle.engine.specs.declared.Closest.{Closest}
 use Rattle.engine.specs.declared.Closest.the-variants.{Kept, Refused as Declined}

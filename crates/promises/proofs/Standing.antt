@@ -19,7 +19,7 @@ use Rattle.trace.specs.Link.{limited}
 use Rattle.heights.specs.Budget.{StandsFor}
 use Rattle.reduction.specs.declared.Galloped.{Galloped}
 use Rattle.closest.specs.declared.Found.{Found}
-use Rattle.closest.proofs.RowLaws.{least-task}
+use Rattle.allowance.proofs.RowLaws.{least-task}
 use Rattle.summed.specs.Sum.{sumsOf, twiceSum}
 use Rattle.engine.specs.declared.Reduced.the-variants.{Kept}
 use Rattle.engine.specs.declared.Probed.the-variants.{Kept as KeptBy}

@@ -26,7 +26,7 @@ use Rattle.reduction.specs.Walking.{walkList}
 use Rattle.reduction.specs.Galloping.{gallopList, gallopTotal}
 use Rattle.shortest.specs.Shortest.{minimumList}
 use Rattle.closest.specs.Closest.{leastError}
-use Rattle.closest.specs.Rows.{allowanceRow, leastRows}
+use Rattle.allowance.specs.Rows.{allowanceRow, leastRows}
 use Rattle.channels.specs.Channels.{crateRow}
 use Rattle.limits.specs.Prepare.{unlimited, toleranceRow, commonRows, outputRows}
 use Rattle.engine.specs.Report.{crateRows}

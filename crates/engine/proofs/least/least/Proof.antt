@@ -2,8 +2,8 @@
 use mathlib.Core.Path.{_≡_, refl, sym, _∙_}
 use lib.ListN.{length}
 use Rattle.refusal.specs.declared.Checked.the-variants.{Fine}
-use Rattle.closest.specs.Rows.{leastRows}
-use Rattle.closest.proofs.RowLaws.{least-task}
+use Rattle.allowance.specs.Rows.{leastRows}
+use Rattle.allowance.proofs.RowLaws.{least-task}
 use Rattle.engine.proofs.LeastLaws.{least-kept}
 use borrow.Author.Needs.{needs}
 use Rattle.engine.proofs.least.least.Statement.{statement}

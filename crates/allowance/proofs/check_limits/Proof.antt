@@ -1,9 +1,9 @@
--- `closest::checks::check_limits` meets its contract. Assumes nothing.
+-- `allowance::check_limits` meets its contract. Assumes nothing.
 use mathlib.Core.Path.{sym, _∙_}
 use borrow.Author.Needs.{needs}
-use Rattle.closest.proofs.RowLaws.{gap-passed, gap-refused}
-use Rattle.closest.proofs.checks.check_limits.Statement.{statement}
-use Rattle.closest.proofs.checks.check_limits.Tie as tie
+use Rattle.allowance.proofs.RowLaws.{gap-passed, gap-refused}
+use Rattle.allowance.proofs.check_limits.Statement.{statement}
+use Rattle.allowance.proofs.check_limits.Tie as tie
 
 check-gap-requires : tie.Need-check-gap-requires
 check-gap-requires c κs = search needs

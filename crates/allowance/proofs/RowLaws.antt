@@ -20,9 +20,9 @@ use Rattle.trace.specs.Trace.{Trace, traceRows}
 use Rattle.trace.specs.Link.{obeys}
 use Rattle.trace.proofs.TraceLaws.{rows-trace}
 use Rattle.limits.specs.Prepare.{gapRow}
 use Rattle.closest.specs.Closest.{fewestSamples, Task}
-use Rattle.closest.specs.Rows.{allowanceRow, holesRow, allowedRows, leastRows}
 use Rattle.closest.proofs.ClosestLaws.{none-fits}
+use Rattle.allowance.specs.Rows.{allowanceRow, holesRow, allowedRows, leastRows}
 
 module _ (ts : List ℕ) (g m room : ℕ) where
   pub holes-some : {n : ℕ} → n ≡ fewestSamples ts g → m < n → Refused Holes ≡ holesRow ts g m thenCheck roomRow (length ts) room

@@ -1,8 +1,8 @@
--- `closest::checks::check_allowance` meets its contract. Assumes nothing.
+-- `allowance::check_allowance` meets its contract. Assumes nothing.
 use borrow.Author.Needs.{needs}
-use Rattle.closest.proofs.RowLaws.{allowance-low, allowance-high, allowance-fine}
-use Rattle.closest.proofs.checks.check_allowance.Statement.{statement}
-use Rattle.closest.proofs.checks.check_allowance.Tie as tie
+use Rattle.allowance.proofs.RowLaws.{allowance-low, allowance-high, allowance-fine}
+use Rattle.allowance.proofs.check_allowance.Statement.{statement}
+use Rattle.allowance.proofs.check_allowance.Tie as tie
 
 returns : tie.Need-returns
 returns c = allowance-low _ _ _ _ (c .if1 .taken)

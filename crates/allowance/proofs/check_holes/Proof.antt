@@ -1,9 +1,9 @@
--- `closest::checks::check_holes` meets its contract. Assumes nothing.
+-- `allowance::check_holes` meets its contract. Assumes nothing.
 use mathlib.Core.Path.{refl}
 use borrow.Author.Needs.{needs}
-use Rattle.closest.proofs.RowLaws.{holes-some, holes-room, holes-fine}
-use Rattle.closest.proofs.checks.check_holes.Statement.{statement}
-use Rattle.closest.proofs.checks.check_holes.Tie as tie
+use Rattle.allowance.proofs.RowLaws.{holes-some, holes-room, holes-fine}
+use Rattle.allowance.proofs.check_holes.Statement.{statement}
+use Rattle.allowance.proofs.check_holes.Tie as tie
 
 fewest-requires : tie.Need-fewest-requires
 fewest-requires c κs = search needs

@@ -1,9 +1,9 @@
--- `closest::checks::check` meets its contract. Assumes nothing.
+-- `allowance::check` meets its contract. Assumes nothing.
 use mathlib.Core.Path.{sym, _∙_}
 use borrow.Author.Needs.{needs}
-use Rattle.closest.proofs.RowLaws.{trace-256, least-passed, least-refused}
-use Rattle.closest.proofs.checks.check.Statement.{statement}
-use Rattle.closest.proofs.checks.check.Tie as tie
+use Rattle.allowance.proofs.RowLaws.{trace-256, least-passed, least-refused}
+use Rattle.allowance.proofs.check.Statement.{statement}
+use Rattle.allowance.proofs.check.Tie as tie
 
 check-requires : tie.Need-check-requires
 check-requires c κs = search needs
