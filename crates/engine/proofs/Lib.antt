@@ -8,3 +8,4 @@ pub mod ExpandLaws
 pub mod WriteLaws
 pub mod LeastLaws
 pub mod SumLaws
+pub mod ScanLaws

@@ -4,7 +4,7 @@
 -- Assumes nothing.
 use mathlib.Core.Path.{_≡_}
 use Rattle.ratio.specs.declared.Ratio.{Ratio}
-use Rattle.refusal.specs.declared.Refusal.the-variants.{Tolerance as NotAllowedTolerance}
+use Rattle.refusal.specs.Table.{NotAllowedTolerance}
 use Rattle.tolerance.specs.declared.Tolerance.{Tolerance}
 use Rattle.tolerance.specs.declared.Meaning.{Meaning}
 use Rattle.tolerance.specs.declared.Meaning.the-variants.{Exact, NotAllowed}

@@ -10,3 +10,4 @@ pub mod Expand
 pub mod Write
 pub mod Least
 pub mod Sum
+pub mod Scan

@@ -12,6 +12,6 @@ pub fn hold(t: Tolerance) -> Holding
     let m = tolerance::meaning_of(t);
     match m {
         Meaning::Exact(r) => Holding::Held(r),
-        Meaning::NotAllowed => Holding::Refused(Refusal::Tolerance),
+        Meaning::NotAllowed => Holding::Refused(Refusal::Tolerance(0)),
     }
 }

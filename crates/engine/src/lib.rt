@@ -3,6 +3,7 @@ use closest::Found;
 use measures::Measure;
 use ratio::Ratio;
 use reduction::Galloped;
+use refusal::Checked;
 use refusal::Refusal;
 
 // What `hold` answers: the tolerance in lowest terms, or a refusal.
@@ -48,6 +49,12 @@ pub enum Written {
     Refused(Refusal),
 }
 
+// What `scan` answers: how many samples the list at each tolerance keeps, 0 behind the last; or a refusal, and zeros.
+pub struct Scanned {
+    pub checked: Checked,
+    pub counts: [usize; 16],
+}
+
 pub mod checks;
 pub mod expand;
 pub mod expand_with;
@@ -60,6 +67,7 @@ pub mod minimum;
 pub mod read;
 pub mod report;
 pub mod same;
+pub mod scan;
 pub mod sum;
 pub mod walk;
 pub mod write;

@@ -17,7 +17,7 @@ use Rattle.kept.specs.Walk.{walkFrom, walkOf}
 use Rattle.kept.specs.Minimum.{bestStop, linksIn, linksOf, nextOf, minimumOf}
 use Rattle.kept.specs.Least.{leastOver, leastFrom, leastOf}
 use Rattle.kept.specs.Gallop.{probeOf, doubling, bisection, searchBy, gallopSearch, gallopOf, gallopProbes, sumFrom}
-use Rattle.refusal.specs.declared.Refusal.the-variants.{Tick, Tolerance, List as NoKeptList, Gap, Holes, Link, Allowance}
+use Rattle.refusal.specs.declared.Refusal.the-variants.{Tick, List as NoKeptList, Gap, Holes, Link, Allowance}
 use Rattle.refusal.specs.declared.Checked.the-variants.{Fine, Refused}
 use Rattle.tolerance.specs.declared.Tolerance.the-variants.{Ratio}
 use Rattle.trace.specs.declared.Side.the-variants.{On, Above, Below, Gap as OverGap}

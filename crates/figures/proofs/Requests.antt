@@ -13,7 +13,7 @@ use Rattle.kept.specs.Error.{errorFrom}
 use Rattle.kept.specs.Stops.{stops}
 use Rattle.kept.specs.Walk.{walkFrom, walkOf}
 use Rattle.kept.specs.Gallop.{sumFrom, listProbes}
-use Rattle.refusal.specs.declared.Refusal.the-variants.{Length, Tick, Tolerance, Room, Crate, Table, Samples, Factor}
+use Rattle.refusal.specs.declared.Refusal.the-variants.{Length, Tick, Room, Crate, Table, Samples, Factor}
 use Rattle.refusal.specs.declared.Checked.the-variants.{Fine, Refused}
 use Rattle.refusal.specs.Table.{numberOf, returnedOf}
 use Rattle.tolerance.specs.declared.Tolerance.the-variants.{Ratio}

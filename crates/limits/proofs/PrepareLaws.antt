@@ -11,9 +11,10 @@ use Rattle.ratio.specs.declared.Ratio.{Ratio}
 use Rattle.refusal.specs.declared.Refusal.{Refusal}
 use Rattle.refusal.specs.declared.Refusal.the-variants.{Room, Gap}
 use Rattle.refusal.specs.declared.Checked.the-variants.{Fine, Refused}
+use Rattle.refusal.specs.Table.{NotAllowedTolerance}
 use Rattle.refusal.proofs.TableLaws.{then-fine}
 use Rattle.limits.specs.declared.Limits.{Limits}
-use Rattle.tolerance.specs.declared.Meaning.the-variants.{Exact}
+use Rattle.tolerance.specs.declared.Meaning.the-variants.{Exact, NotAllowed}
 use Rattle.tolerance.specs.Meaning.{meaning}
 use Rattle.tolerance.proofs.Meanings.{exact-held}
 use Rattle.trace.specs.declared.Criterion.{Criterion}
@@ -22,7 +23,7 @@ use Rattle.trace.specs.Link.{limited}
 use Rattle.trace.proofs.TraceLaws.{rows-trace}
 use Rattle.limits.specs.declared.Ready.{Ready}
 use Rattle.limits.specs.declared.Ready.the-variants.{At, Refused as Declined}
-use Rattle.limits.specs.Prepare.{gapRow, Under, commonRows, criterionIn, criterionOf, Sets, Allowed, ReadyAt, Prepared, outputRows, OutputReady}
+use Rattle.limits.specs.Prepare.{gapRow, limitRows, Under, commonRows, criterionIn, criterionOf, Sets, Allowed, ReadyAt, Prepared, outputRows, OutputReady}
 
 pub gap-low : (g : ℕ) → g < 1 → Refused Gap ≡ gapRow g
 gap-low g h = rw (lt-leb 1 g h)
@@ -44,6 +45,10 @@ exact-sets t {r} e fine =
 pub exact-allowed : (t : Limits) {r : Ratio} (x : Ready) → meaning (t .tolerance) ≡ Exact r → Under r (t .gap) x → Allowed t x
 exact-allowed t (At c) e u = rw (u .1) (exact-sets t e (u .0))
 exact-allowed t (Declined x) e u = rw e u
+
+-- a tolerance that is not allowed is the first cause
+pub not-allowed : (t : Limits) → meaning (t .tolerance) ≡ NotAllowed → limitRows t ≡ Refused NotAllowedTolerance
+not-allowed t e = rw e
 
 pub common-trace : (ts : List ℕ) (vs : List ℤ) (t : Limits) → commonRows ts vs t ≡ Fine → Trace ts vs
 unfolding commonRows

@@ -20,10 +20,10 @@ use lib.IntN.{ℤ}
 use lib.ListN.{length}
 use Rattle.ratio.specs.declared.Ratio.{Ratio}
 use Rattle.ratio.specs.Order.{over}
-use Rattle.refusal.specs.declared.Refusal.the-variants.{Tolerance as NotAllowedTolerance, Gap}
+use Rattle.refusal.specs.declared.Refusal.the-variants.{Gap}
 use Rattle.refusal.specs.declared.Checked.{Checked}
 use Rattle.refusal.specs.declared.Checked.the-variants.{Fine, Refused}
-use Rattle.refusal.specs.Table.{row, roomRow, _thenCheck_}
+use Rattle.refusal.specs.Table.{NotAllowedTolerance, row, roomRow, _thenCheck_}
 use Rattle.tolerance.specs.declared.Tolerance.{Tolerance}
 use Rattle.tolerance.specs.declared.Meaning.{Meaning}
 use Rattle.tolerance.specs.declared.Meaning.the-variants.{Exact, NotAllowed}

@@ -56,7 +56,7 @@ pub fn criterion(t: Limits) -> Ready
     let m = tolerance::meaning_of(given);
     match m {
         Meaning::Exact(r) => under(r, t.gap),
-        Meaning::NotAllowed => Ready::Refused(Refusal::Tolerance),
+        Meaning::NotAllowed => Ready::Refused(Refusal::Tolerance(0)),
     }
 }
 

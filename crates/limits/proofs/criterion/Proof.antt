@@ -1,7 +1,7 @@
 -- `limits::criterion` meets its contract. Assumes nothing.
 use mathlib.Core.Path.{sym, _∙_}
 use borrow.Author.Needs.{needs}
-use Rattle.limits.proofs.PrepareLaws.{exact-allowed}
+use Rattle.limits.proofs.PrepareLaws.{exact-allowed, not-allowed}
 use Rattle.limits.proofs.criterion.Statement.{statement}
 use Rattle.limits.proofs.criterion.Tie as tie
 
@@ -23,7 +23,7 @@ returns c =
     exact-allowed (k .before .before .before .args .t) (c .under .result) (sym (k .before .before .meaning-of .ensures) ∙ k .m .given .1) (c .under .ensures)
 
 returns-2 : tie.Need-returns-2
-returns-2 c = search needs
+returns-2 c = not-allowed (c .before .before .before .args .t) (sym (c .before .before .meaning-of .ensures) ∙ c .enum-told .given .1)
 
 pub criterion-spec : {M : Type 1} → statement M
 criterion-spec =

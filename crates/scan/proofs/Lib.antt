@@ -1,6 +1,0 @@
--- The laws of the crate `scan`.
-pub mod SampleLaws
-pub mod HeldLaws
-pub mod WalkedLaws
-pub mod PassLaws
-pub mod StreamLaws

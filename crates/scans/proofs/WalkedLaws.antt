@@ -1,0 +1,269 @@
+-- Laws of what is held of one tolerance: nothing is kept at the first sample, one step takes the next sample in as walk does, and closed with a
+-- sample it is walk's list of the samples up to there.
+-- Assumes nothing.
+use mathlib.Core.Path.{_≡_, refl, sym, ap, _∙_}
+use mathlib.Core.Bool.{Bool, true, false, not, _&&_}
+use mathlib.Core.List.{List, [], _∷_, _++_}
+use Prim.Native.Nat.{ℕ, zero, suc, _+_, _*_, _≤_, _<_}
+use native.Mathlib.Nat.{mul-le-mul-right}
+use native.Mathlib.Decide.{decLt}
+use native.Mathlib.Numerals.{add-one}
+use native.Mathlib.Omega.{arith}
+use lib.IntN.{ℤ}
+use lib.ListN.{length, set, length-append}
+use Rattle.lists.specs.Overwrite.{overwrite}
+use Rattle.lists.proofs.Tests.{by-test, is-false, true-false, or-false}
+use Rattle.lists.proofs.OverwriteLaws.{overwrite-snoc}
+use Rattle.kept.specs.Kept.{StepsValid}
+use Rattle.kept.specs.Stops.{stops}
+use Rattle.kept.specs.Walk.{walkOf, walkStart, walkOpen}
+use Rattle.kept.proofs.WalkLaws.{walk-closes, walk-start-le}
+use Rattle.trace.specs.declared.Criterion.{Criterion}
+use Rattle.trace.specs.declared.Start.{Start}
+use Rattle.trace.specs.Trace.{tick, value, Trace}
+use Rattle.trace.specs.Link.{Bounded, hole, obeys, valid, linksEnd}
+use Rattle.trace.specs.Edge.{StartAt, EdgeTo}
+use Rattle.trace.specs.Cone.{admitsEdge}
+use Rattle.trace.proofs.Ticks.{not-earlier, span-bound}
+use Rattle.trace.proofs.Level.{short, level-short}
+use Rattle.trace.proofs.Holes.{obeys-true, true-obeys, none-hole, some-hole, obeys-past}
+use Rattle.trace.proofs.Validity.{steps-valid, valid-obeys, hole-invalid}
+use Rattle.trace.proofs.EdgeLaws.{edge-made}
+use Rattle.reduction.specs.Outgoing.{TakenIn, Next}
+use Rattle.reduction.proofs.OutgoingLaws.{next-at, next-valid, next-taken, next-tilt, taken-first, first-tilt}
+use Rattle.scans.specs.declared.Sample.{Sample}
+use Rattle.scans.specs.Sample.{SampleAt, edgeFrom, Ahead}
+use Rattle.scans.specs.Held.{Held, goesOn, further, anew, stepped, Steps}
+use Rattle.scans.specs.Scan.{holeBefore, cutAt, keptBefore, linksOf, Walked}
+use Rattle.scans.proofs.HeldLaws.{extended-fits, none-fits, stepped-yes, stepped-no, goes-not, goes-as}
+
+-- ---- a sample by value
+
+-- a sample as a start
+pub sample-start : {ts : List ℕ} {vs : List ℤ} {k : ℕ} {s : Sample} (q : ℕ) → SampleAt ts vs k s → StartAt ts vs q k (record { sample = k; tick = s .tick; base = q * s .level })
+sample-start q h = record { sample = refl; tick = h .tick; base = ap (λ (x : ℕ). q * x) (h .level .is); range = h .level .range }
+
+module _ {ts : List ℕ} {vs : List ℤ} {q i k : ℕ} {s : Start} {to : Sample} (h : StartAt ts vs q i s) (g : SampleAt ts vs k to) (b : q ≤ 1048575) where
+  pub edge-to-sample : EdgeTo ts vs q i k (edgeFrom q (s .tick) (s .base) to)
+  edge-to-sample = rw (g .tick) (edge-made h b (g .level) refl)
+
+  pub ahead-of : Trace ts vs → i ≤ k → k < length ts → Ahead q (s .tick) (s .base) to
+  ahead-of t ik kn = record {
+    q-bound = b;
+    base-bound = omega (arith, h .base, mul-le-mul-right q (level-short (value vs i) (h .range)));
+    order = omega (arith, h .tick, g .tick, not-earlier (t .rising) ik kn);
+    span = omega (arith, h .tick, g .tick, span-bound t i k ik kn, not-earlier (t .rising) ik kn);
+    short = short (g .level);
+  }
+
+-- ---- walk so far
+
+module _ (ok : ℕ → ℕ → Bool) (step : StepsValid ok) where
+  -- the open link starts before the sample that it has reached, and is valid
+  pub start-before : (j : ℕ) → walkStart ok (suc j) ≤ j
+  unfolding walkStart
+  start-before j = by-test (ok (walkStart ok j) (suc j)) (λ q. rw q (walk-start-le ok j)) (λ q. rw q (omega arith))
+
+  pub open-link : (j : ℕ) → ok (walkStart ok (suc j)) (suc j) ≡ true
+  unfolding walkStart
+  open-link j = by-test (ok (walkStart ok j) (suc j)) (λ q. rw (q, q)) (λ q. rw q (step j))
+
+  module _ (j : ℕ) where
+    module _ (q : ok (walkStart ok (suc j)) (suc (suc j)) ≡ true) where
+      pub start-valid : walkStart ok (suc (suc j)) ≡ walkStart ok (suc j)
+      unfolding walkStart
+      start-valid = rw q
+
+      pub kept-valid : keptBefore ok (suc (suc j)) ≡ keptBefore ok (suc j)
+      unfolding keptBefore walkOpen
+      kept-valid = rw q
+
+    module _ (q : ok (walkStart ok (suc j)) (suc (suc j)) ≡ false) where
+      pub start-invalid : walkStart ok (suc (suc j)) ≡ suc j
+      unfolding walkStart
+      start-invalid = rw q
+
+      pub kept-invalid : keptBefore ok (suc (suc j)) ≡ keptBefore ok (suc j) ++ (suc j ∷ [])
+      unfolding keptBefore walkOpen
+      kept-invalid = rw q
+
+  pub start-first : walkStart ok 1 ≡ 0
+  unfolding walkStart
+  start-first = by-test (ok 0 1) (λ q. rw q) (λ q. rw q)
+
+  pub kept-first : keptBefore ok 1 ≡ keptBefore ok 0 ++ (0 ∷ [])
+  unfolding keptBefore walkOpen walkStart
+  kept-first = rw (step 0)
+
+  pub kept-length : (j : ℕ) → length (keptBefore ok j) ≤ j
+  unfolding keptBefore
+  kept-length zero = omega arith
+  kept-length (suc zero) = rw kept-first (omega arith)
+  kept-length (suc (suc j)) = by-test (ok (walkStart ok (suc j)) (suc (suc j)))
+      (λ q. rw (kept-valid j q) (omega (arith, kept-length (suc j))))
+      (λ q. rw (kept-invalid j q, length-append) (omega (arith, kept-length (suc j))))
+
+  -- sample j closes the list
+  pub kept-closes : (j : ℕ) → walkOf ok j ≡ keptBefore ok j ++ (j ∷ [])
+  unfolding keptBefore walkOf stops
+  kept-closes zero = refl
+  kept-closes (suc j) = walk-closes ok step j
+
+-- ---- holes
+
+-- the link to the next sample crosses a hole exactly if one lies before that sample or before the one before
+module _ (ts : List ℕ) (g : ℕ) {i j : ℕ} (before : i ≤ j) (o : obeys ts g i (suc j) ≡ true) where
+  pub uncut-obeys : cutAt ts g (suc j) ≡ false → obeys ts g i (suc (suc j)) ≡ true
+  unfolding holeBefore
+  uncut-obeys q =
+      let h = or-false (hole ts g j) (hole ts g (suc j)) q in
+      obeys-true ts g i (suc (suc j)) (record {
+        near = λ long k l u. elim (decLt k j) [
+          | yes r ↦ true-obeys ts g i (suc j) o .near (omega arith) k l (omega arith)
+          | no r ↦ elim (decLt j k) [
+            | yes p ↦ let e : k ≡ suc j = omega arith in rw e (none-hole ts g (suc j) (h .1))
+            | no p ↦ let e : k ≡ j = omega arith in rw e (none-hole ts g j (h .0))
+          ]
+        ];
+      })
+
+  hole-cuts : (k : ℕ) → j ≤ k → k < suc (suc j) → hole ts g k ≡ true → obeys ts g i (suc (suc j)) ≡ false
+  hole-cuts k l u h = is-false _ (λ e. absurd (omega (arith, some-hole ts g k h, true-obeys ts g i (suc (suc j)) e .near (omega arith) k (omega arith) u)))
+
+  pub cut-cuts : cutAt ts g (suc j) ≡ true → obeys ts g i (suc (suc j)) ≡ false
+  unfolding holeBefore
+  cut-cuts q = by-test (hole ts g j) (λ h. hole-cuts j (omega arith) (omega arith) h) (λ h. hole-cuts (suc j) (omega arith) (omega arith) (rw h at q))
+
+-- ---- one sample more
+
+module _ {ts : List ℕ} {vs : List ℤ} {c : Criterion} {o : List ℕ} where
+  pub walked-none : {h : Held} → h .count ≡ 0 → h .list ≡ o → Walked ts vs c o 0 h
+  unfolding keptBefore
+  walked-none e f = record { taken = λ z. absurd (omega arith); count = e; list = f }
+
+  module _ {j : ℕ} {h : Held} (w : Walked ts vs c o j h) where
+    pub walked-count : h .count ≤ j
+    walked-count = omega (arith, w .count, kept-length (valid ts vs c) (steps-valid ts vs c) j)
+
+    -- the sample j is kept, and the open link starts from it
+    module _ {before here : Sample} (t : Trace ts vs) (b : Bounded c) (inside : suc j < length ts) (g : SampleAt ts vs j before) (k : SampleAt ts vs (suc j) here) where
+      start : StartAt ts vs (c .q) j (record { sample = j; tick = before .tick; base = c .q * before .level })
+      start = sample-start (c .q) g
+
+      again : EdgeTo ts vs (c .q) j (j + 1) (edgeFrom (c .q) (before .tick) (c .q * before .level) here)
+      again = rw (add-one j) (edge-to-sample start k (b .q-bound))
+
+      kept-step : walkStart (valid ts vs c) (suc j) ≡ j → keptBefore (valid ts vs c) (suc j) ≡ keptBefore (valid ts vs c) j ++ (j ∷ []) → suc j < length o
+          → Walked ts vs c o (suc j) (anew c before here j h)
+      kept-step e f room =
+          let s : j + 1 < length ts = omega arith in
+          let fits = extended-fits (none-fits {p = c .p} (omega (arith, b .p-bound, b .q-bound))) (first-tilt t b s start again) in
+          record {
+            taken = λ z. rw e (rw (add-one (j + 1), add-one j) at (taken-first t b s start again refl fits refl));
+            count = rw (f, length-append, w .count);
+            list = rw (f, w .list, w .count) (overwrite-snoc (keptBefore (valid ts vs c) j) o j (omega (arith, kept-length (valid ts vs c) (steps-valid ts vs c) j)));
+          }
+
+      pub again-ahead : Ahead (c .q) (before .tick) (c .q * before .level) here
+      again-ahead = ahead-of start k (b .q-bound) t (omega arith) inside
+
+-- from the first sample
+module _ {ts : List ℕ} {vs : List ℤ} {c : Criterion} {o : List ℕ} {h : Held} (w : Walked ts vs c o 0 h)
+    {before here : Sample} (t : Trace ts vs) (b : Bounded c) (inside : 1 < length ts) (g : SampleAt ts vs 0 before) (k : SampleAt ts vs 1 here) where
+  first-cut : cutAt ts (c .gap) 0 ≡ true
+  unfolding holeBefore
+  first-cut = refl
+
+  pub first-steps : Steps c (cutAt ts (c .gap) 0) before here h
+  first-steps = record {
+    bounded = b;
+    goes = record { ahead = λ q. true-false first-cut q; fits = λ q. true-false first-cut q };
+    again = again-ahead w t b inside g k;
+    short = short (g .level);
+  }
+
+  pub first-step : 1 < length o → Walked ts vs c o 1 (stepped c (cutAt ts (c .gap) 0) before here 0 h)
+  first-step room =
+      rw (stepped-no c (cutAt ts (c .gap) 0) before here 0 h (goes-not _ first-cut))
+      (kept-step w t b inside g k (start-first (valid ts vs c) (steps-valid ts vs c)) (kept-first (valid ts vs c) (steps-valid ts vs c)) room)
+
+-- from a later one
+module _ {ts : List ℕ} {vs : List ℤ} {c : Criterion} {o : List ℕ} {j : ℕ} {h : Held} (w : Walked ts vs c o (suc j) h)
+    {before here : Sample} (t : Trace ts vs) (b : Bounded c) (inside : suc (suc j) < length ts) (g : SampleAt ts vs (suc j) before) (k : SampleAt ts vs (suc (suc j)) here) where
+  abbrev ok : ℕ → ℕ → Bool
+  ok = valid ts vs c
+
+  abbrev i : ℕ
+  i = walkStart (valid ts vs c) (suc j)
+
+  early : i ≤ j
+  early = start-before ok (steps-valid ts vs c) j
+
+  reached : obeys ts (c .gap) i (suc j) ≡ true
+  reached = valid-obeys ts vs c i (suc j) (open-link ok (steps-valid ts vs c) j)
+
+  held : TakenIn ts vs c i (suc (suc j)) (linksOf ts (c .gap) i h)
+  held = w .taken (omega arith)
+
+  edge : EdgeTo ts vs (c .q) i (suc (suc j)) (edgeFrom (c .q) (h .tick) (h .base) here)
+  edge = edge-to-sample (held .start) k (b .q-bound)
+
+  module _ (obey : obeys ts (c .gap) i (suc (suc j)) ≡ true) where
+    reach : suc (suc j) ≤ linksEnd ts (c .gap) i
+    reach = elim (decLt (linksEnd ts (c .gap) i) (suc (suc j))) [
+      | yes q ↦ true-false obey (obeys-past ts (c .gap) i (omega (arith, early)) (suc (suc j)) q inside)
+      | no q ↦ omega arith
+    ]
+
+    next : Next ts vs c (linksOf ts (c .gap) i h) (suc (suc j))
+    next = next-at held t b (omega (arith, early)) reach inside
+
+  goes-valid : goesOn c (cutAt ts (c .gap) (suc j)) here (h .tick) (h .base) (h .cone) ≡ ok i (suc (suc j))
+  goes-valid = by-test (cutAt ts (c .gap) (suc j))
+      (λ q. goes-not _ q ∙ sym (hole-invalid ts vs c i (suc (suc j)) (cut-cuts ts (c .gap) early reached q)))
+      (λ q. goes-as _ q (next-valid (next (uncut-obeys ts (c .gap) early reached q)) edge))
+
+  pub later-steps : Steps c (cutAt ts (c .gap) (suc j)) before here h
+  later-steps = record {
+    bounded = b;
+    goes = record { ahead = λ q. ahead-of (held .start) k (b .q-bound) t (omega (arith, early)) inside; fits = λ q. held .fits };
+    again = again-ahead w t b inside g k;
+    short = short (g .level);
+  }
+
+  valid-step : ok i (suc (suc j)) ≡ true → Walked ts vs c o (suc (suc j)) (further c here h)
+  valid-step q =
+      let n = next (valid-obeys ts vs c i (suc (suc j)) q) in
+      record {
+        taken = λ z. rw (start-valid ok (steps-valid ts vs c) j q) (rw (add-one (suc (suc j))) at (next-taken n edge refl (extended-fits (held .fits) (next-tilt n edge))));
+        count = rw (kept-valid ok (steps-valid ts vs c) j q) (w .count);
+        list = rw (kept-valid ok (steps-valid ts vs c) j q) (w .list);
+      }
+
+  pub later-step : suc (suc j) < length o → Walked ts vs c o (suc (suc j)) (stepped c (cutAt ts (c .gap) (suc j)) before here (suc j) h)
+  later-step room = by-test (ok i (suc (suc j)))
+      (λ q. rw (stepped-yes c (cutAt ts (c .gap) (suc j)) before here (suc j) h (goes-valid ∙ q)) (valid-step q))
+      (λ q. rw (stepped-no c (cutAt ts (c .gap) (suc j)) before here (suc j) h (goes-valid ∙ q))
+      (kept-step w t b inside g k (start-invalid ok (steps-valid ts vs c) j q) (kept-invalid ok (steps-valid ts vs c) j q) room))
+
+-- from any sample
+module _ {ts : List ℕ} {vs : List ℤ} {c : Criterion} {o : List ℕ} {h : Held} {before here : Sample} (t : Trace ts vs) (b : Bounded c) where
+  pub walked-steps : (j : ℕ) → Walked ts vs c o j h → suc j < length ts → SampleAt ts vs j before → SampleAt ts vs (suc j) here → Steps c (cutAt ts (c .gap) j) before here h
+  walked-steps zero w inside g k = first-steps w t b inside g k
+  walked-steps (suc j) w inside g k = later-steps w t b inside g k
+
+  pub walked-step : (j : ℕ) → Walked ts vs c o j h → suc j < length ts → SampleAt ts vs j before → SampleAt ts vs (suc j) here → suc j < length o
+      → Walked ts vs c o (suc j) (stepped c (cutAt ts (c .gap) j) before here j h)
+  walked-step zero w inside g k room = first-step w t b inside g k room
+  walked-step (suc j) w inside g k room = later-step w t b inside g k room
+
+-- ---- closed with a sample, the samples kept so far are walk's list of the samples up to there
+
+module _ {ts : List ℕ} {vs : List ℤ} {c : Criterion} {o : List ℕ} {j : ℕ} {h : Held} (w : Walked ts vs c o j h) where
+  pub closed-count : h .count + 1 ≡ length (walkOf (valid ts vs c) j)
+  closed-count = rw (kept-closes (valid ts vs c) (steps-valid ts vs c) j, length-append, w .count)
+
+  pub closed-list : j < length o → set (h .list) (h .count) j ≡ overwrite (walkOf (valid ts vs c) j) o
+  closed-list room =
+      rw (kept-closes (valid ts vs c) (steps-valid ts vs c) j, w .list, w .count)
+      (overwrite-snoc (keptBefore (valid ts vs c) j) o j (omega (arith, kept-length (valid ts vs c) (steps-valid ts vs c) j)))

@@ -1,0 +1,152 @@
+-- Walk at several tolerances in one pass (document 02, "Sixteen tolerances in one reading").
+--   criterionAt           the criterion of tolerance a under the gap limit
+--   Ratios                1 to 16 tolerances, each allowed
+--   KeptAt, Restarted     the two halves of a step that keeps a sample
+--   Turning, Sampling     one tolerance's turn can be made; every one's
+--   Became, AllBecame     entry b became h, and everything else stayed; every entry became what f gives
+--   Places                each tolerance writes at the start of its part next
+--   holeBefore, cutAt     a hole lies before sample j; links of more than one step to sample j + 1 are cut
+--   keptBefore            the samples that walk has kept at sample j, which closes its list
+--   Walked                what is held of a tolerance is walk's, with the samples up to j taken in
+--   Given, Scanning       what the pass requires; the pass with the samples up to j taken in
+--   Closing, Closed       every part can be closed with a sample; it was
+--   Scanned               every part begins with walk's list at its tolerance, and nothing else changed
+-- Laws are in HeldLaws (Became), WalkedLaws (Walked) and PassLaws. Assumes nothing.
+use mathlib.Core.Path.{_≡_}
+use mathlib.Core.Logic.{_≢_}
+use mathlib.Core.Bool.{Bool, true, _||_}
+use mathlib.Core.List.{List, []}
+use Prim.Native.Nat.{ℕ, zero, suc, _+_, _-_, _*_, _≤_, _<_}
+use lib.IntN.{ℤ}
+use lib.ListN.{length, getD, set, drop}
+use Rattle.lists.specs.Overwrite.{overwrite}
+use Rattle.kept.specs.Walk.{walkStart, walkOpen}
+use Rattle.trace.specs.declared.Criterion.{Criterion}
+use Rattle.trace.specs.Trace.{Trace}
+use Rattle.trace.specs.Link.{Bounded, hole, valid, linksEnd}
+use Rattle.trace.specs.Cone.{coneFrom, extendedBy}
+use Rattle.reduction.specs.declared.Links.{Links}
+use Rattle.reduction.specs.Outgoing.{TakenIn}
+use Rattle.reduction.specs.Walking.{walkList}
+use Rattle.scans.specs.declared.Sample.{Sample}
+use Rattle.scans.specs.Sample.{SampleAt, edgeFrom, Put}
+use Rattle.scans.specs.Held.{Held, stepped, Steps, Numbers, Sized, part, Inside, heldIn}
+
+abbrev pub criterionAt : List ℕ → List ℕ → ℕ → ℕ → Criterion
+criterionAt ps qs g a = record { p = getD ps a 0; q = getD qs a 0; gap = g }
+
+pub record Ratios (ps qs : List ℕ) (g : ℕ) : Type 0 where
+  pub few : length ps ≤ 16
+  pub same : length qs ≡ length ps
+  pub bounded : (a : ℕ) → a < length ps → Bounded (criterionAt ps qs g a)
+
+-- ---- one sample
+
+-- the sample `at` was kept at the place of entry b, whose next place is one further
+pub record KeptAt (at b : ℕ) (places out places′ out′ : List ℕ) : Type 0 where
+  pub place : places′ ≡ set places b (getD places b 0 + 1)
+  pub list : out′ ≡ set out (getD places b 0) at
+
+-- the open link of entry b starts at the sample before
+pub record Restarted (c : Criterion) (before here : Sample) (b : ℕ) (s s′ : Numbers) : Type 0 where
+  pub start : s′ .starts ≡ set (s .starts) b (before .tick)
+  pub base : s′ .bases ≡ set (s .bases) b (c .q * before .level)
+  pub low : Put (s .lowClimbs) (s .lowRuns) b (extendedBy (coneFrom (c .p)) (edgeFrom (c .q) (before .tick) (c .q * before .level) here) (c .p) .low) (s′ .lowClimbs) (s′ .lowRuns)
+  pub high : Put (s .highClimbs) (s .highRuns) b (extendedBy (coneFrom (c .p)) (edgeFrom (c .q) (before .tick) (c .q * before .level) here) (c .p) .high) (s′ .highClimbs) (s′ .highRuns)
+
+-- entry b is one of 16, and its part has room
+pub record Turning (c : Criterion) (cut : Bool) (before here : Sample) (at n b : ℕ) (s : Numbers) (out : List ℕ) : Type 0 where
+  pub few : b < 16
+  pub sized : Sized s
+  pub steps : Steps c cut before here (heldIn n s out b)
+  pub room : b * n + n ≤ length out
+  pub inside : Inside n b (getD (s .places) b 0)
+  pub number : at < 65536
+
+pub record Became (n b : ℕ) (h : Held) (s : Numbers) (out : List ℕ) (s′ : Numbers) (out′ : List ℕ) : Type 0 where
+  pub sized : Sized s′
+  pub this : heldIn n s′ out′ b ≡ h
+  pub others : (a : ℕ) → a ≢ b → heldIn n s′ out′ a ≡ heldIn n s out a
+  pub elsewhere : (a : ℕ) → a ≢ b → getD (s′ .places) a 0 ≡ getD (s .places) a 0
+  pub places : (a : ℕ) → getD (s .places) a 0 ≤ getD (s′ .places) a 0
+  pub beyond : (m : ℕ) → b < m → drop (m * n) out′ ≡ drop (m * n) out
+
+pub record AllBecame (m n : ℕ) (f : ℕ → Held) (s : Numbers) (out : List ℕ) (s′ : Numbers) (out′ : List ℕ) : Type 0 where
+  pub sized : Sized s′
+  pub each : (a : ℕ) → a < m → heldIn n s′ out′ a ≡ f a
+  pub places : (a : ℕ) → getD (s .places) a 0 ≤ getD (s′ .places) a 0
+  pub beyond : drop (m * n) out′ ≡ drop (m * n) out
+
+pub record Sampling (ps qs : List ℕ) (g : ℕ) (cut : Bool) (before here : Sample) (at n : ℕ) (s : Numbers) (out : List ℕ) : Type 0 where
+  pub few : length ps ≤ 16
+  pub same : length qs ≡ length ps
+  pub sized : Sized s
+  pub room : length ps * n ≤ length out
+  pub number : at < 65536
+  pub steps : (a : ℕ) → a < length ps → Steps (criterionAt ps qs g a) cut before here (heldIn n s out a)
+  pub inside : (a : ℕ) → a < length ps → Inside n a (getD (s .places) a 0)
+
+-- ---- the pass
+
+pub record Places (m n : ℕ) (places : List ℕ) : Type 0 where
+  pub sized : length places ≡ 16
+  pub each : (a : ℕ) → a < m → getD places a 0 ≡ a * n
+
+-- nothing lies before the first sample; it is kept as if a hole did
+unfoldable pub holeBefore : List ℕ → ℕ → ℕ → Bool
+holeBefore ts g zero = true
+holeBefore ts g (suc j) = hole ts g j
+
+-- a link that reaches sample j over more than one step crosses no hole up to there
+abbrev pub cutAt : List ℕ → ℕ → ℕ → Bool
+cutAt ts g j = holeBefore ts g j || hole ts g j
+
+unfoldable pub keptBefore : (ℕ → ℕ → Bool) → ℕ → List ℕ
+keptBefore ok zero = []
+keptBefore ok (suc j) = walkOpen ok (suc j)
+
+-- what is held as links from sample i
+abbrev pub linksOf : List ℕ → ℕ → ℕ → Held → Links
+linksOf ts g i h = record { from = record { sample = i; tick = h .tick; base = h .base }; cone = h .cone; limit = linksEnd ts g i }
+
+-- what is held of a tolerance with the samples 0 to j taken in, over the part o: walk's open link at j, and the samples that it has kept so far
+pub record Walked (ts : List ℕ) (vs : List ℤ) (c : Criterion) (o : List ℕ) (j : ℕ) (h : Held) : Type 0 where
+  pub taken : 0 < j → TakenIn ts vs c (walkStart (valid ts vs c) j) (suc j) (linksOf ts (c .gap) (walkStart (valid ts vs c) j) h)
+  pub count : h .count ≡ length (keptBefore (valid ts vs c) j)
+  pub list : h .list ≡ overwrite (keptBefore (valid ts vs c) j) o
+
+pub record Given (ts : List ℕ) (vs : List ℤ) (ps qs : List ℕ) (g : ℕ) (o : List ℕ) : Type 0 where
+  pub trace : Trace ts vs
+  pub ratios : Ratios ps qs g
+  pub room : length ps * length ts ≤ length o
+
+pub record Scanning (ts : List ℕ) (vs : List ℤ) (ps qs : List ℕ) (g : ℕ) (o : List ℕ) (j : ℕ) (here : Sample) (before : Bool) (s : Numbers) (out : List ℕ) : Type 0 where
+  pub given : Given ts vs ps qs g o
+  pub within : j < length ts
+  pub sample : SampleAt ts vs j here
+  pub before-is : before ≡ holeBefore ts g j
+  pub sized : Sized s
+  pub each : (a : ℕ) → a < length ps → Walked ts vs (criterionAt ps qs g a) (part (length ts) a o) j (heldIn (length ts) s out a)
+  pub from : (a : ℕ) → a < length ps → a * length ts ≤ getD (s .places) a 0
+  pub beyond : drop (length ps * length ts) out ≡ drop (length ps * length ts) o
+  pub same : length out ≡ length o
+
+pub record Closing (m n last : ℕ) (places out : List ℕ) : Type 0 where
+  pub few : m ≤ 16
+  pub sized : length places ≡ 16
+  pub room : m * n ≤ length out
+  pub number : last < 65536
+  pub short : n ≤ 4096
+  pub inside : (a : ℕ) → a < m → Inside n a (getD places a 0)
+
+pub record Closed (m n last : ℕ) (places out counts out′ : List ℕ) : Type 0 where
+  pub count : (a : ℕ) → a < m → getD counts a 0 ≡ getD places a 0 - a * n + 1
+  pub none : (a : ℕ) → m ≤ a → getD counts a 0 ≡ 0
+  pub list : (a : ℕ) → a < m → part n a out′ ≡ set (part n a out) (getD places a 0 - a * n) last
+  pub beyond : drop (m * n) out′ ≡ drop (m * n) out
+
+pub record Scanned (ts : List ℕ) (vs : List ℤ) (ps qs : List ℕ) (g : ℕ) (o counts o′ : List ℕ) : Type 0 where
+  pub parts : (a : ℕ) → a < length ps → part (length ts) a o′ ≡ overwrite (walkList ts vs (criterionAt ps qs g a)) (part (length ts) a o)
+  pub kept : (a : ℕ) → a < length ps → getD counts a 0 ≡ length (walkList ts vs (criterionAt ps qs g a))
+  pub none : (a : ℕ) → length ps ≤ a → getD counts a 0 ≡ 0
+  pub beyond : drop (length ps * length ts) o′ ≡ drop (length ps * length ts) o

@@ -1,0 +1,149 @@
+// The pass: each sample is read once, and taken in for every tolerance before the next is read.
+ghost use mathlib.Core.Path.{_≡_};
+ghost use Prim.Native.Nat.{_≤_};
+ghost use lib.ListN.{length};
+ghost use Rattle.scans.specs.Held.{stepped, numbers, heldIn};
+ghost use Rattle.scans.specs.Scan.{criterionAt, Places, Sampling, AllBecame, Closing, Closed, Given, Scanned};
+use crate::Kept;
+use crate::Sample;
+use crate::Starts;
+use crate::samples::far_apart;
+use crate::samples::sample_at;
+use crate::turns::turn;
+use reduction::entries::store;
+use trace::Criterion;
+
+// Each tolerance's next place: the start of its part, as many entries long as the trace has samples.
+fn part_starts(m: usize, n: usize) -> Starts
+    requires { ⌜ (m ≤ 16) × (n ≤ 4096) ⌝ }
+    ensures { λ r. ⌜ Places m n (r .places) ⌝ }
+{
+    let mut places = [0usize; 16];
+    let mut b = 0;
+    while b < m {
+        places[b] = b * n;
+        b += 1;
+    }
+    Starts { places }
+}
+
+// Takes the next sample in for every tolerance; `at` is the number of the sample before, and `cut` tells that links of more than one step to
+// the next sample do not obey the gap limit. The contract alone needs n, the length of a part.
+fn take_in(
+    ps: &[u64],
+    qs: &[u64],
+    gap: u32,
+    starts: &mut [u64; 16],
+    bases: &mut [u64; 16],
+    lows: &mut [i64; 16],
+    lowruns: &mut [u64; 16],
+    highs: &mut [i64; 16],
+    highruns: &mut [u64; 16],
+    places: &mut [usize; 16],
+    before: Sample,
+    here: Sample,
+    at: usize,
+    cut: bool,
+    n: usize,
+    out: &mut [u16],
+)
+    requires { ⌜ Sampling (now ps) (now qs) gap cut before here at n (numbers (now starts) (now bases) (now lows) (now lowruns) (now highs) (now highruns) (now places)) (now out) ⌝ }
+    ensures { λ r. ⌜ AllBecame (length (now (ps .entry))) n (λ a. stepped (criterionAt (now (ps .entry)) (now (qs .entry)) gap a) cut before here at (heldIn n (numbers (now (starts .entry)) (now (bases .entry)) (now (lows .entry)) (now (lowruns .entry)) (now (highs .entry)) (now (highruns .entry)) (now (places .entry))) (now (out .entry)) a)) (numbers (now (starts .entry)) (now (bases .entry)) (now (lows .entry)) (now (lowruns .entry)) (now (highs .entry)) (now (highruns .entry)) (now (places .entry))) (now (out .entry)) (numbers (now (starts .exit)) (now (bases .exit)) (now (lows .exit)) (now (lowruns .exit)) (now (highs .exit)) (now (highruns .exit)) (now (places .exit))) (now (out .exit)) ⌝ }
+{
+    let mut b = 0;
+    while b < ps.len() {
+        let c = Criterion {
+            p: ps[b],
+            q: qs[b],
+            gap,
+        };
+        turn(
+            c,
+            starts,
+            bases,
+            lows,
+            lowruns,
+            highs,
+            highruns,
+            places,
+            b,
+            before,
+            here,
+            at,
+            cut,
+            n,
+            out,
+        );
+        b += 1;
+    }
+}
+
+// Closes each of the m parts, n entries long, with the last sample: how many samples each keeps.
+fn close(m: usize, places: &[usize; 16], n: usize, last: usize, out: &mut [u16]) -> Kept
+    requires { ⌜ Closing m n last (now places) (now out) ⌝ }
+    ensures { λ r. ⌜ Closed m n last (now (places .entry)) (now (out .entry)) (r .counts) (now (out .exit)) ⌝ }
+{
+    let mut counts = [0usize; 16];
+    let mut b = 0;
+    while b < m {
+        let place = places[b];
+        store(out, place, last);
+        counts[b] = place - b * n + 1;
+        b += 1;
+    }
+    Kept { counts }
+}
+
+// Writes walk's list at each tolerance into its part of out, and returns how many samples each keeps. A link of more than one step to the next
+// sample crosses a hole exactly if one lies before that sample or before the sample before, as it crosses no other: to that sample it was valid.
+pub fn scan(
+    ticks: &[u32],
+    values: &[i16],
+    ps: &[u64],
+    qs: &[u64],
+    gap: u32,
+    out: &mut [u16],
+) -> Kept
+    requires { ⌜ Given (now ticks) (now values) (now ps) (now qs) gap (now out) ⌝ }
+    ensures { λ r. ⌜ Scanned (now (ticks .entry)) (now (values .entry)) (now (ps .entry)) (now (qs .entry)) gap (now (out .entry)) (r .counts) (now (out .exit)) ⌝ }
+{
+    let n = ticks.len();
+    let last = n - 1;
+    let mut starts = [0u64; 16];
+    let mut bases = [0u64; 16];
+    let mut lows = [0i64; 16];
+    let mut lowruns = [0u64; 16];
+    let mut highs = [0i64; 16];
+    let mut highruns = [0u64; 16];
+    let mut places = part_starts(ps.len(), n).places;
+    let mut here = sample_at(ticks, values, 0);
+    let mut hole = true;
+    let mut at = 0;
+    while at < last {
+        let before = here;
+        let next = at + 1;
+        here = sample_at(ticks, values, next);
+        let far = far_apart(before, here, gap);
+        take_in(
+            ps,
+            qs,
+            gap,
+            &mut starts,
+            &mut bases,
+            &mut lows,
+            &mut lowruns,
+            &mut highs,
+            &mut highruns,
+            &mut places,
+            before,
+            here,
+            at,
+            hole | far,
+            n,
+            out,
+        );
+        hole = far;
+        at = next;
+    }
+    close(ps.len(), &places, n, last, out)
+}
