@@ -13,6 +13,7 @@ use lib.Dec.{ltb}
 use lib.IntN.{ℤ}
 use lib.ListN.{length, getD, set, drop, replicate, length-drop, length-set, length-replicate, getD-replicate, List·getD-eq-default}
 use lib.Seq.{length-take-le}
+use Rattle.trace.specs.declared.Criterion.{Criterion}
 use Rattle.trace.specs.Trace.{tick}
 use Rattle.trace.specs.Link.{hole}
 use Rattle.trace.proofs.Holes.{hole-test}
@@ -37,17 +38,19 @@ part-length m n b o h lt = length-take-le n (drop (b * n) o) (rw length-drop (om
 
 -- ---- the parts' starts
 
-pub record Starting (m n b : ℕ) (places : List ℕ) : Type 0 where
+pub record Starting (m n at b : ℕ) (places : List ℕ) : Type 0 where
   pub within : b ≤ m
+  pub at-is : at ≡ b * n
   pub sized : length places ≡ 16
   pub each : (a : ℕ) → a < b → getD places a 0 ≡ a * n
 
-module _ {m n b : ℕ} {places : List ℕ} (g : Starting m n b places) where
-  pub starts-next : m ≤ 16 → b < m → {places′ : List ℕ} → places′ ≡ set places b (b * n) → Starting m n (b + 1) places′
+module _ {m n at b : ℕ} {places : List ℕ} (g : Starting m n at b places) where
+  pub starts-next : m ≤ 16 → b < m → {places′ : List ℕ} → places′ ≡ set places b at → Starting m n (at + n) (b + 1) places′
   starts-next few lt {places′} h = record {
     within = omega arith;
-    sized = set-sized places b (b * n) h ∙ g .sized;
-    each = λ a u. below-more (λ (a : ℕ). getD places′ a 0 ≡ a * n) b (λ a v. set-there places b (b * n) h a (λ e. omega arith) ∙ g .each a v) (set-here places b (b * n) h (omega (arith, g .sized))) a u;
+    at-is = omega (arith, g .at-is);
+    sized = set-sized places b at h ∙ g .sized;
+    each = λ a u. below-more (λ (a : ℕ). getD places′ a 0 ≡ a * n) b (λ a v. set-there places b at h a (λ e. omega arith) ∙ g .each a v) (set-here places b at h (omega (arith, g .sized)) ∙ g .at-is) a u;
   }
 
   pub starts-done : m ≤ b → Places m n places
@@ -87,15 +90,15 @@ module _ {m n : ℕ} {f : ℕ → Held} {s₀ : Numbers} {out₀ : List ℕ} {b 
   loop-own = g .round .todo b (omega arith)
 
 module _ {ps : List ℕ} {n : ℕ} {f : ℕ → Held} {s₀ : Numbers} {out₀ : List ℕ} {b : ℕ} {s : Numbers} {out : List ℕ} (g : Looping (length ps) n f s₀ out₀ b s out) where
-  pub turning-at : {qs : List ℕ} {gap : ℕ} {cut : Bool} {before here : Sample} {at : ℕ} → Sampling ps qs gap cut before here at n s₀ out₀ → b < length ps → Turning (criterionAt ps qs gap b) cut before here at n b s out
-  turning-at {qs} {gap} {cut} {before} {here} h lt = record {
+  pub turning-at : {qs : List ℕ} {gap : ℕ} {cut : Bool} {before here : Sample} {at : ℕ} → Sampling ps qs gap cut before here at n s₀ out₀ → b < length ps → {c : Criterion} → c ≡ criterionAt ps qs gap b → Turning c cut before here at n b s out
+  turning-at {qs} {gap} {cut} {before} {here} h lt e = rw e (record {
     few = omega (arith, h .few);
     sized = g .sized;
     steps = subst (Steps (criterionAt ps qs gap b) cut before here) (sym (loop-own g)) (h .steps b lt);
     room = omega (arith, g .same, part-room (length ps) n b out₀ (h .room) lt);
     inside = subst (Inside n b) (sym (g .next b (omega arith))) (h .inside b lt);
     number = h .number;
-  }
+  })
 
 -- ---- closing
 

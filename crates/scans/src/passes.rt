@@ -1,6 +1,6 @@
 // The pass: each sample is read once, and taken in for every tolerance before the next is read.
 ghost use mathlib.Core.Path.{_≡_};
-ghost use Prim.Native.Nat.{_≤_};
+ghost use Prim.Native.Nat.{_≤_, _<_};
 ghost use lib.ListN.{length};
 ghost use Rattle.scans.specs.Held.{stepped, numbers, heldIn};
 ghost use Rattle.scans.specs.Scan.{criterionAt, Places, Sampling, AllBecame, Closing, Closed, Given, Scanned};
@@ -19,12 +19,26 @@ fn part_starts(m: usize, n: usize) -> Starts
     ensures { λ r. ⌜ Places m n (r .places) ⌝ }
 {
     let mut places = [0usize; 16];
+    let mut place = 0;
     let mut b = 0;
     while b < m {
-        places[b] = b * n;
+        places[b] = place;
+        place += n;
         b += 1;
     }
     Starts { places }
+}
+
+// The criterion of tolerance b.
+fn criterion_at(ps: &[u64], qs: &[u64], gap: u32, b: usize) -> Criterion
+    requires { ⌜ (b < length (now ps)) × (length (now qs) ≡ length (now ps)) ⌝ }
+    ensures { λ r. ⌜ r ≡ criterionAt (now (ps .entry)) (now (qs .entry)) gap b ⌝ }
+{
+    Criterion {
+        p: ps[b],
+        q: qs[b],
+        gap,
+    }
 }
 
 // Takes the next sample in for every tolerance; `at` is the number of the sample before, and `cut` tells that links of more than one step to
@@ -52,13 +66,8 @@ fn take_in(
 {
     let mut b = 0;
     while b < ps.len() {
-        let c = Criterion {
-            p: ps[b],
-            q: qs[b],
-            gap,
-        };
         turn(
-            c,
+            criterion_at(ps, qs, gap, b),
             starts,
             bases,
             lows,
@@ -84,12 +93,12 @@ fn close(m: usize, places: &[usize; 16], n: usize, last: usize, out: &mut [u16])
     ensures { λ r. ⌜ Closed m n last (now (places .entry)) (now (out .entry)) (r .counts) (now (out .exit)) ⌝ }
 {
     let mut counts = [0usize; 16];
-    let mut b = 0;
-    while b < m {
-        let place = places[b];
+    let mut closed = 0;
+    while closed < m {
+        let place = places[closed];
         store(out, place, last);
-        counts[b] = place - b * n + 1;
-        b += 1;
+        counts[closed] = place - closed * n + 1;
+        closed += 1;
     }
     Kept { counts }
 }

@@ -9,10 +9,10 @@ use Rattle.scans.proofs.passes.close.Statement.{statement}
 use Rattle.scans.proofs.passes.close.Tie as tie
 
 abbrev Inv-loop : tie.InvT-loop
-Inv-loop m places n last out₀ counts₀ b₀ out counts b = ClosingTo m n last places out₀ b counts out
+Inv-loop m places n last out₀ counts₀ closed₀ out counts closed = ClosingTo m n last places out₀ closed counts out
 
 abbrev μ-loop : tie.MeasureT-loop
-μ-loop m places n last out₀ counts₀ b₀ out counts b = m - b
+μ-loop m places n last out₀ counts₀ closed₀ out counts closed = m - closed
 
 loop-holds : tie.Need-loop-holds Inv-loop μ-loop
 loop-holds c = close-first refl (zeros 16)
@@ -41,8 +41,8 @@ mul-counts-2 c = search needs
 array-write-counts : tie.Need-array-write-counts Inv-loop μ-loop
 array-write-counts c = search needs
 
-add-b : tie.Need-add-b Inv-loop μ-loop
-add-b c = search needs
+add-closed : tie.Need-add-closed Inv-loop μ-loop
+add-closed c = search needs
 
 loop-less : tie.Need-loop-less Inv-loop μ-loop
 loop-less c = search needs
@@ -71,7 +71,7 @@ close-spec =
     add-counts
     mul-counts-2
     array-write-counts
-    add-b
+    add-closed
     loop-less
     loop-again
     same-length

@@ -1,30 +1,30 @@
 -- `scans::passes::part_starts` meets its contract. Assumes nothing.
 use mathlib.Core.Path.{refl}
 use Prim.Native.Nat.{_-_}
-use native.Mathlib.Omega.{arith}
 use native.Mathlib.Nat.{mul-le-mul-right}
-use Rattle.scans.proofs.PassLaws.{Starting, starts-next, starts-done, part-few}
+use native.Mathlib.Omega.{arith}
+use Rattle.scans.proofs.PassLaws.{part-few, Starting, starts-next, starts-done}
 use borrow.Author.Needs.{needs}
 use Rattle.scans.proofs.passes.part_starts.Statement.{statement}
 use Rattle.scans.proofs.passes.part_starts.Tie as tie
 
 abbrev Inv-loop : tie.InvT-loop
-Inv-loop m n places₀ b₀ places b = Starting m n b places
+Inv-loop m n places₀ place₀ b₀ places place b = Starting m n place b places
 
 abbrev μ-loop : tie.MeasureT-loop
-μ-loop m n places₀ b₀ places b = m - b
+μ-loop m n places₀ place₀ b₀ places place b = m - b
 
 loop-holds : tie.Need-loop-holds Inv-loop μ-loop
-loop-holds c = record { within = omega arith; sized = refl; each = λ a lt. absurd (omega arith) }
+loop-holds c = record { within = omega arith; at-is = omega arith; sized = refl; each = λ a lt. absurd (omega arith) }
 
 mul-places : tie.Need-mul-places Inv-loop μ-loop
-mul-places c = omega (arith, mul-le-mul-right (c .before .before .args .n) (part-few (c .before .before .pre .0) (c .loop-test .taken)), c .before .before .pre .1)
-
-mul-places-2 : tie.Need-mul-places-2 Inv-loop μ-loop
-mul-places-2 c = search needs
+mul-places c = search needs
 
 array-write-places : tie.Need-array-write-places Inv-loop μ-loop
 array-write-places c = search needs
+
+add-place : tie.Need-add-place Inv-loop μ-loop
+add-place c = omega (arith, c .before .loop .inv .at-is, mul-le-mul-right (c .before .before .args .n) (part-few (c .before .before .pre .0) (c .loop-test .taken)), c .before .before .pre .1)
 
 add-b : tie.Need-add-b Inv-loop μ-loop
 add-b c = search needs
@@ -46,8 +46,8 @@ part-starts-spec =
     μ-loop
     loop-holds
     mul-places
-    mul-places-2
     array-write-places
+    add-place
     add-b
     loop-less
     loop-again

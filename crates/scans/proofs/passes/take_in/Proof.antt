@@ -1,5 +1,4 @@
 -- `scans::passes::take_in` meets its contract: each turn leaves the other entries alone. Assumes nothing.
-use mathlib.Core.Path.{ap}
 use Prim.Native.Nat.{_-_}
 use native.Mathlib.Omega.{arith}
 use lib.ListN.{length}
@@ -21,20 +20,11 @@ abbrev μ-loop : tie.MeasureT-loop
 loop-holds : tie.Need-loop-holds Inv-loop μ-loop
 loop-holds c = loop-first (c .before .before .before .pre .sized)
 
-mul-t19 : tie.Need-mul-t19 Inv-loop μ-loop
-mul-t19 c = search needs
-
-shared-slice-read-t22 : tie.Need-shared-slice-read-t22 Inv-loop μ-loop
-shared-slice-read-t22 c = search needs
-
-mul-t23 : tie.Need-mul-t23 Inv-loop μ-loop
-mul-t23 c = search needs
-
-shared-slice-read-t25 : tie.Need-shared-slice-read-t25 Inv-loop μ-loop
-shared-slice-read-t25 c = search needs
+criterion-at-requires : tie.Need-criterion-at-requires Inv-loop μ-loop
+criterion-at-requires c κs = (c .loop-test .taken, c .before .before .before .before .before .pre .same)
 
 turn-requires : tie.Need-turn-requires Inv-loop μ-loop
-turn-requires c κs = turning-at (c .before .before .before .before .before .before .before .before .before .before .before .loop .inv) (c .before .before .before .before .before .before .before .before .before .before .before .before .before .before .before .pre) (c .before .before .before .before .before .before .before .before .before .before .loop-test .taken)
+turn-requires c κs = turning-at (c .before .before .before .before .before .before .before .before .before .before .loop .inv) (c .before .before .before .before .before .before .before .before .before .before .before .before .before .before .pre) (c .before .before .before .before .before .before .before .before .before .loop-test .taken) (c .before .before .before .before .before .before .before .before .criterion-at .ensures)
 
 add-b : tie.Need-add-b Inv-loop μ-loop
 add-b c = search needs
@@ -43,7 +33,7 @@ loop-less : tie.Need-loop-less Inv-loop μ-loop
 loop-less c = search needs
 
 loop-again : tie.Need-loop-again Inv-loop μ-loop
-loop-again c = loop-next (c .before .before .before .before .before .before .before .before .before .before .before .before .before .before .loop .inv) (c .before .before .before .before .before .before .before .before .before .before .before .before .before .loop-test .taken) (c .before .before .turn .ensures) (ap (stepped _ _ _ _ _) (loop-own (c .before .before .before .before .before .before .before .before .before .before .before .before .before .before .loop .inv))) (omega (arith, c .before .before .turn .kept))
+loop-again c = loop-next (c .before .before .before .before .before .before .before .before .before .before .before .before .before .loop .inv) (c .before .before .before .before .before .before .before .before .before .before .before .before .loop-test .taken) (c .before .before .turn .ensures) (rw ((c .before .before .before .before .before .before .before .before .before .before .before .criterion-at .ensures), (loop-own (c .before .before .before .before .before .before .before .before .before .before .before .before .before .loop .inv)))) (omega (arith, c .before .before .turn .kept))
 
 same-length : tie.Need-same-length Inv-loop μ-loop
 same-length c = search needs
@@ -58,10 +48,7 @@ take-in-spec =
     Inv-loop
     μ-loop
     loop-holds
-    mul-t19
-    shared-slice-read-t22
-    mul-t23
-    shared-slice-read-t25
+    criterion-at-requires
     turn-requires
     add-b
     loop-less
