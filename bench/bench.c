@@ -6,11 +6,12 @@
  * bench kept: prints the kept numbers.
  * bench summary: prints each call's microseconds and its ratio to C on the pulse trace at tolerance
  *   7.5, with walk's list; for measure with the link from the first sample to the last; for sum with
- *   another trace and walk's list of it; for least with allowance 20; for report and pedestals on
- *   crates of pulse traces.
+ *   another trace and walk's list of it; for scan at 16 tolerances from 0.5 to 8; for least with
+ *   allowance 20; for report and pedestals on crates of pulse traces.
  * bench trace, bench part: prints that trace, and the part of it for least.
- * bench once KIND FUNCTION [SAMPLES]: calls one function once, so that instructions can be counted;
- *   report and pedestals with so many samples a channel, 4,096 unless given. */
+ * bench once KIND FUNCTION [NUMBER]: calls one function once, so that instructions can be counted;
+ *   report and pedestals with so many samples a channel, 4,096 unless given; scan and its peers with
+ *   the set of tolerances of this number, 0 unless given. */
 #define _POSIX_C_SOURCE 199309L
 #include "kovrelna.h"
 #include "peers.h"
@@ -569,6 +570,132 @@ static void print_records(void) {
   }
 }
 
+/* ---- Scans ---- */
+
+enum { SCANNED = KOVRELNA_TOLERANCES_MAX };
+
+/* The tolerances of a scan are the multiples of p/q from 1 to 16 times. */
+static const ratio STEPS[] = {{1, 2}, {5, 2}};
+
+/* 16 tolerances as the library and as C takes them. */
+typedef struct scan_set {
+  kovrelna_tolerances lent;
+  ratio ratios[SCANNED];
+} scan_set;
+
+static scan_set make_set(ratio step) {
+  scan_set set;
+  int64_t a;
+  set.lent.count = SCANNED;
+  for (a = 0; a < SCANNED; a++) {
+    ratio times = {(a + 1) * step.p, step.q};
+    if (times.p % times.q == 0) times.p /= times.q, times.q = 1;
+    set.ratios[a] = times;
+    set.lent.list[a] = kovrelna_ratio((uint64_t)times.p, (uint64_t)times.q);
+  }
+  return set;
+}
+
+/* The lists and the kept numbers of a scan. */
+typedef struct scan_lists {
+  uint16_t out[SCANNED * SAMPLES];
+  size_t kept[SCANNED];
+} scan_lists;
+
+static void library_scan(size_t kind, const scan_set *set, scan_lists *to) {
+  kovrelna_scanned found =
+      kovrelna_scan(ticks[kind], SAMPLES, values[kind], SAMPLES, set->lent, KINDS[kind].gap, to->out,
+                    SCANNED * SAMPLES);
+  size_t a;
+  if (found.number != 0) fail("the library refused a scan");
+  for (a = 0; a < SCANNED; a++) to->kept[a] = (size_t)found.kept[a];
+}
+
+/* The separate calls. */
+static void library_walks(size_t kind, const scan_set *set, scan_lists *to) {
+  size_t a;
+  for (a = 0; a < SCANNED; a++)
+    to->kept[a] = library_walk(ticks[kind], values[kind], SAMPLES, set->ratios[a].p,
+                               set->ratios[a].q, KINDS[kind].gap, to->out + a * SAMPLES)
+                      .kept;
+}
+
+static void plain_scan(size_t kind, const scan_set *set, scan_lists *to) {
+  if (scan_c(ticks[kind], values[kind], SAMPLES, set->ratios, SCANNED, KINDS[kind].gap, to->out,
+             SCANNED * SAMPLES, to->kept)
+          .number != 0)
+    fail("the peer refused a scan");
+}
+
+enum { SCAN, SCAN_C, SCAN_WALKS, SCANNERS };
+
+static const struct {
+  const char *name;
+  void (*call)(size_t, const scan_set *, scan_lists *);
+} SCANNER[SCANNERS] = {{"kovrelna_scan", library_scan},
+                       {"scan_c", plain_scan},
+                       {"kovrelna_walks", library_walks}};
+
+static scan_lists scan_found[SCANNERS];
+
+static void same_scans(void) {
+  int x;
+  size_t a;
+  for (x = 1; x < SCANNERS; x++)
+    for (a = 0; a < SCANNED; a++)
+      if (scan_found[0].kept[a] != scan_found[x].kept[a] ||
+          memcmp(&scan_found[0].out[a * SAMPLES], &scan_found[x].out[a * SAMPLES],
+                 scan_found[0].kept[a] * sizeof(uint16_t)) != 0)
+        fail("scan and its peers differ");
+}
+
+/* Microseconds of scan, of its peer in C and of the separate calls; the ratios of scan to these. */
+typedef struct scan_row {
+  double times[SCANNERS], ratios[SCANNERS];
+} scan_row;
+
+static scan_row measure_scan(size_t kind, const scan_set *set) {
+  static double list[SCANNERS][REPETITIONS];
+  scan_row row;
+  int repetition, turn, x, k;
+  for (repetition = 0; repetition < REPETITIONS; repetition++) {
+    for (turn = 0; turn < SCANNERS; turn++) {
+      double start;
+      /* There and back, so that C is always between the two that may share code, and each with a
+       * call before that is not timed: a branch may be foreseen from an earlier call. */
+      x = repetition % 2 == 0 ? turn : SCANNERS - 1 - turn;
+      SCANNER[x].call(kind, set, &scan_found[x]);
+      start = now();
+      for (k = 0; k < CALLS; k++) SCANNER[x].call(kind, set, &scan_found[x]);
+      list[x][repetition] = 1e-3 * (now() - start) / CALLS;
+    }
+  }
+  same_scans();
+  for (x = 0; x < SCANNERS; x++) {
+    row.times[x] = median_of(list[x], NULL, REPETITIONS);
+    row.ratios[x] = median_of(list[SCAN], list[x], REPETITIONS);
+  }
+  return row;
+}
+
+static void print_scans(void) {
+  size_t kind, s;
+  printf("\nscan, %d samples at %d tolerances, beside walk at each and beside C. Microseconds for\n"
+         "all tolerances.\n"
+         "             from      to  kovrelna 16 walks   ratio       C   ratio\n",
+         SAMPLES, SCANNED);
+  for (kind = 0; kind < COUNT(KINDS); kind++) {
+    for (s = 0; s < COUNT(STEPS); s++) {
+      scan_set set = make_set(STEPS[s]);
+      scan_row row = measure_scan(kind, &set);
+      double step = (double)STEPS[s].p / (double)STEPS[s].q;
+      printf("%-8s %8.2f %7.2f %9.2f %8.2f %7.2f %7.2f %7.2f\n", KINDS[kind].name, step,
+             SCANNED * step, row.times[SCAN], row.times[SCAN_WALKS], row.ratios[SCAN_WALKS],
+             row.times[SCAN_C], row.ratios[SCAN_C]);
+    }
+  }
+}
+
 /* ---- Least ---- */
 
 enum { FEW = 256, LEAST_REPETITIONS = 9 };
@@ -958,12 +1085,16 @@ static void print_crates(const char *name, int x, size_t samples) {
 
 static void print_summary(void) {
   static kept_record r;
+  scan_set set = make_set(STEPS[0]);
+  scan_row scan;
   least_row least;
   int x;
   measure(&rows[0], 0, TOLERANCES[1]);
   for (x = WALK; x <= MINIMUM; x += 2)
     print_line(REDUCER[x].name, 1e-3 * SAMPLES * median(&rows[0], x, -1),
                median(&rows[0], x, x + 1));
+  scan = measure_scan(0, &set);
+  print_line(SCANNER[SCAN].name, scan.times[SCAN], scan.ratios[SCAN_C]);
   least = measure_least(0, 20);
   print_line(LEASTER[LEAST].name, 1e3 * least.times[LEAST], least.ratio);
   print_crates(CRATE_CALL[REPORT].name, REPORT, SAMPLES);
@@ -993,6 +1124,8 @@ int main(int argc, char **argv) {
   if ((argc == 4 || argc == 5) && strcmp(argv[1], "once") == 0) {
     static kept_record record;
     size_t samples = argc == 5 ? (size_t)atoi(argv[4]) : SAMPLES;
+    size_t number = argc == 5 ? (size_t)atoi(argv[4]) : 0;
+    scan_set set = make_set(STEPS[number % COUNT(STEPS)]);
     for (kind = 0; kind < COUNT(KINDS); kind++) {
       if (strcmp(argv[2], KINDS[kind].name) != 0) continue;
       for (x = 0; x < REDUCERS; x++)
@@ -1002,6 +1135,8 @@ int main(int argc, char **argv) {
         make_record(&record, kind, 1, x == WRITE_C ? library_write : plain_write);
         RECORDER[x].call(&record);
       }
+      for (x = 0; x < SCANNERS; x++)
+        if (strcmp(argv[3], SCANNER[x].name) == 0) SCANNER[x].call(kind, &set, &scan_found[x]);
       for (x = 0; x < LEASTS; x++)
         if (strcmp(argv[3], LEASTER[x].name) == 0) call_least(x, kind, 20);
       make_crates(kind, samples);
@@ -1019,6 +1154,7 @@ int main(int argc, char **argv) {
     for (t = 0; t < COUNT(TOLERANCES); t++)
       measure(&rows[kind * COUNT(TOLERANCES) + t], kind, TOLERANCES[t]);
   print_times();
+  print_scans();
   print_least();
   print_reports();
   print_pedestals();

@@ -7,7 +7,8 @@ if ! command -v valgrind >/dev/null; then
 fi
 kinds="pulse noise ramp zigzag spike dropout"
 
-# table SAMPLES CALL..: calls of so many samples in all; where `each` is set, so many a channel.
+# table SAMPLES CALL..: calls of so many samples in all; where `each` is set, so many a channel, or the
+# set of tolerances of scan.
 table() {
   samples=$1
   shift
@@ -17,10 +18,14 @@ table() {
   for call in "$@"; do
     functions="kovrelna_$call ${call}_c"
     [ "$call" != expand ] || functions="$functions expand_table_c"
+    [ "$call" != scan ] || functions="$functions kovrelna_walks"
     for function in $functions; do
+      # What is counted of the separate calls is the call itself.
+      counted=$function
+      [ "$function" != kovrelna_walks ] || counted=kovrelna_walk
       printf '%-20s' "$function"
       for kind in $kinds; do
-        valgrind --tool=callgrind --callgrind-out-file=/dev/null --toggle-collect="$function" \
+        valgrind --tool=callgrind --callgrind-out-file=/dev/null --toggle-collect="$counted" \
           "$bench" once "$kind" "$function" ${each:-} 2>&1 |
           awk -v samples="$samples" '/Collected/ { printf " %10.1f", $NF / samples }'
       done
@@ -34,6 +39,16 @@ echo
 echo "Instructions a sample, whole call, 4096 samples, tolerance 7.50; records and lists of all samples,"
 echo "and the link from the first to the last"
 table 4096 walk gallop minimum write read same judge measure sum expand expand_with
+echo
+echo "Instructions a sample and tolerance, whole call, 4096 samples, 16 tolerances from 0.50 to 8;"
+echo "kovrelna_walks: walk at each"
+each=0
+table 65536 scan
+echo
+echo "The same, from 2.50 to 40"
+each=1
+table 65536 scan
+each=""
 echo
 echo "Instructions a sample, whole call, 256 samples, allowance 20"
 table 256 least

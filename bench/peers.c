@@ -2,7 +2,7 @@
 
 #include <string.h>
 
-enum { SAMPLES = 4096, SPAN = 1048575, CHANNELS = 64, CODES = 256, FACTOR = 16 };
+enum { SAMPLES = 4096, SPAN = 1048575, CHANNELS = 64, CODES = 256, FACTOR = 16, TOLERANCES = 16 };
 
 /* Samples that are searched for a hole at once, by vector instructions. */
 enum { BLOCK = 64 };
@@ -65,12 +65,11 @@ static cone narrowed(cone c, int64_t rise, int64_t run, int64_t p, int64_t over,
   return c;
 }
 
-reduced walk_c(const uint32_t *ticks, const int16_t *values, size_t n, int64_t p, int64_t q,
-               uint32_t gap, uint16_t *out) {
-  reduced answer = {0, 0};
-  size_t i = 0;
-  if (!is_trace(ticks, n)) return answer;
-  out[answer.kept++] = 0;
+/* Writes walk's list of a trace that is one, and returns its kept number. */
+static inline size_t walk_list(const uint32_t *ticks, const int16_t *values, size_t n, int64_t p,
+                               int64_t q, uint32_t gap, uint16_t *out) {
+  size_t i = 0, kept = 0;
+  out[kept++] = 0;
   while (i < n - 1) {
     size_t past = past_links(i, first_hole(ticks, i, n - 1, gap));
     while (i < past - 1) {
@@ -84,9 +83,16 @@ reduced walk_c(const uint32_t *ticks, const int16_t *values, size_t n, int64_t p
         c = narrowed(c, rise, run, p, over, under);
       }
       i = k - 1;
-      out[answer.kept++] = (uint16_t)i;
+      out[kept++] = (uint16_t)i;
     }
   }
+  return kept;
+}
+
+reduced walk_c(const uint32_t *ticks, const int16_t *values, size_t n, int64_t p, int64_t q,
+               uint32_t gap, uint16_t *out) {
+  reduced answer = {0, 0};
+  if (is_trace(ticks, n)) answer.kept = walk_list(ticks, values, n, p, q, gap, out);
   return answer;
 }
 
@@ -344,6 +350,31 @@ static answered trace_refusal(const uint32_t *ticks, size_t n) {
     if (ticks[k] <= ticks[k - 1]) return answer_of(2, k);
   for (k = 1; ticks[k] - ticks[0] <= SPAN;) k++;
   return answer_of(3, k);
+}
+
+/* The position of the first tolerance that is not allowed, `count` if there is none. */
+static size_t first_refused(const ratio *tolerances, size_t count) {
+  size_t a = 0;
+  while (a < count && tolerances[a].q >= 1 && tolerances[a].q <= SPAN && tolerances[a].p >= 0 &&
+         tolerances[a].p <= 65535 * tolerances[a].q)
+    a++;
+  return a;
+}
+
+answered scan_c(const uint32_t *ticks, const int16_t *values, size_t n, const ratio *tolerances,
+                size_t count, uint32_t gap, uint16_t *restrict out, size_t room,
+                size_t *restrict kept) {
+  answered trace = trace_refusal(ticks, n);
+  size_t a;
+  if (trace.number != 0) return trace;
+  if (count == 0 || count > TOLERANCES) return answer_of(19, 0);
+  a = first_refused(tolerances, count);
+  if (a < count) return answer_of(4, a);
+  if (gap == 0 || gap > SPAN) return answer_of(15, 0);
+  if (room < count * n) return answer_of(10, count * n);
+  for (a = 0; a < count; a++)
+    kept[a] = walk_list(ticks, values, n, tolerances[a].p, tolerances[a].q, gap, out + a * n);
+  return answer_of(0, count);
 }
 
 static channel_row row_of(const uint32_t *ticks, const int16_t *values, size_t n, int64_t p,

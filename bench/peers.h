@@ -101,6 +101,18 @@ typedef struct answered {
   size_t value;
 } answered;
 
+/* A tolerance p/q in lowest terms. */
+typedef struct ratio {
+  int64_t p, q;
+} ratio;
+
+/* The same as walk at each tolerance, one after another: checks everything once, then writes each
+ * list into a part of n entries, and its kept number into `kept`. The value is the number of
+ * tolerances. The outputs overlap no other list, which the library assumes too. */
+answered scan_c(const uint32_t *ticks, const int16_t *values, size_t n, const ratio *tolerances,
+                size_t count, uint32_t gap, uint16_t *restrict out, size_t room,
+                size_t *restrict kept);
+
 /* A trace of n samples with a kept list of it. */
 typedef struct reduced_trace {
   const uint32_t *ticks;

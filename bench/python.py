@@ -70,6 +70,8 @@ def main():
     long, short = ([crate(*whole, count) for _ in range(2)] for count in (4096, 16))
     runs = f"two runs of {CHANNELS} channels"
     samples = f"{len(ticks):,} samples, tolerance 7.5"
+    tolerances = [k / 2 for k in range(1, 17)]
+    scanned = f"{len(ticks):,} samples, {len(tolerances)} tolerances from 0.5 to 8"
     listed = f"a list of {len(kept)} of {len(ticks):,} samples"
     # The trace from another sample on, as in bench.c.
     others = values[61:] + values[:61]
@@ -80,6 +82,7 @@ def main():
         "walk": (samples, kovrelna.walk, *whole, 7.5),
         "gallop": (samples, kovrelna.gallop, *whole, 7.5),
         "minimum": (samples, kovrelna.minimum, *whole, 7.5),
+        "scan": (scanned, kovrelna.scan, *whole, tolerances),
         "least": (f"{len(part[0])} samples, allowance 20", kovrelna.least, *part, 20),
         "report": (f"{CHANNELS} channels of {samples}", kovrelna.report, *crate(*whole, 4096), 7.5),
         "pedestals": (f"{runs} of {samples}, factor 2", kovrelna.pedestals, *long, 7.5, 2),

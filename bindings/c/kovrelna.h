@@ -2,7 +2,7 @@
  * (x86-64, System V ABI), as `pkg-config --cflags --libs kovrelna` says once they are installed.
  *
  * Contents, in order: version and bounds; refusals; tolerances; limits; links; lists; reductions;
- * sums; crates; range codes; records.
+ * scans; sums; crates; range codes; records.
  *
  * A trace is two lists of equal length: ticks and values (ADC counts). It has 1 to 4,096 samples,
  * numbered from 0. Ticks rise strictly; the last minus the first is at most 1,048,575.
@@ -50,6 +50,8 @@ extern "C" {
 /* The most samples of a trace, and of one for kovrelna_least. */
 #define KOVRELNA_SAMPLES_MAX 4096
 #define KOVRELNA_LEAST_SAMPLES_MAX 256
+/* The most tolerances of a scan. */
+#define KOVRELNA_TOLERANCES_MAX 16
 /* The most channels of a crate. */
 #define KOVRELNA_CHANNELS_MAX 64
 /* The largest gap limit, which is none: no two samples of a trace lie further apart. */
@@ -61,11 +63,11 @@ extern "C" {
 /* ---- Refusals ----
  *
  * Each answer has a number, 0 if the call succeeded, and a value. A call checks the rows that
- * concern it in rising number, only 14 and then 11 before all others, 12 right after 1, 15 right
- * after 4 (in kovrelna_least right after 3) and 16 right after 5, and answers with the first that
- * fits; in kovrelna_pedestals 1, 2, 3 and 13 come after 4, channel by channel, and in kovrelna_sum
- * 1, 2, 3 of trace 1 come before those of trace 2, and 10 last. A refused call leaves every list and
- * buffer as it was.
+ * concern it in rising number, only 14 and then 11 before all others, 12 right after 1, 19 right
+ * before 4, 15 right after 4 (in kovrelna_least right after 3) and 16 right after 5, and answers
+ * with the first that fits; in kovrelna_pedestals 1, 2, 3 and 13 come after 4, channel by channel,
+ * and in kovrelna_sum 1, 2, 3 of trace 1 come before those of trace 2, and 10 last. A refused call
+ * leaves every list and buffer as it was.
  */
 enum kovrelna_refusal {
   /* No samples or codes, too many, or ticks and values differ in length. Value: 0; in
@@ -77,7 +79,8 @@ enum kovrelna_refusal {
   /* The span is too long. Value: the first sample more than 1,048,575 ticks after sample 0; in
    * kovrelna_pedestals the channel. */
   KOVRELNA_REFUSED_SPAN = 3,
-  /* The tolerance is not allowed. Value: 0. */
+  /* The tolerance is not allowed. Value: 0; in kovrelna_scan the position of the first such
+   * tolerance. */
   KOVRELNA_REFUSED_TOLERANCE = 4,
   /* The allowance is below 2 or above 4,096. Value: 0. */
   KOVRELNA_REFUSED_ALLOWANCE = 5,
@@ -112,7 +115,9 @@ enum kovrelna_refusal {
    * traces does not have. */
   KOVRELNA_REFUSED_MISMATCH = 17,
   /* A sum is below -32,768 or above 32,767. Value: its sample. */
-  KOVRELNA_REFUSED_OVERFLOW = 18
+  KOVRELNA_REFUSED_OVERFLOW = 18,
+  /* There are no tolerances, or more than 16. Value: 0. */
+  KOVRELNA_REFUSED_COUNT = 19
 };
 
 /* The cause in words, for a message; "none" for a number that is no refusal's. */
@@ -155,6 +160,8 @@ static inline const char *kovrelna_cause(uint32_t number) {
     return "ticks of two traces differ";
   case KOVRELNA_REFUSED_OVERFLOW:
     return "a sum below -32,768 or above 32,767";
+  case KOVRELNA_REFUSED_COUNT:
+    return "no tolerances, or more than 16";
   default:
     return "none";
   }
@@ -377,6 +384,51 @@ kovrelna_closest kovrelna_least(const uint32_t *ticks, size_t ticks_len,
                                 const int16_t *values, size_t values_len,
                                 uint32_t gap, uint64_t allowance,
                                 uint16_t *out, size_t out_len);
+
+/* ---- Scans ---- */
+
+/* The tolerances of a scan: the first `count` of `list`, 1 to 16. The others are not read. */
+typedef struct kovrelna_tolerances {
+  uint64_t count;
+  kovrelna_tolerance list[KOVRELNA_TOLERANCES_MAX];
+} kovrelna_tolerances;
+
+/* So many tolerances. Of more than 16 it has the first 16 with the whole count, so that they are
+ * refused as 19. */
+static inline kovrelna_tolerances kovrelna_tolerances_of(const kovrelna_tolerance *list,
+                                                         size_t count) {
+  kovrelna_tolerances tolerances = {count, {{0, 0, 0, 0.0, 0.0}}};
+  size_t k;
+  for (k = 0; k < count && k < KOVRELNA_TOLERANCES_MAX; k++) tolerances.list[k] = list[k];
+  return tolerances;
+}
+
+/* number 0: kept[a] is the kept number at tolerance a, and 0 from the number of tolerances on; value
+ * is 0.
+ * Otherwise: the refusal's number and value; kept is 0 throughout. */
+typedef struct kovrelna_scanned {
+  uint32_t number;
+  uint64_t value;
+  uint64_t kept[KOVRELNA_TOLERANCES_MAX];
+} kovrelna_scanned;
+
+/* What kovrelna_walk keeps at each of 1 to 16 tolerances under one gap limit, found in a single pass
+ * over the trace. The tolerances may repeat, and come in any order and in any form.
+ *
+ * The lists lie one after another in out, each in a part with an entry for each sample: for a trace
+ * of n samples the entries from a n on, kept[a] of them, are the list of kovrelna_walk at tolerance
+ * a. All other entries are as they were: the rest of each part, and what lies behind the last part.
+ *
+ * In the pass, once sample j has been taken in, from sample 1 on, the samples kept so far with sample
+ * j as the last are the lists of kovrelna_walk of samples 0 to j.
+ *
+ * Refusals, in this order: 1, 2, 3; 19; 4 with the position of the first tolerance that is not
+ * allowed; 15; 10 with the number of tolerances times that of samples, which is how many entries out
+ * needs. */
+kovrelna_scanned kovrelna_scan(const uint32_t *ticks, size_t ticks_len,
+                               const int16_t *values, size_t values_len,
+                               kovrelna_tolerances tolerances, uint32_t gap,
+                               uint16_t *out, size_t out_len);
 
 /* ---- Sums ---- */
 

@@ -2,8 +2,8 @@
  * says what differs and returns 1.
  *
  * Contents, in order: lent lists and where they are placed; the table of calls; cases of each call;
- * empty lists; the longest trace, sum, crate and pedestal runs; the version, and causes and sides
- * in words.
+ * empty lists; the longest trace, scan, sum, crate and pedestal runs; the version, and causes and
+ * sides in words.
  *
  * Each case is called once in every placement of its lists: against a page that cannot be read or
  * written, between guard bytes, and at exact size on the heap. Where the program is built with
@@ -61,26 +61,27 @@ struct list {
   size_t size, len;     /* bytes of an element; elements */
   const void *content;  /* what an input holds; null for an output, which `lend` fills */
   const void *written;  /* what the call writes into an output, */
-  size_t at, count;     /* from this byte on, so many bytes */
+  size_t at, count;     /* from this byte on, so many bytes; */
+  const uint8_t *only;  /* of these elements those with 1 alone, if it is not null */
   unsigned char *first; /* the first element as lent */
   unsigned char *block; /* what is allocated for it, */
   size_t block_size;    /* so many bytes */
 };
 
 static struct list input(const void *content, size_t len, size_t size) {
-  struct list list = {size, len, content, NULL, 0, 0, NULL, NULL, 0};
+  struct list list = {size, len, content, NULL, 0, 0, NULL, NULL, NULL, 0};
   return list;
 }
 
 /* An output that stays as it is. */
 static struct list output(size_t len, size_t size) {
-  struct list list = {size, len, NULL, NULL, 0, 0, NULL, NULL, 0};
+  struct list list = {size, len, NULL, NULL, 0, 0, NULL, NULL, NULL, 0};
   return list;
 }
 
 /* An output into which the call writes these elements, from the element `at` on. */
 static struct list filled(size_t len, size_t size, const void *written, size_t at, size_t count) {
-  struct list list = {size, len, NULL, written, at * size, count * size, NULL, NULL, 0};
+  struct list list = {size, len, NULL, written, at * size, count * size, NULL, NULL, NULL, 0};
   return list;
 }
 
@@ -138,6 +139,12 @@ static int is_padding(const struct list *list, size_t k) {
          k % list->size >= offsetof(kovrelna_summary, number) + sizeof(uint32_t);
 }
 
+/* Whether the call writes the byte at k. */
+static int is_written(const struct list *list, size_t k) {
+  return k >= list->at && k < list->at + list->count &&
+         (list->only == NULL || list->only[(k - list->at) / list->size] != 0);
+}
+
 /* Checks what the list holds after the call, and frees it. */
 static void take_back(struct list *list, enum placement placement) {
   const unsigned char *content = (const unsigned char *)list->content,
@@ -145,7 +152,7 @@ static void take_back(struct list *list, enum placement placement) {
   size_t bytes = list->size * list->len, changed = 0, k;
   for (k = 0; k < bytes; k++) {
     unsigned char expected = content != NULL ? content[k] : filler(placement, k);
-    if (k >= list->at && k < list->at + list->count) {
+    if (is_written(list, k)) {
       if (is_padding(list, k)) continue;
       expected = written[k - list->at];
     }
@@ -247,6 +254,30 @@ static struct answer call_least(const struct list *lists, kovrelna_limits limits
                                 size_t allowance) {
   kovrelna_closest from = kovrelna_least(U32(0), I16(1), limits.gap, allowance, U16(2));
   return with_ratio(from.number, from.value, from.p, from.q);
+}
+
+/* Tolerances of a scan, and the kept number at each. */
+struct scan {
+  kovrelna_tolerances tolerances;
+  uint64_t kept[KOVRELNA_TOLERANCES_MAX];
+};
+
+/* The scan that is tried; if it is null, one at the tolerance of the limits. */
+static const struct scan *now_scan = NULL;
+
+static struct answer call_scan(const struct list *lists, kovrelna_limits limits, size_t place) {
+  kovrelna_tolerances tolerances = kovrelna_tolerances_of(&limits.tolerance, 1);
+  kovrelna_scanned from;
+  struct answer answer;
+  size_t k;
+  if (now_scan != NULL) tolerances = now_scan->tolerances;
+  from = kovrelna_scan(U32(0), I16(1), tolerances, limits.gap, U16(2));
+  answer = answered(from.number, from.value);
+  answer.kept = from.kept[0];
+  for (k = 1; k < KOVRELNA_TOLERANCES_MAX; k++)
+    differ("kept", from.kept[k], now_scan == NULL ? 0 : now_scan->kept[k]);
+  (void)place;
+  return answer;
 }
 
 static struct answer call_sum(const struct list *lists, kovrelna_limits limits, size_t place) {
@@ -360,6 +391,7 @@ enum {
   GALLOP,
   MINIMUM,
   LEAST,
+  SCAN,
   SUM,
   EXPAND,
   EXPAND_WITH,
@@ -395,6 +427,9 @@ static const struct call {
     {"least", call_least, 3,
      {IN(uneven, 1, 0), IN(step, 1, 0), OUT(3, pair, 10, 3)},
      {0, 2, 0, 0, 2, 3, 0, 0, 0, 0, 0, 0}},
+    {"scan", call_scan, 3,
+     {IN(uneven, 1, 0), IN(step, 1, 0), OUT(3, pair, 10, 3)},
+     {0, 0, 0, 0, 0, 0, 0, 2, 0, 0, 0, 0}},
     {"sum", call_sum, 8,
      {IN(uneven, 1, 0), IN(step, 1, 0), IN(uneven, 1, 0), IN(other_step, 1, 0), IN(pair, 6, 0),
       IN(pair, 6, 0), OUT(3, both_steps, 10, 3), OUT(3, pair, 10, 3)},
@@ -464,6 +499,11 @@ static kovrelna_limits within_counts(double counts) {
 
 static kovrelna_limits within_noise(double noise, double multiple) {
   return kovrelna_limited(kovrelna_noise(noise, multiple), KOVRELNA_GAP_MAX);
+}
+
+/* A whole tolerance with this gap limit. */
+static kovrelna_limits within_gap(uint64_t p, uint32_t gap) {
+  return kovrelna_limited(kovrelna_ratio(p, 1), gap);
 }
 
 /* hold answers with this number, p and q; the value is always 0. */
@@ -586,6 +626,84 @@ static void least(int line, const uint32_t *ticks, size_t ticks_len, const int16
 #define NO_CLOSEST(ticks, values, gap, allowance, out_len, number, value)                         \
   least(__LINE__, ticks, COUNT(ticks), values, COUNT(values), gap, allowance, out_len, number,    \
         value, 0, 0, NULL)
+
+/* A trace as it is lent. */
+struct trace {
+  const uint32_t *ticks;
+  size_t ticks_len;
+  const int16_t *values;
+  size_t values_len;
+};
+
+static struct trace trace(const uint32_t *ticks, size_t ticks_len, const int16_t *values,
+                          size_t values_len) {
+  struct trace trace = {ticks, ticks_len, values, values_len};
+  return trace;
+}
+
+#define TRACE(ticks, values) trace(ticks, COUNT(ticks), values, COUNT(values))
+
+/* With number 0 scan writes the kept numbers' entries of each part of `lists`. */
+static void scan(int line, struct trace trace, const struct scan *given, uint32_t gap,
+                 size_t out_len, uint32_t number, uint64_t value, const uint16_t *lists) {
+  static uint8_t kept[KOVRELNA_TOLERANCES_MAX * KOVRELNA_SAMPLES_MAX];
+  struct answer expected = answered(number, value);
+  size_t count = number != 0 ? 0 : (size_t)given->tolerances.count, a, k, n = trace.ticks_len;
+  struct list lent[3];
+  for (a = 0; a < count; a++)
+    for (k = 0; k < n; k++) kept[a * n + k] = k < given->kept[a];
+  lent[0] = input(trace.ticks, n, sizeof(uint32_t));
+  lent[1] = input(trace.values, trace.values_len, sizeof(int16_t));
+  lent[2] = filled(out_len, sizeof(uint16_t), lists, 0, count * n);
+  lent[2].only = kept;
+  expected.kept = given->kept[0];
+  now_scan = given;
+  run(line, SCAN, lent, within_gap(0, gap), 0, expected);
+  now_scan = NULL;
+}
+
+/* These lists, each in a part of n entries, with an output of exactly enough room or more. */
+static void scanned(int line, struct trace trace, const kovrelna_tolerance *tolerances,
+                    size_t count, uint32_t gap, const uint64_t *kept, const uint16_t *lists) {
+  struct scan given = {kovrelna_tolerances_of(tolerances, count), {0}};
+  size_t k, n = trace.ticks_len;
+  for (k = 0; k < count; k++) given.kept[k] = kept[k];
+  scan(line, trace, &given, gap, count * n, 0, 0, lists);
+  scan(line, trace, &given, gap, count * n + 1, 0, 0, lists);
+  scan(line, trace, &given, gap, count * n + 3 * n, 0, 0, lists);
+  /* Tolerances behind the count are not read. */
+  for (k = count; k < KOVRELNA_TOLERANCES_MAX; k++)
+    given.tolerances.list[k] = k % 2 == 0 ? kovrelna_counts(NAN) : kovrelna_ratio(1, 1);
+  scan(line, trace, &given, gap, count * n, 0, 0, lists);
+}
+
+#define SCANNED(ticks, values, tolerances, gap, kept, lists)                                       \
+  scanned(__LINE__, TRACE(ticks, values), tolerances, COUNT(tolerances), gap, kept, &(lists)[0][0])
+
+/* The lists are those of walk at each tolerance. */
+static void scanned_as_walk(int line, struct trace trace, const kovrelna_tolerance *tolerances,
+                            size_t count, uint32_t gap) {
+  static uint16_t lists[KOVRELNA_TOLERANCES_MAX * KOVRELNA_SAMPLES_MAX];
+  uint64_t kept[KOVRELNA_TOLERANCES_MAX];
+  size_t a, n = trace.ticks_len;
+  for (a = 0; a < count; a++)
+    kept[a] = kovrelna_walk(trace.ticks, n, trace.values, n, kovrelna_limited(tolerances[a], gap),
+                            &lists[a * n], n)
+                  .value;
+  scanned(line, trace, tolerances, count, gap, kept, lists);
+}
+
+/* Refused, without an output and with one. */
+static void not_scanned(int line, struct trace trace, kovrelna_tolerances tolerances, uint32_t gap,
+                        uint32_t number, uint64_t value) {
+  struct scan given = {tolerances, {0}};
+  scan(line, trace, &given, gap, 0, number, value, NULL);
+  if (number != KOVRELNA_REFUSED_ROOM)
+    scan(line, trace, &given, gap, 20 * trace.ticks_len, number, value, NULL);
+}
+
+#define NOT_SCANNED(trace, tolerances, gap, number, value)                                         \
+  not_scanned(__LINE__, trace, tolerances, gap, number, value)
 
 /* A trace and a list of it as they are lent. */
 struct reduced {
@@ -1096,11 +1214,6 @@ static const uint32_t parts[] = {0, 1, 2, 10, 11, 12};
 static const int16_t parts_values[] = {0, 0, 0, 0, 0, 0};
 static const uint16_t parts_ends[] = {0, 5}, parts_sides[] = {0, 2, 3, 5};
 
-/* A whole tolerance with this gap limit, and the tolerance 0. */
-static kovrelna_limits within_gap(uint64_t p, uint32_t gap) {
-  return kovrelna_limited(kovrelna_ratio(p, 1), gap);
-}
-
 static kovrelna_limits under(uint32_t gap) { return within_gap(0, gap); }
 
 /* Every method keeps these samples, of values that do not differ. */
@@ -1295,6 +1408,133 @@ static void no_gap_limits(void) {
     if (room == 6) break;
     NO_CLOSEST(parts, parts_values, 7, 4, room, KOVRELNA_REFUSED_ROOM, 6);
     NO_CLOSEST(parts, parts_values, 8, 2, room, KOVRELNA_REFUSED_ROOM, 6);
+  }
+}
+
+static void scans(void) {
+  const uint32_t even[] = {0, 1, 2, 3, 4};
+  const int16_t zigzag[] = {0, 3, 0, 3, 0}, wave[] = {0, 2, 0, -2, 0};
+  const uint64_t five[] = {5, 2, 5, 2, 2};
+  const uint16_t five_lists[][5] = {
+      {0, 1, 2, 3, 4}, {0, 4}, {0, 1, 2, 3, 4}, {0, 4}, {0, 4}};
+  const uint64_t three[] = {3, 2, 4};
+  const uint16_t three_lists[][5] = {{0, 2, 4}, {0, 4}, {0, 1, 3, 4}};
+  const uint64_t two[] = {2, 3}, fours[] = {4, 4}, twos[] = {2, 2}, ones[] = {1, 1, 1};
+  const uint16_t two_lists[][3] = {{0, 2}, {0, 1, 2}}, side_lists[][6] = {{0, 2, 3, 5},
+                                                                          {0, 2, 3, 5}};
+  const uint16_t end_lists[][6] = {{0, 5}, {0, 5}}, one_lists[][1] = {{0}, {0}, {0}};
+  kovrelna_tolerance forms[5], mixed[3], nearly[2], any[KOVRELNA_TOLERANCES_MAX];
+  size_t count, k;
+  uint32_t gap;
+
+  /* All forms; equal tolerances, in any order. */
+  forms[0] = kovrelna_ratio(4, 2);
+  forms[1] = kovrelna_counts(3.0);
+  forms[2] = kovrelna_noise(0.5, 4.0);
+  forms[3] = kovrelna_ratio(3, 1);
+  forms[4] = kovrelna_counts(65535.0);
+  SCANNED(even, zigzag, forms, KOVRELNA_GAP_MAX, five, five_lists);
+  mixed[0] = kovrelna_counts(2.0);
+  mixed[1] = kovrelna_ratio(8, 3);
+  mixed[2] = kovrelna_noise(0.25, 2.0);
+  SCANNED(even, wave, mixed, 1, three, three_lists);
+  nearly[0] = kovrelna_ratio(4, 6);
+  nearly[1] = kovrelna_ratio(665, 1000);
+  SCANNED(uneven, step, nearly, KOVRELNA_GAP_MAX, two, two_lists);
+  /* Gap limits. */
+  SCANNED(parts, parts_values, nearly, 7, fours, side_lists);
+  SCANNED(parts, parts_values, nearly, 8, twos, end_lists);
+  /* One sample. */
+  scanned(__LINE__, trace(even, 1, zigzag, 1), mixed, 3, 1, ones, &one_lists[0][0]);
+
+  /* As many as there may be, equal ones among them, and every number below. */
+  for (k = 0; k < COUNT(any); k++)
+    any[k] = k % 3 == 0   ? kovrelna_ratio(7 * k % 11, 2)
+             : k % 3 == 1 ? kovrelna_counts((double)(5 * k % 7) / 64)
+                          : kovrelna_noise(0.5, (double)(k % 4));
+  any[15] = any[4];
+  for (count = 1; count <= COUNT(any); count++)
+    for (gap = 1; gap <= 9; gap += 4) {
+      scanned_as_walk(__LINE__, TRACE(even, zigzag), any, count, gap);
+      scanned_as_walk(__LINE__, TRACE(even, wave), any, count, gap);
+      scanned_as_walk(__LINE__, TRACE(parts, parts_values), any, count, gap);
+    }
+}
+
+/* Every trace, number of tolerances, position of a bad one and gap limit beside every other: the
+ * first row in the order 1, 2, 3, 19, 4, 15, 10. */
+static void no_scans(void) {
+  enum { SAMPLES = 5, MOST = KOVRELNA_TOLERANCES_MAX };
+  static const struct {
+    uint32_t ticks[SAMPLES];
+    size_t values_len;
+    uint32_t number;
+    uint64_t value;
+  } traces[] = {{{0, 1, 2, 3, 4}, 5, 0, 0},
+                {{0, 1, 2, 3, 4}, 4, 1, 0},
+                {{0, 1, 1, 3, 3}, 5, 2, 2},
+                {{0, 1, 2, 1048576, 1048577}, 5, 3, 3}};
+  static const uint64_t counts[] = {1, 7, 16, 0, 17, 18, UINT64_C(1) << 32 | 1, UINT64_MAX};
+  static const size_t none = MOST, positions[] = {MOST, 0, 6, 7, 15};
+  static const uint32_t gaps[] = {1, KOVRELNA_GAP_MAX, 0, KOVRELNA_GAP_MAX + 1, UINT32_MAX};
+  const int16_t flat[] = {0, 0, 0, 0, 0};
+  const kovrelna_tolerance bad[] = {kovrelna_ratio(1, 0), kovrelna_counts(0.01),
+                                    kovrelna_noise(1024.0, 0.0), {3, 1, 1, 1.0, 1.0}};
+  const kovrelna_tolerance good = kovrelna_ratio(0, 1);
+  size_t t, c, p, g, b, k;
+
+  for (t = 0; t < COUNT(traces); t++)
+    for (c = 0; c < COUNT(counts); c++)
+      for (p = 0; p < COUNT(positions); p++)
+        for (g = 0; g < COUNT(gaps); g++)
+          for (b = 0; b < COUNT(bad); b++) {
+            struct trace given = trace(traces[t].ticks, SAMPLES, flat, traces[t].values_len);
+            int is_counted = counts[c] >= 1 && counts[c] <= MOST;
+            int is_allowed = positions[p] == none || positions[p] >= counts[c];
+            kovrelna_tolerances tolerances;
+            tolerances.count = counts[c];
+            /* Of several that are not allowed the first. */
+            for (k = 0; k < MOST; k++)
+              tolerances.list[k] = positions[p] != none && k >= positions[p] ? bad[b] : good;
+            if (traces[t].number != 0)
+              NOT_SCANNED(given, tolerances, gaps[g], traces[t].number, traces[t].value);
+            else if (!is_counted)
+              NOT_SCANNED(given, tolerances, gaps[g], KOVRELNA_REFUSED_COUNT, 0);
+            else if (!is_allowed)
+              NOT_SCANNED(given, tolerances, gaps[g], KOVRELNA_REFUSED_TOLERANCE, positions[p]);
+            else if (g > 1)
+              NOT_SCANNED(given, tolerances, gaps[g], KOVRELNA_REFUSED_GAP, 0);
+            else
+              NOT_SCANNED(given, tolerances, gaps[g], KOVRELNA_REFUSED_ROOM, SAMPLES * counts[c]);
+          }
+  /* Last 10, with any room that is too little. */
+  for (c = 0; c < 3; c++) {
+    struct scan given;
+    memset(&given, 0, sizeof(given));
+    given.tolerances.count = counts[c];
+    for (k = 0; k < MOST; k++) given.tolerances.list[k] = good;
+    for (k = 0; k < SAMPLES * counts[c]; k++)
+      scan(__LINE__, trace(traces[0].ticks, SAMPLES, flat, SAMPLES), &given, 1, k,
+           KOVRELNA_REFUSED_ROOM, SAMPLES * counts[c], NULL);
+  }
+}
+
+/* The tolerances of a scan from a list: none where it is empty, the first 16 of a longer one. */
+static void lists_of_tolerances(void) {
+  enum { MOST = KOVRELNA_TOLERANCES_MAX };
+  kovrelna_tolerance list[MOST + 2];
+  size_t count, k;
+  now_name = "tolerances_of";
+  now_line = __LINE__;
+  for (k = 0; k < COUNT(list); k++) list[k] = kovrelna_ratio(k + 1, k + 2);
+  for (count = 0; count <= COUNT(list); count++) {
+    kovrelna_tolerances found = kovrelna_tolerances_of(count == 0 ? NULL : list, count);
+    differ("count", found.count, count);
+    for (k = 0; k < MOST; k++) {
+      differ("p", found.list[k].p, k < count ? k + 1 : 0);
+      differ("q", found.list[k].q, k < count ? k + 2 : 0);
+      differ("form", found.list[k].form, KOVRELNA_FORM_RATIO);
+    }
   }
 }
 
@@ -1980,6 +2220,29 @@ static void longest(void) {
   SAME(record, BYTES, record, BYTES, 0, 1, 0);
 }
 
+/* A trace of 4,096 samples at 16 tolerances, with one entry too few, and with a sample too many. */
+static void longest_scan(void) {
+  enum { SAMPLES = KOVRELNA_SAMPLES_MAX, MOST = KOVRELNA_TOLERANCES_MAX };
+  static uint32_t ticks[SAMPLES + 1];
+  static int16_t values[SAMPLES + 1];
+  kovrelna_tolerance tolerances[MOST];
+  struct scan given;
+  size_t k;
+  for (k = 0; k <= SAMPLES; k++) {
+    ticks[k] = (uint32_t)(255 * k);
+    values[k] = (int16_t)(k * k % 997 * (k % 512 / 256));
+  }
+  for (k = 0; k < MOST; k++) tolerances[k] = kovrelna_ratio(k * k * k, 3);
+  scanned_as_walk(__LINE__, trace(ticks, SAMPLES, values, SAMPLES), tolerances, MOST,
+                  KOVRELNA_GAP_MAX);
+  scanned_as_walk(__LINE__, trace(ticks, SAMPLES, values, SAMPLES), tolerances, MOST, 254);
+  memset(&given, 0, sizeof(given));
+  given.tolerances = kovrelna_tolerances_of(tolerances, MOST);
+  scan(__LINE__, trace(ticks, SAMPLES, values, SAMPLES), &given, 1, MOST * SAMPLES - 1,
+       KOVRELNA_REFUSED_ROOM, MOST * SAMPLES, NULL);
+  NOT_SCANNED(TRACE(ticks, values), given.tolerances, 1, KOVRELNA_REFUSED_LENGTH, 0);
+}
+
 /* Two traces of 4,096 samples, with the two ends, every second sample and all of them kept; then
  * with a sample too many or too few, and with faults of the last sample. */
 static void longest_sum(void) {
@@ -2107,8 +2370,8 @@ static void words(void) {
   now_name = "cause";
   differ("no refusal", strcmp(cause(0), "none") != 0, 0);
   differ("no refusal", strcmp(cause(UINT32_MAX), "none") != 0, 0);
-  differ("no refusal", strcmp(cause(KOVRELNA_REFUSED_OVERFLOW + 1), "none") != 0, 0);
-  for (number = 0; number <= KOVRELNA_REFUSED_OVERFLOW; number++)
+  differ("no refusal", strcmp(cause(KOVRELNA_REFUSED_COUNT + 1), "none") != 0, 0);
+  for (number = 0; number <= KOVRELNA_REFUSED_COUNT; number++)
     for (other = 0; other < number; other++)
       differ("the same words", strcmp(cause(number), cause(other)) == 0, 0);
   now_name = "side";
@@ -2130,6 +2393,9 @@ int main(void) {
   least_errors();
   gap_limits();
   no_gap_limits();
+  scans();
+  no_scans();
+  lists_of_tolerances();
   sums();
   no_sums();
   codes();
@@ -2141,6 +2407,7 @@ int main(void) {
   no_comparison();
   empty_lists();
   longest();
+  longest_scan();
   longest_sum();
   longest_crate();
   longest_runs();

@@ -6,6 +6,7 @@
 - `Verdict`, `judge`: whether every link of a proposed list is valid.
 - `walk`, `Galloped`, `gallop`, `minimum`: kept lists with every link valid.
 - `Least`, `least`: the least error that so many samples allow.
+- `scan`: what `walk` keeps at each of several tolerances, in one pass.
 - `Sum`, `sum`: two traces with the same ticks added, and their kept lists joined.
 - `Summary`, `Report`, `report`: a row for each channel of a crate, and totals.
 - `Run`, `Pedestals`, `pedestals`: which channels have moved or are noisy since a run before.
@@ -62,14 +63,15 @@ kovrelna.Refusal: refused as 6: no kept list: it ends with 1, not with the last 
 from __future__ import annotations
 
 import builtins
+import itertools
 import operator
 from dataclasses import dataclass
 from fractions import Fraction
-from typing import Any, List, NamedTuple, Optional, SupportsIndex, Tuple, overload
+from typing import Any, Iterable, List, NamedTuple, Optional, SupportsIndex, Tuple, overload
 
 from . import _library, _tolerance
 from ._lists import BYTE, ENTRY, LENGTH, SPARE, TICK, VALUE, Lent, Loan, Numbers, Output, Whole
-from ._lists import new, used, whole
+from ._lists import new, parts, used, whole
 from ._tolerance import Counts, Noise, Ratio, Tolerance
 from ._words import strays, words
 
@@ -105,6 +107,7 @@ __all__ = [
     "read",
     "report",
     "same",
+    "scan",
     "sum",
     "walk",
     "write",
@@ -121,18 +124,18 @@ _CHANNELS = 64
 
 class Refusal(ValueError):
     """A call declined. It checks the rows that concern it in rising number, only 14 and then 11
-    before all others, 12 right after 1, 15 right after 4 (in `least` right after 3) and 16 right
-    after 5; `pedestals` checks 1, 2, 3 and 13 after 4, channel by channel, and `sum` checks 1, 2, 3
-    of trace 1 before those of trace 2, and 10 last. It answers with the first that fits; a refused
-    call leaves every list as it was. `number` and `value` are the row's; `words` say what is wrong
-    with what was given.
+    before all others, 12 right after 1, 19 right before 4, 15 right after 4 (in `least` right after
+    3) and 16 right after 5; `pedestals` checks 1, 2, 3 and 13 after 4, channel by channel, and `sum`
+    checks 1, 2, 3 of trace 1 before those of trace 2, and 10 last. It answers with the first that
+    fits; a refused call leaves every list as it was. `number` and `value` are the row's; `words` say
+    what is wrong with what was given.
 
     | Number | Cause | Value |
     |---|---|---|
     | 1 | no samples or codes, too many (for `least`, over 256), or not as many values as ticks | 0 |
     | 2 | a tick is not above the one before | its sample |
     | 3 | the span is too long | the first sample over 1,048,575 ticks after the first |
-    | 4 | the tolerance is not allowed | 0 |
+    | 4 | the tolerance is not allowed | 0; in `scan` the position of the first such tolerance |
     | 5 | the allowance is below 2 or above 4,096 | 0 |
     | 6 | the proposed list is no kept list, or two samples are no link of the trace | the position \
 of the first bad entry; the list's length if it only stops short; 0 if it is empty |
@@ -151,6 +154,7 @@ value is not above the one before |
     | 17 | the ticks of two traces differ | the first sample whose ticks differ or that one of the \
 traces does not have |
     | 18 | a sum is below -32,768 or above 32,767 | its sample |
+    | 19 | there are no tolerances, or more than 16 | 0 |
 
     In `pedestals` the value of 1, 2 and 3 is the channel. A bad entry is a first one that is not 0,
     one that is not above the entry before it, or one beyond the trace. In `measure` the value of 6
@@ -466,6 +470,62 @@ the allowance, 3: the shortest has 4
         _library.least, ticks, values, asked, out, most=_LEAST_SAMPLES, gap=gap, allowance=allowance
     )
     return Least(kept, Fraction(answer.p, answer.q))
+
+
+def scan(
+    ticks: Lent,
+    values: Lent,
+    tolerances: Iterable[Tolerance],
+    out: Optional[Output] = None,
+    *,
+    gap: SupportsIndex = GAP_MAX,
+) -> List[Numbers]:
+    """What `walk` keeps at each of 1 to 16 tolerances under one gap limit, found in a single pass over
+    the trace. The tolerances may repeat, and come in any order and in any form.
+
+    Returns the kept list at each tolerance. In a lent output they lie one after another, each in a
+    part with an entry for each sample: for a trace of n samples the list at tolerance a begins with
+    entry a n. All other entries are as they were: the rest of each part, and what lies behind the
+    last part.
+
+    In the pass, once sample j has been taken in, from sample 1 on, the samples kept so far with
+    sample j as the last are the lists of `walk` of samples 0 to j.
+
+    Refusals: 1, 2, 3; 19; 4 with the position of the first tolerance that is not allowed; 15; 10 with
+    the number of tolerances times that of samples, if `out` has fewer entries.
+
+    >>> from array import array
+    >>> ticks, values = range(5), [0, 2, 0, -2, 0]
+    >>> scan(ticks, values, [2, Ratio(8, 3)])
+    [array('H', [0, 2, 4]), array('H', [0, 4])]
+    >>> out = array("H", [9] * 11)
+    >>> [kept.tolist() for kept in scan(ticks, values, [2, 0.5], out)]
+    [[0, 2, 4], [0, 1, 3, 4]]
+    >>> out
+    array('H', [0, 2, 4, 9, 9, 0, 1, 3, 4, 9, 9])
+    >>> scan([0, 1, 2, 10, 11, 12], [0] * 6, [2], gap=7)
+    [array('H', [0, 2, 3, 5])]
+    >>> scan(ticks, values, [2, 0.1])
+    Traceback (most recent call last):
+        ...
+    kovrelna.Refusal: refused as 4: tolerances[1] is not allowed: 0.1 is not a multiple of 1/64; \
+write Ratio(1, 10) or Fraction(1, 10)
+    """
+    try:
+        # Where there are more tolerances, one too many is refused as well.
+        given = list(itertools.islice(tolerances, _library.TOLERANCES + 1))
+    except TypeError:
+        message = f"tolerances must be a list of tolerances, not {tolerances!r}"
+        raise TypeError(message) from None
+    lent = _tolerance.lend_all(given)
+    count = min(len(given), _library.TOLERANCES)
+    with Loan() as loan:
+        trace = loan.input("ticks", ticks, TICK) + loan.input("values", values, VALUE)
+        samples = min(trace[1], _SAMPLES)
+        room = new(ENTRY, count * samples, ticks) if out is None else out
+        answer = _library.scan(*trace, lent, _number(gap, 32), *loan.output("out", room, ENTRY))
+        _check(answer, loan, most=_SAMPLES, tolerances=given, gap=gap)
+    return parts(room, ENTRY, samples, answer.kept[:count], out is None)
 
 
 class Sum(NamedTuple):

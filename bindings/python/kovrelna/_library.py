@@ -25,12 +25,24 @@ class Limits(Structure):
     _fields_ = [("tolerance", Tolerance), ("gap", c_uint32)]
 
 
+# The most tolerances of a scan.
+TOLERANCES = 16
+
+
+class Tolerances(Structure):
+    _fields_ = [("count", c_uint64), ("list", Tolerance * TOLERANCES)]
+
+
 class Answer(Structure):
     _fields_ = [("number", c_uint32), ("value", c_uint64)]
 
 
 class Galloped(Structure):
     _fields_ = [("number", c_uint32), ("value", c_uint64), ("probes", c_uint64)]
+
+
+class Scanned(Structure):
+    _fields_ = [("number", c_uint32), ("value", c_uint64), ("kept", c_uint64 * TOLERANCES)]
 
 
 class Measured(Structure):
@@ -140,6 +152,7 @@ walk = _declare("walk", Answer, *_LIST, *_LIST, Limits, *_LIST)
 gallop = _declare("gallop", Galloped, *_LIST, *_LIST, Limits, *_LIST)
 minimum = _declare("minimum", Answer, *_LIST, *_LIST, Limits, *_LIST)
 least = _declare("least", Fractional, *_LIST, *_LIST, c_uint32, c_uint64, *_LIST)
+scan = _declare("scan", Scanned, *_LIST, *_LIST, Tolerances, c_uint32, *_LIST)
 sum = _declare("sum", Answer, *(8 * _LIST))
 report = _declare("report", Totals, *_CRATE, Limits, *_LIST)
 pedestals = _declare("pedestals", Compared, *_CRATE, *_CRATE, Tolerance, c_uint64, *_LIST, *_LIST)

@@ -5,7 +5,7 @@
 - `Whole`, `whole`: the type of whole numbers that are copied, whatever holds them; the copy.
 - `Item`: what the elements of a list are; `TICK`, `VALUE`, `ENTRY`, `BYTE`, `LENGTH`.
 - `Loan`: the lists lent to one call, as addresses and lengths. Buffers are not copied.
-- `new`, `used`: a new output; the elements that a call has written.
+- `new`, `used`, `parts`: a new output; the elements that a call has written, and those of each part.
 
 Assumes CPython, whose buffers are reached through its C interface.
 """
@@ -282,3 +282,14 @@ def used(room: Any, item: Item, start: int, length: int, made: bool = False) -> 
         del room[length:]
         return room
     return memoryview(room).cast("B").cast(item.code)[start : start + length]
+
+
+def parts(room: Any, item: Item, size: int, lengths: Iterable[int], made: bool = False) -> List[Any]:
+    """So many elements of each part of an output, whose parts have `size` elements: views of them, or
+    of an array that was made for the call arrays of these alone."""
+    places = [(part * size, length) for part, length in enumerate(lengths)]
+    if made:
+        # A slice of an array of module array is a copy.
+        cut = [room[start : start + length] for start, length in places]
+        return [part.copy() for part in cut] if _is_numpy(room) else cut
+    return [used(room, item, start, length) for start, length in places]

@@ -1,7 +1,7 @@
 """Tolerances.
 
 - `Ratio`, `Counts`, `Noise`, `Tolerance`: the forms.
-- `lend`: a tolerance as the library takes it, which decides what is allowed.
+- `lend`, `lend_all`: a tolerance as the library takes it, which decides what is allowed; several.
 - `fault`: what is wrong with a tolerance that the library has refused, in words; `shown`: a number.
 """
 
@@ -10,7 +10,7 @@ import numbers
 import operator
 from dataclasses import dataclass
 from fractions import Fraction
-from typing import Any, Union
+from typing import Any, Sequence, Union
 
 from . import _library
 
@@ -69,6 +69,17 @@ def lend(tolerance: Tolerance) -> _library.Tolerance:
     if isinstance(form, Counts):
         return _library.Tolerance(1, 0, 0, _float(form.counts), 0.0)
     return _library.Tolerance(2, 0, 0, _float(form.noise), _float(form.multiple))
+
+
+def lend_all(tolerances: Sequence[Tolerance]) -> _library.Tolerances:
+    """Of more than the library takes, its first ones with the whole count, which is refused."""
+    lent = _library.Tolerances(len(tolerances))
+    for position, tolerance in enumerate(tolerances[: _library.TOLERANCES]):
+        try:
+            lent.list[position] = lend(tolerance)
+        except TypeError as error:
+            raise TypeError(f"tolerances[{position}]: {error}") from None
+    return lent
 
 
 def _float(number: Any) -> float:

@@ -5,7 +5,7 @@ import operator
 from fractions import Fraction
 from typing import List, Optional, Sequence, SupportsIndex, Tuple
 
-from . import _tolerance
+from . import _library, _tolerance
 from ._lists import ENTRY, MOST, SPARE, TICK, VALUE, Borrowed, Loan
 
 
@@ -16,6 +16,7 @@ def words(
     *,
     most: int = 0,
     tolerance: _tolerance.Tolerance = 0,
+    tolerances: Optional[Sequence[_tolerance.Tolerance]] = None,
     gap: SupportsIndex = 0,
     allowance: SupportsIndex = 0,
     place: int = 0,
@@ -25,16 +26,21 @@ def words(
     pair: bool = False,
 ) -> str:
     """The refusal with this number and value of a call that was lent these lists, of samples or
-    codes at most so many, and this tolerance, gap limit or allowance; an output counts from the
-    place on. A call with a noise factor was lent two runs, one with a pair two traces and a list of
+    codes at most so many, and this tolerance or these, gap limit or allowance; an output counts from
+    the place on. A call with a noise factor was lent two runs, one with a pair two traces and a list of
     each. A link is two samples that are asked for; the measure is that of an invalid link, as
     `judge` gives it."""
+    if number == 4 and tolerances is not None:
+        return f"tolerances[{value}] is not allowed: {_tolerance.fault(tolerances[value])}"
     if number == 4:
         return f"the tolerance is not allowed: {_tolerance.fault(tolerance)}"
     if number == 14:
         return f"the noise factor must be from 1 to 16, not {_tolerance.shown(factor)}"
     if number == 15:
         return f"the gap limit must be from 1 to 1,048,575, not {_tolerance.shown(gap)}"
+    if number == 19:
+        most = _library.TOLERANCES
+        return _many("tolerances", most) if tolerances else "no tolerances"
     if factor is not None:
         return _runs(number, value, loan)
     if pair and number != 10:

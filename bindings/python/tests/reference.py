@@ -1,10 +1,11 @@
-"""The slow reference: document 01 and wishes 1, 3, 4, 6, 7 and 8 of document 02 once more, with
+"""The slow reference: document 01 and wishes 1, 3, 4, 6, 7, 8 and 10 of document 02 once more, with
 fractions, clear before fast. It knows nothing of the library that is compared with it.
 
 - `Refused`: a row of the table of refusals.
 - `held`: a tolerance. Its forms are ("ratio", p, q), ("counts", x) and ("noise", noise, multiple).
 - `measure`, `judge`, `walk`, `gallop`, `minimum`, `least`, `report`, `pedestals`, `expand`,
   `expand_with`, `write`, `read`, `same`: the calls.
+- `scan`, `closed`: the call; what it has kept after a sample.
 - `summed`: the call `sum`.
 - `valid`: what `judge` asks of a list.
 - `shift`, `noise`: what `pedestals` compares of a channel.
@@ -16,6 +17,7 @@ from fractions import Fraction
 SAMPLES = 4096
 SPAN = 1048575
 CHANNELS = 64
+TOLERANCES = 16
 
 
 class Refused(Exception):
@@ -231,6 +233,28 @@ def least(ticks, values, gap, allowance, room):
     for kept in kept_lists(len(ticks), len(ticks)):
         if valid(ticks, values, kept, error, gap):
             return kept, error
+
+
+def scan(ticks, values, tolerances, gap, room):
+    """Walk's list at each tolerance. Row 19 between 3 and 4, which has the position of the first bad
+    tolerance."""
+    check_trace(ticks, values)
+    if not 1 <= len(tolerances) <= TOLERANCES:
+        raise Refused(19, 0)
+    for position, tolerance in enumerate(tolerances):
+        try:
+            held(tolerance)
+        except Refused:
+            raise Refused(4, position)
+    check_gap(gap)
+    check_room(room, len(tolerances) * len(ticks))
+    return [walk(ticks, values, tolerance, gap, len(ticks)) for tolerance in tolerances]
+
+
+def closed(kept, j):
+    """Walk's stops that are fixed once sample j has been taken in, closed with sample j: a stop is
+    fixed by the sample after it."""
+    return [k for k in kept if k < j] + [j]
 
 
 def summed(ticks1, values1, ticks2, values2, list1, list2, rooms):

@@ -1,6 +1,7 @@
 """The Python module as a user calls it: document 01's figures, every refusal of every call, buffers
-that are lent and not copied, and random traces, limits, pairs, runs, range tables and records beside
-the slow reference. Arrays of numpy are tried where numpy is present; a stand-in for it always is.
+that are lent and not copied, and random traces, limits, scans, pairs, runs, range tables and records
+beside the slow reference. Arrays of numpy are tried where numpy is present; a stand-in for it always
+is.
 """
 
 import array
@@ -61,6 +62,11 @@ def kept_by(call, *arguments, **limits):
     """The kept list of a reduction, as a plain list."""
     answer = call(*arguments, **limits)
     return list(answer.kept if call is kovrelna.gallop else answer)
+
+
+def scan_of(*arguments, **limits):
+    """The kept lists, as plain lists."""
+    return list(map(list, kovrelna.scan(*arguments, **limits)))
 
 
 def sum_of(*pair):
@@ -275,6 +281,32 @@ class Figures(Case):
         content = kovrelna.read(RECORD)
         self.assertEqual((list(content.ticks), list(content.values)), ([0, 3], [0, 1]))
         self.assertEqual(content.tolerance, Fraction(2, 3))
+
+    def test_scans(self):
+        every, ends = [0, 1, 2, 3, 4], [0, 4]
+        forms = [2, 3.0, Noise(0.5, 4), Ratio(18, 6), Fraction(2), Counts(65535)]
+        lists = [every, ends, every, ends, every, ends]
+        self.assertEqual(scan_of(EVEN, ZIGZAG, forms), lists)
+        self.assertEqual(scan_of(EVEN, ZIGZAG, iter(forms[::-1])), lists[::-1])
+        tolerances = 2, Ratio(8, 3), 0.5
+        self.assertEqual(scan_of(EVEN, WAVE, tolerances), [[0, 2, 4], ends, [0, 1, 3, 4]])
+        for gap, kept in [(7, [0, 2, 3, 5]), (8, [0, 5])]:
+            self.assertEqual(scan_of(PARTS, [0] * 6, [0, 1], gap=gap), [kept, kept])
+        self.assertEqual(scan_of([7], [7], [0] * 16), [[0]] * 16)
+        for kept in kovrelna.scan(EVEN, ZIGZAG, forms):
+            self.assertIsInstance(kept, array.array)
+            self.assertEqual(kept.typecode, "H")
+
+    def test_scans_in_parts(self):
+        """Each list in its own part of the output; all other entries stay."""
+        for spare in (0, 1, 7):
+            out = array.array("H", [9] * (15 + spare))
+            found = kovrelna.scan(EVEN, WAVE, [2, Ratio(8, 3), 0.5], out)
+            lists = [0, 2, 4, 9, 9, 0, 4, 9, 9, 9, 0, 1, 3, 4, 9]
+            self.assertEqual(out.tolist(), lists + [9] * spare)
+            self.assertEqual([kept.tolist() for kept in found], [[0, 2, 4], [0, 4], [0, 1, 3, 4]])
+            out[5] = 77
+            self.assertEqual([kept[0] for kept in found], [0, 77, 0])
 
     def test_sums(self):
         short = range(4), [0, 0, 1, 1], range(4), [0, -1, 0, 1], [0, 3], [0, 1, 3]
@@ -525,6 +557,14 @@ class Tolerances(Case):
 
 
 class Refusals(Case):
+    def not_scanned(self, number, value, *given, **limits):
+        """Refused by `scan` with a new output, and with lent ones, which stay as they were."""
+        self.refused(number, value, kovrelna.scan, *given, **limits)
+        for length in (0, 99):
+            out = array.array("H", [9] * length)
+            self.refused(number, value, kovrelna.scan, *given, out, **limits)
+            self.assertEqual(out, array.array("H", [9] * length))
+
     def not_summed(self, number, value, *pair):
         """Refused by `sum` with new outputs, and with lent ones, which stay as they were."""
         self.refused(number, value, kovrelna.sum, *pair)
@@ -571,6 +611,8 @@ class Refusals(Case):
                     self.refused(number, 1, kovrelna.pedestals, *runs, tolerance, 1)
             for i, j in [(0, 1), (4, 0), (-1, 2**64)]:
                 self.refused(*row, kovrelna.measure, ticks, values, i, j)
+            for count in (1, 0, 17):
+                self.not_scanned(*row, ticks, values, [tolerance] * count, gap=gap)
             for lists in ([[0, 4], [0, 4]], [[], [1]], [[0, 65535], []]):
                 self.not_summed(*row, ticks, values, EVEN, self.flat, *lists)
                 self.not_summed(*row, EVEN, self.flat, ticks, values, *lists)
@@ -590,6 +632,29 @@ class Refusals(Case):
             self.refused(4, 0, kovrelna.write, EVEN, self.flat, [1], none, bytearray(0), gap=gap)
             self.refused(4, 0, kovrelna.report, EVEN, self.flat, [5], none, gap=gap)
         self.refused(4, 0, kovrelna.pedestals, ticks_run([]), ticks_run([0, 0]), none, 1)
+
+    def test_scans(self):
+        """19 before 4, 4 with its position before 15, and 10 last."""
+        bad = [Ratio(1, 0), Counts(0.01), Noise(1024, 0), -1, float("nan"), Fraction(1, 1048576)]
+        for gap in (GAP_MAX, 1, *NO_GAPS):
+            for tolerance in (0, *bad):
+                for count in (0, 17, 18, 100):
+                    self.not_scanned(19, 0, EVEN, self.flat, [tolerance] * count, gap=gap)
+            for tolerance, at in itertools.product(bad, (0, 1, 7, 15)):
+                several = [0] * at + [tolerance] * (16 - at)
+                self.not_scanned(4, at, EVEN, self.flat, several, gap=gap)
+                one = [0] * at + [tolerance] + [0] * (15 - at)
+                self.not_scanned(4, at, EVEN, self.flat, one, gap=gap)
+        for gap, count in itertools.product(NO_GAPS, (1, 16)):
+            self.not_scanned(15, 0, EVEN, self.flat, [0] * count, gap=gap)
+        for count in (1, 2, 16):
+            for length in {0, 4, 5 * count - 1}:
+                out = array.array("H", [9] * length)
+                self.refused(10, 5 * count, kovrelna.scan, EVEN, self.flat, [0] * count, out)
+                self.assertEqual(out, array.array("H", [9] * length))
+        endless = itertools.repeat(0)
+        self.not_scanned(19, 0, EVEN, self.flat, endless)
+        self.assertEqual(scan_of(EVEN, self.flat, [0] * 16), [[0, 4]] * 16)
 
     def test_gaps(self):
         for gap in NO_GAPS:
@@ -617,6 +682,7 @@ class Refusals(Case):
         calls = [
             *((call, EVEN, self.flat, 0) for call in REDUCTIONS),
             (kovrelna.least, EVEN, self.flat, 2),
+            (kovrelna.scan, EVEN, self.flat, [0]),
             (kovrelna.judge, EVEN, self.flat, [0, 4], 0),
             (kovrelna.write, EVEN, self.flat, [0, 4], 0),
             (kovrelna.report, EVEN, self.flat, [5], 0),
@@ -950,6 +1016,29 @@ class Words(Case):
             self.says(4, words, kovrelna.judge, EVEN, self.flat, [0, 4], tolerance)
             self.says(4, words, kovrelna.write, EVEN, self.flat, [0, 4], tolerance)
 
+    def test_scans(self):
+        for tolerances in ([], (), iter([])):
+            self.says(19, "no tolerances", kovrelna.scan, EVEN, self.flat, tolerances)
+        words = "too many tolerances: at most 16 are allowed"
+        for count in (17, 18, 10**6):
+            self.says(19, words, kovrelna.scan, EVEN, self.flat, [1] * count)
+        ratios = "p/q has q from 1 to 1,048,575 and p from 0 to 65,535 times q"
+        tenth = "is not a multiple of 1/64; write Ratio(1, 10) or Fraction(1, 10)"
+        for at, tolerance, words in [
+            (0, Ratio(1, 0), f"{ratios}, not 1/0"),
+            (2, 0.1, f"0.1 {tenth}"),
+            (15, Noise(1.5, 64), "the multiple is from 0 to 63, not 64"),
+        ]:
+            tolerances = [1] * at + [tolerance, Ratio(0, 0)][: 16 - at]
+            words = f"tolerances[{at}] is not allowed: {words}"
+            self.says(4, words, kovrelna.scan, EVEN, self.flat, tolerances)
+        words = "the gap limit must be from 1 to 1,048,575, not 0"
+        self.says(15, words, kovrelna.scan, EVEN, self.flat, [1], gap=0)
+        words = "too many samples: at most 4,096 are allowed"
+        self.says(1, words, kovrelna.scan, range(10**30), [], [1])
+        words = "the tick of sample 1 is not above the one before: 5 after 5"
+        self.says(2, words, kovrelna.scan, [5, 5], [0, 0], [])
+
     def test_crates(self):
         self.says(11, "no channels", kovrelna.report, EVEN, self.flat, [], 1)
         words = "too many channels: at most 64 are allowed"
@@ -1170,6 +1259,7 @@ class Words(Case):
             ("3 entries are needed, and out has 2", kovrelna.expand_with, (b"abc", TABLE, values)),
             ("2 entries are needed, and ticks has 1", kovrelna.read, (RECORD, ticks[1:])),
             ("2 entries are needed, and values has 1", kovrelna.read, (RECORD, ticks, values[1:])),
+            ("15 entries are needed, and out has 0", kovrelna.scan, (EVEN, self.flat, [1] * 3, out)),
             ("5 entries are needed, and sums has 2", kovrelna.sum, (*PAIR, values)),
             ("5 entries are needed, and joined has 0", kovrelna.sum, (*PAIR, None, out)),
             ("22 bytes are needed, and buffer has 21", kovrelna.write, (*trace, bytearray(21))),
@@ -1207,6 +1297,8 @@ class Longest(Case):
         for call in REDUCTIONS:
             self.assertEqual(kept_by(call, ticks, flat, 0, gap=255), list(range(4096)))
             self.assertEqual(kept_by(call, ticks, flat, 0, gap=256), [0, 4095])
+        lists = [range(4096)] * 15 + [[0, 4095]]
+        self.assertEqual(scan_of(ticks, values, [*range(15), 10000]), list(map(list, lists)))
         ends, every = array.array("H", [0, 4095]), array.array("H", range(4096))
         for list1, list2 in itertools.product((ends, every), repeat=2):
             found = kovrelna.sum(ticks, values, ticks, values, list1, list2)
@@ -1345,6 +1437,30 @@ class Buffers(Case):
             self.assertEqual(tuple(map(list, run)), given)
             for part in run:
                 part.append(7)
+
+    def test_scans(self):
+        ticks, values = array.array("I", EVEN), array.array("h", WAVE)
+        out = array.array("H", [9] * 10)
+        lent = self.lent("scan", kovrelna.scan, ticks, values, [2, 3], out)
+        # Between the trace and the output are the tolerances and the gap limit.
+        self.assertEqual(lent[:2], [ticks.buffer_info(), values.buffer_info()])
+        self.assertEqual(lent[-1], out.buffer_info())
+        lent = self.lent("scan", kovrelna.scan, ticks, values, [2, 3])
+        self.assertEqual(lent[-1][1], 10)
+        found = kovrelna.scan(ticks, values, [2, 3])
+        for part in (ticks, values, out, *found):
+            part.append(7)
+        self.assertEqual([kept.tolist() for kept in found], [[0, 2, 4, 7], [0, 4, 7]])
+        for tolerances, words in [
+            (2, "^tolerances must be a list of tolerances, not 2$"),
+            (None, "^tolerances must be a list of tolerances, not None$"),
+            (Ratio(1, 2), "^tolerances must be a list of tolerances, not Ratio"),
+            ([1, "2"], r"^tolerances\[1\]: tolerance must be Ratio, .*, not str$"),
+            ("12", r"^tolerances\[0\]: tolerance must be Ratio, .*, not str$"),
+            ([1, 2, Counts("2")], r"^tolerances\[2\]: a tolerance must be of real numbers"),
+        ]:
+            with self.assertRaisesRegex(TypeError, words):
+                kovrelna.scan(EVEN, WAVE, tolerances)
 
     def test_pairs(self):
         codes = "IhIhHH"
@@ -1552,6 +1668,7 @@ class Buffers(Case):
             ("out", kovrelna.expand_with, b"\7", TABLE, memoryview(bytes(2)).cast("h")),
             ("ticks", kovrelna.read, RECORD, memoryview(bytes(8)).cast("I")),
             ("values", kovrelna.read, RECORD, None, memoryview(bytes(4)).cast("h")),
+            ("out", kovrelna.scan, EVEN, WAVE, [1], memoryview(bytes(10)).cast("H")),
             ("sums", kovrelna.sum, *PAIR, memoryview(bytes(10)).cast("h")),
             ("joined", kovrelna.sum, *PAIR, None, memoryview(bytes(10)).cast("H")),
         ]
@@ -1566,6 +1683,8 @@ class Buffers(Case):
         with self.assertRaisesRegex(ValueError, "out and ticks overlap"):
             kovrelna.walk(ticks, [0, 0], 1, out)
         self.assertEqual(kovrelna.walk(ticks, [0, 0], 1, memory[8:12].cast("H")).tolist(), [0, 1])
+        with self.assertRaisesRegex(ValueError, "out and ticks overlap"):
+            kovrelna.scan(ticks, [0, 0], [1], out)
         with self.assertRaisesRegex(ValueError, "values and ticks overlap"):
             kovrelna.read(RECORD, memory[:8].cast("I"), memory[4:8].cast("h"))
         with self.assertRaisesRegex(ValueError, "joined and sums overlap"):
@@ -1628,6 +1747,7 @@ class NumpyArrays:
             answers += [kovrelna.gallop(ticks, values, 1).kept]
             answers += [kovrelna.least(ticks, values, 2).kept]
             answers += [kovrelna.sum(ticks, values, [0, 1, 3], [0, 1, 1], [0, 2], [0, 2]).joined]
+            answers += kovrelna.scan(ticks, values, [1, 2])
             for kept in answers:
                 self.assertEqual(kept.tolist(), [0, 2])
             answers += kovrelna.read(record)[:2]
@@ -1635,13 +1755,17 @@ class NumpyArrays:
             answers += [kovrelna.expand(record), kovrelna.expand(RECORD, numpy=True)]
             answers += [kovrelna.expand_with(record, TABLE)]
             answers += [kovrelna.expand_with(RECORD, TABLE, numpy=True)]
-            self.assertEqual([len(answer) for answer in answers], [2] * 9 + [22] * 4)
+            self.assertEqual([len(answer) for answer in answers], [2] * 11 + [22] * 4)
             kept = self.module.array([0, 1, 2], "H")
             answers += kovrelna.sum(ticks, values, ticks, values, kept, kept)
             self.assertEqual([answer.tolist() for answer in answers[-2:]], [[0, 2, 2], [0, 1, 2]])
             for answer in kovrelna.sum([0, 1, 3], values, ticks, values, kept, kept):
                 self.assertNotIsInstance(answer, self.module.ndarray)
             self.assertNotIsInstance(kovrelna.walk(ticks.tolist(), values, 1), self.module.ndarray)
+            for kept in kovrelna.scan(ticks.tolist(), values, [1, 2]):
+                self.assertNotIsInstance(kept, self.module.ndarray)
+            answers += kovrelna.scan(ticks, values, [0])
+            self.assertEqual(answers[-1].tolist(), [0, 1, 2])
             table = self.module.array(TABLE, "h")
             self.assertNotIsInstance(kovrelna.expand_with(RECORD, table), self.module.ndarray)
             given = self.module.array([9] * 2, "I")
@@ -1661,6 +1785,13 @@ class NumpyArrays:
         self.assertEqual((kept.tolist(), out.tolist()), ([0, 2, 4], [0, 2, 4, 9, 9]))
         kept[1] = 7
         self.assertEqual(out.tolist(), [0, 7, 4, 9, 9])
+        out = self.module.array([9] * 11, "H")
+        with mock.patch.dict(sys.modules, numpy=self.module):
+            found = kovrelna.scan(EVEN, WAVE, [2, 3], out)
+        self.assertEqual([kept.tolist() for kept in found], [[0, 2, 4], [0, 4]])
+        self.assertEqual(out.tolist(), [0, 2, 4, 9, 9, 0, 4, 9, 9, 9, 9])
+        found[1][0] = 7
+        self.assertEqual(out.tolist()[5], 7)
         sums, out = self.module.array([9] * 6, "h"), self.module.array([9] * 5, "H")
         with mock.patch.dict(sys.modules, numpy=self.module):
             found = kovrelna.sum(*PAIR, sums, out)
@@ -1750,6 +1881,19 @@ class Numpy(NumpyArrays, Case):
         with self.assertRaisesRegex(TypeError, words):
             kovrelna.pedestals(today, before._replace(values=before.values + 0.5), 0.5, 2)
 
+    def test_scans(self):
+        ticks, values = numpy.arange(5, dtype=numpy.uint32), numpy.array(WAVE, numpy.int16)
+        tolerances = numpy.array([2.0, 0.5, 3.0])
+        for given in (tolerances, tolerances.tolist(), [numpy.int64(2), 0.5, numpy.float32(3)]):
+            found = kovrelna.scan(ticks, values, given)
+            self.assertEqual([kept.dtype for kept in found], [numpy.uint16] * 3)
+            lists = [[0, 2, 4], [0, 1, 3, 4], [0, 4]]
+            self.assertEqual([kept.tolist() for kept in found], lists)
+        self.refused(4, 1, kovrelna.scan, ticks, values, numpy.array([2.0, 0.1]))
+        self.refused(19, 0, kovrelna.scan, ticks, values, numpy.zeros(17))
+        with self.assertRaisesRegex(TypeError, "^tolerances must be a list of tolerances"):
+            kovrelna.scan(ticks, values, numpy.array(2.0))
+
     def test_pairs(self):
         kinds = numpy.uint32, numpy.int16, numpy.uint32, numpy.int16, numpy.uint16, numpy.uint16
         pair = list(map(numpy.array, PAIR, kinds))
@@ -1831,7 +1975,8 @@ def answer(call, *arguments, **limits):
 
 
 class Reference(Case):
-    """Random traces, limits, pairs, runs, range tables and records beside the slow reference."""
+    """Random traces, limits, scans, pairs, runs, range tables and records beside the slow
+    reference."""
 
     def setUp(self):
         self.random = random.Random(1)
@@ -2018,6 +2163,41 @@ class Reference(Case):
             self.assertEqual(found, reference.measure(ticks, values, i, j), given)
             counts.add(sum(b - a > gap for a, b in zip(ticks, ticks[1:])))
         self.assertTrue({0, 1, 2} & counts and max(counts) > 50, counts)
+
+    def test_scans(self):
+        seen, counts = set(), set()
+        for _ in range(1500):
+            ticks, values = self.trace()
+            gap = self.gap(ticks)
+            count = self.random.choice([1, 2, 3, 5, 16, self.random.randrange(19)])
+            pairs = [self.tolerance() for _ in range(count)]
+            if self.random.randrange(4):
+                allowed = [isinstance(answer(reference.held, form), Fraction) for form, _ in pairs]
+                pairs = list(itertools.compress(pairs, allowed))
+            forms, tolerances = [pair[0] for pair in pairs], [pair[1] for pair in pairs]
+            samples, needed = len(ticks), len(pairs) * len(ticks)
+            room = self.random.choice([needed] * 6 + [needed + 7, max(needed - 1, 0), samples])
+            out = array.array("H", [999] * room)
+            after = out[:]
+            expected = answer(reference.scan, ticks, values, forms, gap, room)
+            found = answer(kovrelna.scan, ticks, values, tolerances, out, gap=gap)
+            given = ticks, values, tolerances, gap
+            if expected[0] == "refused":
+                self.assertEqual((found, out), (expected, after), given)
+                seen.add(expected[1] if expected[1][0] == 4 else expected[1][0])
+                continue
+            counts.add(len(pairs))
+            self.assertEqual([list(kept) for kept in found], expected, given)
+            for part, kept in enumerate(expected):
+                after[part * samples : part * samples + len(kept)] = array.array("H", kept)
+            self.assertEqual(out, after, given)
+            # After each sample: the stops fixed by then, closed with it.
+            for j in range(1, samples):
+                so_far = scan_of(ticks[: j + 1], values[: j + 1], tolerances, gap=gap)
+                self.assertEqual(so_far, [reference.closed(kept, j) for kept in expected], given)
+        self.assertTrue({1, 2, 3, 19, 15, 10} < seen and {1, 16} < counts, (seen, counts))
+        positions = {row[1] for row in seen if isinstance(row, tuple)}
+        self.assertTrue({0, 1, 2, 3} < positions, positions)
 
     def pair(self):
         """Two traces and a list of each, sometimes with faults, or with ticks that differ."""

@@ -29,6 +29,8 @@ kovrelna.judge(ticks, values, kept, Ratio(1, 10)).link
 kovrelna.judge(ticks, values, kept, 1, gap=7).link
 kovrelna.least(ticks, values, 2).error.denominator
 kovrelna.least(ticks, values, 2, gap=True).kept.tolist()
+kovrelna.scan(ticks, values, [1, 0.5, Fraction(1, 10), Ratio(1, 10)])[0].tolist()
+kovrelna.scan(Array(), Array(), (Counts(n) for n in ticks), Array(), gap=7).index(0)
 kovrelna.sum(ticks, values, ticks, values, kept, kept).sums.tolist()
 kovrelna.sum(Array(), Array(), array.array("I"), b"", (0, 2), memoryview(b"")).joined[0]
 kovrelna.sum(ticks, values, ticks, values, kept, kept, Array(), array.array("H")).joined[0]
@@ -71,6 +73,12 @@ kovrelna.judge(ticks, values, None, 1)  # type: ignore[arg-type]
 kovrelna.judge(ticks, values, kept, 1).measure.side  # type: ignore[union-attr]
 kovrelna.least(ticks, values, 2.0)  # type: ignore[arg-type]
 kovrelna.least(ticks, values, 2, gap=None)  # type: ignore[arg-type]
+kovrelna.scan(ticks, values)  # type: ignore[call-arg]
+kovrelna.scan(ticks, values, 1)  # type: ignore[arg-type]
+kovrelna.scan(ticks, values, ["1/10"])  # type: ignore[list-item]
+kovrelna.scan(ticks, values, [1], [0, 0, 0])  # type: ignore[arg-type]
+kovrelna.scan(ticks, values, [1], gap=None)  # type: ignore[arg-type]
+kovrelna.scan(ticks, values, [1]).kept  # type: ignore[attr-defined]
 kovrelna.sum(ticks, values, ticks, values, kept)  # type: ignore[call-arg]
 kovrelna.sum(ticks, values, ticks, values, kept, None)  # type: ignore[arg-type]
 kovrelna.sum(ticks, values, ticks, values, kept, kept, gap=7)  # type: ignore[call-arg]

@@ -1,6 +1,6 @@
 //! The C interface, call by call, as safe functions. `kovrelna.h` describes the structs.
 
-use crate::{ReducedTrace, Run, Summary};
+use crate::{ReducedTrace, Run, Summary, TOLERANCES_MAX};
 
 #[repr(C)]
 pub struct Answer {
@@ -9,6 +9,7 @@ pub struct Answer {
 }
 
 #[repr(C)]
+#[derive(Clone, Copy, Default)]
 pub struct Tolerance {
     pub form: u64,
     pub p: u64,
@@ -21,6 +22,12 @@ pub struct Tolerance {
 pub struct Limits {
     pub tolerance: Tolerance,
     pub gap: u32,
+}
+
+#[repr(C)]
+pub struct Tolerances {
+    pub count: u64,
+    pub list: [Tolerance; TOLERANCES_MAX],
 }
 
 #[repr(C)]
@@ -57,6 +64,13 @@ pub struct Galloped {
     pub number: u32,
     pub value: u64,
     pub probes: u64,
+}
+
+#[repr(C)]
+pub struct Scanned {
+    pub number: u32,
+    pub value: u64,
+    pub kept: [u64; TOLERANCES_MAX],
 }
 
 #[repr(C)]
@@ -156,6 +170,16 @@ extern "C" {
         out: *mut u16,
         out_len: usize,
     ) -> Least;
+    fn kovrelna_scan(
+        ticks: *const u32,
+        ticks_len: usize,
+        values: *const i16,
+        values_len: usize,
+        tolerances: Tolerances,
+        gap: u32,
+        out: *mut u16,
+        out_len: usize,
+    ) -> Scanned;
     fn kovrelna_sum(
         ticks1: *const u32,
         ticks1_len: usize,
@@ -329,6 +353,28 @@ pub fn least(ticks: &[u32], values: &[i16], gap: u32, allowance: u64, out: &mut 
             values.len(),
             gap,
             allowance,
+            out.as_mut_ptr(),
+            out.len(),
+        )
+    }
+}
+
+pub fn scan(
+    ticks: &[u32],
+    values: &[i16],
+    tolerances: Tolerances,
+    gap: u32,
+    out: &mut [u16],
+) -> Scanned {
+    // SAFETY: as above; the output is `out`.
+    unsafe {
+        kovrelna_scan(
+            ticks.as_ptr(),
+            ticks.len(),
+            values.as_ptr(),
+            values.len(),
+            tolerances,
+            gap,
             out.as_mut_ptr(),
             out.len(),
         )

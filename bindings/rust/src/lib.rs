@@ -6,6 +6,7 @@
 //! - [`Verdict`], [`judge`]: whether every link of a proposed list is valid.
 //! - [`walk`], [`Galloped`], [`gallop`], [`minimum`]: kept lists with every link valid.
 //! - [`Least`], [`least`]: the least error that a list of so many samples can have.
+//! - [`TOLERANCES_MAX`], [`scan`]: what walk keeps at each of several tolerances, in one pass.
 //! - [`ReducedTrace`], [`sum`]: two traces added, with their kept lists joined.
 //! - [`expand`], [`expand_with`]: the values of range codes, by the rule or by a table of the caller's.
 //! - [`write()`], [`Content`], [`read`], [`same`]: records of kept samples.
@@ -63,8 +64,12 @@ pub enum Refusal {
     Tick(usize),
     /// 3: the first sample more than 1,048,575 ticks after sample 0.
     Span(usize),
+    /// 19: no tolerances, or more than 16.
+    Count,
     /// 4: the tolerance is not allowed.
     Tolerance,
+    /// 4, in [`scan`]: the position of the first tolerance that is not allowed.
+    ToleranceAt(usize),
     /// 15: the gap limit is below 1 or above 1,048,575.
     Gap,
     /// 5: the allowance is below 2 or above 4,096.
@@ -109,13 +114,14 @@ pub enum Refusal {
 }
 
 impl Refusal {
-    /// The refusal's number, 1 to 18.
+    /// The refusal's number, 1 to 19.
     pub fn number(self) -> u32 {
         match self {
             Refusal::Length => 1,
             Refusal::Tick(_) => 2,
             Refusal::Span(_) => 3,
-            Refusal::Tolerance => 4,
+            Refusal::Count => 19,
+            Refusal::Tolerance | Refusal::ToleranceAt(_) => 4,
             Refusal::Gap => 15,
             Refusal::Allowance => 5,
             Refusal::Holes => 16,
@@ -138,6 +144,7 @@ impl Refusal {
     pub fn returned(self) -> usize {
         match self {
             Refusal::Length
+            | Refusal::Count
             | Refusal::Tolerance
             | Refusal::Gap
             | Refusal::Allowance
@@ -146,6 +153,7 @@ impl Refusal {
             | Refusal::Factor => 0,
             Refusal::Tick(value)
             | Refusal::Span(value)
+            | Refusal::ToleranceAt(value)
             | Refusal::List(value)
             | Refusal::Mismatch(value)
             | Refusal::Overflow(value)
@@ -182,6 +190,7 @@ impl Refusal {
             16 => Refusal::Holes,
             17 => Refusal::Mismatch(value),
             18 => Refusal::Overflow(value),
+            19 => Refusal::Count,
             _ => unreachable!("there is no refusal {number}"),
         })
     }
@@ -210,7 +219,11 @@ impl fmt::Display for Refusal {
             Refusal::Span(sample) => {
                 write!(f, "sample {sample} is over 1,048,575 ticks after the first")
             }
+            Refusal::Count => write!(f, "no tolerances, or more than 16"),
             Refusal::Tolerance => write!(f, "the tolerance is not allowed"),
+            Refusal::ToleranceAt(position) => {
+                write!(f, "the tolerance at position {position} is not allowed")
+            }
             Refusal::Gap => write!(f, "the gap limit is below 1 or above 1,048,575"),
             Refusal::Allowance => write!(f, "the allowance is below 2 or above 4,096"),
             Refusal::Holes => {
@@ -727,6 +740,79 @@ pub fn least(
             q: answer.q,
         },
     })
+}
+
+/// The most tolerances of a [`scan`].
+pub const TOLERANCES_MAX: usize = 16;
+
+impl ffi::Tolerances {
+    /// The tolerances as C takes them. Of more than 16 it has the first 16 with the whole count, so that
+    /// they are refused.
+    fn of(tolerances: &[Tolerance]) -> Self {
+        let mut list = [ffi::Tolerance::default(); TOLERANCES_MAX];
+        for (entry, &tolerance) in list.iter_mut().zip(tolerances) {
+            *entry = tolerance.into();
+        }
+        ffi::Tolerances {
+            count: tolerances.len() as u64,
+            list,
+        }
+    }
+}
+
+/// What [`walk`] keeps at each of 1 to 16 tolerances under one gap limit, found in a single pass over the
+/// trace. The tolerances may repeat, and come in any order and in any form. [`GAP_MAX`] is no gap limit.
+///
+/// Returns the kept number at each tolerance, and 0 from the number of tolerances on. The lists lie one
+/// after another in `out`, each in a part with an entry for each sample: for a trace of n samples the
+/// entries from a n on, as many as the kept number at a, are the list of [`walk`] at tolerance a. All other
+/// entries are as they were: the rest of each part, and what lies behind the last part.
+///
+/// In the pass, once sample j has been taken in, from sample 1 on, the samples kept so far with sample j as
+/// the last are the lists of [`walk`] of samples 0 to j.
+///
+/// Refusals: [`Refusal::Length`], [`Refusal::Tick`], [`Refusal::Span`], [`Refusal::Count`],
+/// [`Refusal::ToleranceAt`], [`Refusal::Gap`], and [`Refusal::Room`] if `out` has fewer entries than the
+/// number of tolerances times that of samples.
+///
+/// ```
+/// use kovrelna::{scan, Refusal, Tolerance, GAP_MAX};
+///
+/// let (ticks, values) = ([0, 1, 2, 3, 4], [0, 2, 0, -2, 0]);
+/// let ratio = |p, q| Tolerance::Ratio { p, q };
+/// let tolerances = [Tolerance::Counts(2.0), ratio(8, 3), ratio(1, 2)];
+/// let mut out = [9; 16];
+/// let kept = scan(&ticks, &values, &tolerances, GAP_MAX, &mut out)?;
+/// assert_eq!(kept[..4], [3, 2, 4, 0]);
+/// assert_eq!(out, [0, 2, 4, 9, 9, 0, 4, 9, 9, 9, 0, 1, 3, 4, 9, 9]);
+/// let lists: Vec<&[u16]> = out.chunks(5).zip(kept).map(|(part, kept)| &part[..kept]).collect();
+/// assert_eq!(lists[..3], [&[0, 2, 4][..], &[0, 4], &[0, 1, 3, 4]]);
+///
+/// let answer = scan(&ticks, &values, &tolerances, GAP_MAX, &mut out[..14]);
+/// assert_eq!(answer, Err(Refusal::Room(15)));
+/// let answer = scan(&ticks, &values, &[ratio(1, 1), ratio(1, 0)], GAP_MAX, &mut out);
+/// assert_eq!(answer, Err(Refusal::ToleranceAt(1)));
+/// assert_eq!(scan(&ticks, &values, &[ratio(1, 1); 17], 1, &mut out), Err(Refusal::Count));
+///
+/// // Samples 2 and 3 lie 8 ticks apart.
+/// let (ticks, values) = ([0, 1, 2, 10, 11, 12], [0; 6]);
+/// let kept = scan(&ticks, &values, &[ratio(2, 1)], 7, &mut out)?;
+/// assert_eq!(out[..kept[0]], [0, 2, 3, 5]);
+/// # Ok::<(), Refusal>(())
+/// ```
+pub fn scan(
+    ticks: &[u32],
+    values: &[i16],
+    tolerances: &[Tolerance],
+    gap: u32,
+    out: &mut [u16],
+) -> Result<[usize; TOLERANCES_MAX], Refusal> {
+    let answer = ffi::scan(ticks, values, ffi::Tolerances::of(tolerances), gap, out);
+    if answer.number == 4 {
+        return Err(Refusal::ToleranceAt(answer.value as usize));
+    }
+    Refusal::check(answer.number, answer.value)?;
+    Ok(answer.kept.map(|kept| kept as usize))
 }
 
 /// A trace with a kept list of it.

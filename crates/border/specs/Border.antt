@@ -1,15 +1,22 @@
 -- What the structs of the C interface stand for: the enums of the public calls.
 --   toleranceOf, limitsOf   the tolerance that a form gives; with the gap limit
+--   entryOf, tolerancesOf   one of several tolerances; all of them
 --   sideNumber   the number of a side
---   heldOf, measuredOf, judgedOf, keptOf, gallopedOf, closestOf, writtenOf, readOf, comparedOf, reportOf, listedOf   an answer as numbers: 0 for success, or the refusal's number and value
+--   numberIn, valueIn   0 and 0 for success, or the refusal's number and value
+--   heldOf, measuredOf, judgedOf, keptOf, scannedOf, gallopedOf, closestOf, writtenOf, readOf, comparedOf, reportOf, listedOf   an answer as numbers: 0 for success, or the refusal's number and value
 -- Assumes nothing.
 use mathlib.Core.Bool.{cond}
+use mathlib.Core.List.{map}
 use Prim.Native.Nat.{ℕ}
 use lib.Dec.{eqb}
+use Rattle.refusal.specs.declared.Checked.{Checked}
+use Rattle.refusal.specs.declared.Checked.the-variants.{Fine, Refused as IsRefused}
 use Rattle.refusal.specs.Table.{numberOf, returnedOf}
 use Rattle.tolerance.specs.declared.Tolerance as T
 use Rattle.tolerance.specs.declared.Tolerance.the-variants.{Ratio, Counts, Noise}
 use Rattle.limits.specs.declared.Limits as L
+use Rattle.tolerances.specs.declared.Entry.{Entry}
+use Rattle.tolerances.specs.declared.Tolerances as S
 use Rattle.engine.specs.declared.Holding.{Holding}
 use Rattle.engine.specs.declared.Holding.the-variants.{Held as IsHeld, Refused as HoldRefused}
 use Rattle.trace.specs.declared.Side.{Side}
@@ -20,6 +27,7 @@ use Rattle.engine.specs.declared.Verdict as E
 use Rattle.engine.specs.declared.Verdict.the-variants.{Yes, No, Refused}
 use Rattle.engine.specs.declared.Reduced.{Reduced}
 use Rattle.engine.specs.declared.Reduced.the-variants.{Kept as IsKept, Refused as NotKept}
+use Rattle.engine.specs.declared.Scanned as N
 use Rattle.engine.specs.declared.Probed.{Probed}
 use Rattle.engine.specs.declared.Probed.the-variants.{Kept as IsGalloped, Refused as NotGalloped}
 use Rattle.engine.specs.declared.Closest as C
@@ -37,11 +45,13 @@ use Rattle.pedestals.specs.declared.Compared.the-variants.{Listed, Refused as N
 use Rattle.pedestals.specs.Compare.{causeNumber, causeValue}
 use Rattle.border.specs.declared.Tolerance.{Tolerance}
 use Rattle.border.specs.declared.Limits.{Limits}
+use Rattle.border.specs.declared.Tolerances.{Tolerances}
 use Rattle.border.specs.declared.Held.{Held}
 use Rattle.border.specs.declared.Measured.{Measured}
 use Rattle.border.specs.declared.Judged.{Judged}
 use Rattle.border.specs.declared.Verdict.{Verdict}
 use Rattle.border.specs.declared.Answer.{Answer}
+use Rattle.border.specs.declared.Scanned.{Scanned}
 use Rattle.border.specs.declared.Closest.{Closest}
 use Rattle.border.specs.declared.Content.{Content}
 use Rattle.border.specs.declared.Galloped.{Galloped}
@@ -57,6 +67,12 @@ toleranceOf t =
 
 abbrev pub limitsOf : Limits → L.Limits
 limitsOf t = record { tolerance = toleranceOf (t .tolerance); gap = t .gap }
+
+abbrev pub entryOf : Tolerance → Entry
+entryOf t = record { tolerance = toleranceOf t }
+
+abbrev pub tolerancesOf : Tolerances → S.Tolerances
+tolerancesOf t = record { count = t .count; list = map entryOf (t .list) }
 
 abbrev pub heldOf : Holding → Held
 heldOf (IsHeld r) = record { number = 0; value = 0; p = r .p; q = r .q }
@@ -80,6 +96,17 @@ judgedOf (Refused x) = record { number = numberOf x; passed = 0; value = returne
 abbrev pub keptOf : Reduced → Answer
 keptOf (IsKept n) = record { number = 0; value = n }
 keptOf (NotKept x) = record { number = numberOf x; value = returnedOf x }
+
+abbrev pub numberIn : Checked → ℕ
+numberIn Fine = 0
+numberIn (IsRefused x) = numberOf x
+
+abbrev pub valueIn : Checked → ℕ
+valueIn Fine = 0
+valueIn (IsRefused x) = returnedOf x
+
+abbrev pub scannedOf : N.Scanned → Scanned
+scannedOf s = record { number = numberIn (s .checked); value = valueIn (s .checked); kept = s .counts }
 
 abbrev pub gallopedOf : Probed → Galloped
 gallopedOf (IsGalloped g) = record { number = 0; value = g .kept; probes = g .probes }

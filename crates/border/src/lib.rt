@@ -1,6 +1,6 @@
 // The border of the C interface: its structs, and the converters between them and the enums of `engine` and of the products above it.
 ghost use mathlib.Core.Path.{_≡_};
-ghost use Rattle.border.specs.Border.{toleranceOf, limitsOf, heldOf, sideNumber, measuredOf, judgedOf, keptOf, gallopedOf, closestOf, writtenOf, readOf, comparedOf, reportOf, listedOf};
+ghost use Rattle.border.specs.Border.{toleranceOf, limitsOf, entryOf, tolerancesOf, heldOf, sideNumber, measuredOf, judgedOf, keptOf, scannedOf, gallopedOf, closestOf, writtenOf, readOf, comparedOf, reportOf, listedOf};
 use sheet::Sheet;
 
 // A tolerance: form 0 is the ratio p/q, form 1 is x counts, form 2 is the noise x times the multiple y. No other form is allowed.
@@ -18,6 +18,13 @@ pub struct Tolerance {
 pub struct Limits {
     pub tolerance: Tolerance,
     pub gap: u32,
+}
+
+// Up to 16 tolerances: the first `count` of `list`.
+#[repr(C)]
+pub struct Tolerances {
+    pub count: u64,
+    pub list: [Tolerance; 16],
 }
 
 // A tolerance in lowest terms under the number 0, or a refusal's number and value.
@@ -73,6 +80,14 @@ pub struct Galloped {
     pub number: u32,
     pub value: u64,
     pub probes: u64,
+}
+
+// How many samples were kept at each tolerance under the number 0, and 0 behind the last; or a refusal's number and value, and zeros.
+#[repr(C)]
+pub struct Scanned {
+    pub number: u32,
+    pub value: u64,
+    pub kept: [usize; 16],
 }
 
 // How many samples were kept and their error p/q under the number 0, or a refusal's number and value.
@@ -142,6 +157,34 @@ pub fn limits_of(t: Limits) -> limits::Limits
     limits::Limits {
         tolerance,
         gap: t.gap,
+    }
+}
+
+fn entry_of(t: Tolerance) -> tolerances::Entry
+    ensures { λ r. ⌜ r ≡ entryOf t ⌝ }
+{
+    let tolerance = tolerance_of(t);
+    tolerances::Entry { tolerance }
+}
+
+pub fn tolerances_of(t: Tolerances) -> tolerances::Tolerances
+    ensures { λ r. ⌜ r ≡ tolerancesOf t ⌝ }
+{
+    let given = t.list;
+    let none = tolerances::Entry {
+        tolerance: tolerance::Tolerance::Ratio(0, 0),
+    };
+    let mut list = [none; 16];
+    let mut k = 0;
+    while k < 16 {
+        let form = given[k];
+        let entry = entry_of(form);
+        list[k] = entry;
+        k += 1;
+    }
+    tolerances::Tolerances {
+        count: t.count as usize,
+        list,
     }
 }
 
@@ -252,6 +295,25 @@ pub fn kept_of(a: engine::Reduced) -> Answer
         engine::Reduced::Refused(x) => Answer {
             number: refusal::number(x),
             value: refusal::returned(x) as u64,
+        },
+    }
+}
+
+pub fn scanned_of(s: engine::Scanned) -> Scanned
+    ensures { λ r. ⌜ r ≡ scannedOf s ⌝ }
+{
+    let checked = s.checked;
+    let kept = s.counts;
+    match checked {
+        refusal::Checked::Fine => Scanned {
+            number: 0,
+            value: 0,
+            kept,
+        },
+        refusal::Checked::Refused(x) => Scanned {
+            number: refusal::number(x),
+            value: refusal::returned(x) as u64,
+            kept,
         },
     }
 }

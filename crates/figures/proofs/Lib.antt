@@ -4,3 +4,4 @@ pub mod Requests
 pub mod Links
 pub mod Sums
 pub mod Records
+pub mod Scans

@@ -19,6 +19,7 @@ use Rattle.kept.specs.Least.{leastOver, leastFrom, leastOf}
 use Rattle.kept.specs.Gallop.{probeOf, doubling, bisection, searchBy, gallopSearch, gallopOf, gallopProbes, sumFrom}
 use Rattle.refusal.specs.declared.Refusal.the-variants.{Tick, List as NoKeptList, Gap, Holes, Link, Allowance}
 use Rattle.refusal.specs.declared.Checked.the-variants.{Fine, Refused}
+use Rattle.refusal.specs.Table.{NotAllowedTolerance as Tolerance}
 use Rattle.tolerance.specs.declared.Tolerance.the-variants.{Ratio}
 use Rattle.trace.specs.declared.Side.the-variants.{On, Above, Below, Gap as OverGap}
 use Rattle.trace.specs.Trace.{traceRows}

@@ -15,7 +15,7 @@ use Rattle.kept.specs.Walk.{walkFrom, walkOf}
 use Rattle.kept.specs.Gallop.{sumFrom, listProbes}
 use Rattle.refusal.specs.declared.Refusal.the-variants.{Length, Tick, Room, Crate, Table, Samples, Factor}
 use Rattle.refusal.specs.declared.Checked.the-variants.{Fine, Refused}
-use Rattle.refusal.specs.Table.{numberOf, returnedOf}
+use Rattle.refusal.specs.Table.{NotAllowedTolerance as Tolerance, numberOf, returnedOf}
 use Rattle.tolerance.specs.declared.Tolerance.the-variants.{Ratio}
 use Rattle.tolerance.specs.Meaning.{meaning}
 use Rattle.trace.specs.Trace.{traceRows}

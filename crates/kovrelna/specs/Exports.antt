@@ -1,5 +1,5 @@
 -- What the exports of the C interface promise.
---   HoldExport, MeasureExport, JudgeExport, WalkExport, GallopExport, MinimumExport, LeastExport, SumExport, ExpandExport, ExpandWithExport, WriteExport, ReadExport, SameExport,
+--   HoldExport, MeasureExport, JudgeExport, WalkExport, ScanExport, GallopExport, MinimumExport, LeastExport, SumExport, ExpandExport, ExpandWithExport, WriteExport, ReadExport, SameExport,
 --   ReportExport, PedestalsExport   an export's answer is that of the public call, with its whole outcome
 -- Assumes nothing.
 use mathlib.Core.Path.{_≡_}
@@ -10,6 +10,7 @@ use Rattle.engine.specs.declared.Holding.{Holding}
 use Rattle.engine.specs.declared.Measured as M
 use Rattle.engine.specs.declared.Verdict as E
 use Rattle.engine.specs.declared.Reduced.{Reduced}
+use Rattle.engine.specs.declared.Scanned as N
 use Rattle.engine.specs.declared.Probed.{Probed}
 use Rattle.engine.specs.declared.Closest as C
 use Rattle.engine.specs.declared.Written.{Written}
@@ -24,6 +25,7 @@ use Rattle.reader.specs.Reading.{ReadOutcome, SameOutcome}
 use Rattle.sheet.specs.declared.Summary.{Summary}
 use Rattle.sheet.specs.declared.Reported.{Reported}
 use Rattle.engine.specs.Reduce.{WalkOutcome, GallopOutcome}
+use Rattle.engine.specs.Scan.{ScanOutcome}
 use Rattle.engine.specs.Minimum.{MinimumOutcome}
 use Rattle.engine.specs.Least.{LeastOutcome}
 use Rattle.engine.specs.Sum.{SumOutcome}
@@ -32,17 +34,19 @@ use Rattle.pedestals.specs.declared.Compared as P
 use Rattle.pedestals.specs.Compare.{Run, CompareOutcome}
 use Rattle.border.specs.declared.Tolerance.{Tolerance}
 use Rattle.border.specs.declared.Limits.{Limits}
+use Rattle.border.specs.declared.Tolerances.{Tolerances}
 use Rattle.border.specs.declared.Held.{Held}
 use Rattle.border.specs.declared.Measured.{Measured}
 use Rattle.border.specs.declared.Judged.{Judged}
 use Rattle.border.specs.declared.Verdict.{Verdict}
 use Rattle.border.specs.declared.Answer.{Answer}
+use Rattle.border.specs.declared.Scanned.{Scanned}
 use Rattle.border.specs.declared.Closest.{Closest}
 use Rattle.border.specs.declared.Content.{Content}
 use Rattle.border.specs.declared.Galloped.{Galloped}
 use Rattle.border.specs.declared.Report.{Report}
 use Rattle.border.specs.declared.Compared.{Compared}
-use Rattle.border.specs.Border.{toleranceOf, limitsOf, heldOf, measuredOf, judgedOf, keptOf, gallopedOf, closestOf, writtenOf, readOf, comparedOf, reportOf, listedOf}
+use Rattle.border.specs.Border.{toleranceOf, limitsOf, tolerancesOf, heldOf, measuredOf, judgedOf, keptOf, scannedOf, gallopedOf, closestOf, writtenOf, readOf, comparedOf, reportOf, listedOf}
 
 pub record HoldExport (t : Tolerance) (r : Held) : Type 0 where
   pub answer : Holding
@@ -63,6 +67,11 @@ pub record WalkExport (ts : List ℕ) (vs : List ℤ) (t : Limits) (o : List ℕ
   pub answer : Reduced
   pub is : r ≡ keptOf answer
   pub outcome : WalkOutcome ts vs (limitsOf t) o answer o′
+
+pub record ScanExport (ts : List ℕ) (vs : List ℤ) (t : Tolerances) (g : ℕ) (o : List ℕ) (r : Scanned) (o′ : List ℕ) : Type 0 where
+  pub answer : N.Scanned
+  pub is : r ≡ scannedOf answer
+  pub outcome : ScanOutcome ts vs (tolerancesOf t) g o answer o′
 
 pub record GallopExport (ts : List ℕ) (vs : List ℤ) (t : Limits) (o : List ℕ) (r : Galloped) (o′ : List ℕ) : Type 0 where
   pub answer : Probed

@@ -1,7 +1,7 @@
 // The C interface: each export is a public call of `engine` or of a product above it, with the numbers and structs of `border` for its enums.
 ghost use Rattle.engine.specs.Report.{Surveyed};
 ghost use Rattle.border.specs.Border.{limitsOf};
-ghost use Rattle.kovrelna.specs.Exports.{HoldExport, MeasureExport, JudgeExport, WalkExport, GallopExport, MinimumExport, LeastExport, SumExport, ExpandExport, ExpandWithExport, WriteExport, ReadExport, SameExport, ReportExport, PedestalsExport};
+ghost use Rattle.kovrelna.specs.Exports.{HoldExport, MeasureExport, JudgeExport, WalkExport, ScanExport, GallopExport, MinimumExport, LeastExport, SumExport, ExpandExport, ExpandWithExport, WriteExport, ReadExport, SameExport, ReportExport, PedestalsExport};
 ghost use Rattle.pedestals.specs.Compare.{runOf};
 use border::Answer;
 use border::Closest;
@@ -13,7 +13,9 @@ use border::Judged;
 use border::Limits;
 use border::Measured;
 use border::Report;
+use border::Scanned;
 use border::Tolerance;
+use border::Tolerances;
 use border::Verdict;
 use border::closest_of;
 use border::compared_of;
@@ -26,7 +28,9 @@ use border::listed_of;
 use border::measured_of;
 use border::read_of;
 use border::report_of;
+use border::scanned_of;
 use border::tolerance_of;
+use border::tolerances_of;
 use border::written_of;
 use sheet::Sheet;
 use sheet::Summary;
@@ -84,6 +88,20 @@ pub extern "C" fn kovrelna_walk(ticks: &[u32], values: &[i16], t: Limits, out: &
     ensures { λ r. ⌜ WalkExport (now (ticks .entry)) (now (values .entry)) t (now (out .entry)) r (now (out .exit)) ⌝ }
 {
     kept_of(engine::walk::walk(ticks, values, limits_of(t), out))
+}
+
+// Writes walk's list at each tolerance into the first entries of its part of `out`.
+#[no_mangle]
+pub extern "C" fn kovrelna_scan(
+    ticks: &[u32],
+    values: &[i16],
+    t: Tolerances,
+    gap: u32,
+    out: &mut [u16],
+) -> Scanned
+    ensures { λ r. ⌜ ScanExport (now (ticks .entry)) (now (values .entry)) t gap (now (out .entry)) r (now (out .exit)) ⌝ }
+{
+    scanned_of(engine::scan::scan(ticks, values, tolerances_of(t), gap, out))
 }
 
 // Writes gallop's list into the first entries of `out`.

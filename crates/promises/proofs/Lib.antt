@@ -12,3 +12,4 @@ pub mod PedestalShift
 pub mod Pedestals
 pub mod Dropouts
 pub mod Sums
+pub mod Scans

@@ -1,5 +1,6 @@
 //! Options and operands of a command line. An option takes a value, as `--name value`, `--name=value`,
-//! `-n value` or `-nvalue`, or is a flag, as `--help` is. `--` ends the options; `-` alone is an operand.
+//! `-n value` or `-nvalue`, or is a flag, as `--help` is. Some may be given several times. `--` ends the
+//! options; `-` alone is an operand.
 
 use crate::failure::Failure;
 use crate::name::{placed, shown};
@@ -12,6 +13,7 @@ pub struct Known {
     pub name: &'static str,
     letter: Option<char>,
     is_flag: bool,
+    is_repeated: bool,
 }
 
 impl Known {
@@ -21,6 +23,15 @@ impl Known {
             name,
             letter,
             is_flag: false,
+            is_repeated: false,
+        }
+    }
+
+    /// An option with a value that may be given several times.
+    pub const fn repeated(name: &'static str, letter: Option<char>) -> Known {
+        Known {
+            is_repeated: true,
+            ..Known::valued(name, letter)
         }
     }
 
@@ -30,6 +41,7 @@ impl Known {
             name,
             letter,
             is_flag: true,
+            is_repeated: false,
         }
     }
 }
@@ -66,7 +78,7 @@ impl Arguments {
             }
             let wrong = |cause: &str| Failure::usage(placed(shown(argument), cause), command);
             let known = named(known, name).ok_or_else(|| wrong("there is no such option"))?;
-            if parsed.value(known.name).is_some() {
+            if parsed.value(known.name).is_some() && !known.is_repeated {
                 return Err(wrong("the option is given twice"));
             }
             let value = match (known.is_flag, value) {
@@ -82,8 +94,13 @@ impl Arguments {
 
     /// The option's value, which is empty for a flag, if the option is given.
     pub fn value(&self, name: &str) -> Option<&OsStr> {
-        let found = self.options.iter().find(|(option, _)| *option == name);
-        found.map(|(_, value)| value.as_os_str())
+        self.values(name).first().copied()
+    }
+
+    /// Each value of an option that may be given several times, in the order given.
+    pub fn values(&self, name: &str) -> Vec<&OsStr> {
+        let found = self.options.iter().filter(|(option, _)| *option == name);
+        found.map(|(_, value)| value.as_os_str()).collect()
     }
 }
 
@@ -120,6 +137,7 @@ mod tests {
         Known::valued("output", Some('o')),
         Known::valued("from", None),
         Known::flag("budget", Some('b')),
+        Known::repeated("level", Some('l')),
     ];
 
     fn parse(arguments: &[&str]) -> Result<Arguments, Failure> {
@@ -152,6 +170,9 @@ mod tests {
         }
         let from = parse(&["--from", "-5"]).unwrap();
         assert_eq!(from.value("from"), Some(OsStr::new("-5")));
+        let several = parse(&["-l1", "in", "--level", "3", "-t2", "--level=1"]).unwrap();
+        assert_eq!(several.values("level"), ["1", "3", "1"]);
+        assert!(several.values("from").is_empty());
         let empty = parse(&["--output=", ""]).unwrap();
         assert_eq!(empty.value("output"), Some(OsStr::new("")));
         assert_eq!(empty.operands, [""]);

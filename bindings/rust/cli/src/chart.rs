@@ -83,6 +83,24 @@ impl Axis {
         let first = (low - 1).div_euclid(step) + 1;
         (0..count(step)).map(|k| (first + k) * step).collect()
     }
+
+    /// The same as places of the axis, in words.
+    pub fn wholes(&self, most: i64) -> Vec<(f64, String)> {
+        let marks = self.marks(most).into_iter();
+        marks.map(|mark| (mark as f64, mark.to_string())).collect()
+    }
+
+    /// Round numbers on the axis, whole or thousandths, in words.
+    pub fn decimals(&self, most: i64) -> Vec<(f64, String)> {
+        let thousandths = Axis {
+            low: 1_000.0 * self.low,
+            high: 1_000.0 * self.high,
+            ..*self
+        };
+        let marks = thousandths.marks(most).into_iter();
+        let marks = marks.map(|mark| mark as f64 / 1_000.0);
+        marks.map(|mark| (mark, mark.to_string())).collect()
+    }
 }
 
 /// Two axes with words at some heights, and what the heights are.
@@ -96,10 +114,16 @@ pub struct Panel<'a> {
 impl Panel<'_> {
     /// Both axes with the lines of the grid, and the words beside them.
     pub fn scales(&self, svg: &mut String) {
+        let marks = self.x.marks(9).into_iter();
+        self.scales_at(svg, marks.map(|mark| mark as f64));
+    }
+
+    /// The same with upright lines at these places of the axis.
+    pub fn scales_at(&self, svg: &mut String, marks: impl Iterator<Item = f64>) {
         let (top, bottom) = (self.y.to, self.y.from);
         let (mut grid, mut words) = (String::new(), String::new());
-        for mark in self.x.marks(9) {
-            let at = self.x.place(mark as f64);
+        for mark in marks {
+            let at = self.x.place(mark);
             let _ = write!(grid, "M{at:.1} {top}V{bottom}");
         }
         for (mark, text) in &self.marks {
@@ -160,10 +184,16 @@ pub fn begun(title: &str, key: &[(Mark, &str)], bottom: f64) -> String {
 
 /// The words at the marks of the axis and its name, below all panels, and the picture's end.
 pub fn end(svg: &mut String, x: &Axis, bottom: f64, name: &str, words: impl Fn(i64) -> String) {
+    let marks = x.marks(9).into_iter();
+    let marks: Vec<_> = marks.map(|mark| (mark as f64, words(mark))).collect();
+    end_at(svg, x, bottom, name, &marks);
+}
+
+/// The same with these words at these places of the axis.
+pub fn end_at(svg: &mut String, x: &Axis, bottom: f64, name: &str, marks: &[(f64, String)]) {
     *svg += "<g class=\"quiet\" text-anchor=\"middle\">\n";
-    for mark in x.marks(9) {
-        let (at, below) = (x.place(mark as f64), bottom + 18.0);
-        let words = words(mark);
+    for (mark, words) in marks {
+        let (at, below) = (x.place(*mark), bottom + 18.0);
         let _ = writeln!(svg, "<text x=\"{at:.1}\" y=\"{below}\">{words}</text>");
     }
     let (middle, below) = ((LEFT + RIGHT) / 2.0, bottom + 42.0);

@@ -9,7 +9,8 @@ use crate::source::Source;
 use crate::stray::{crosses, lies};
 use crate::text::{self, List, Text};
 use crate::{
-    budget, check, draw, help, measure, near, output, pedestals, probes, report, same, sum, summary,
+    budget, check, draw, help, measure, near, output, pedestals, probes, report, same, scan, sum,
+    summary,
 };
 use kovrelna::{Least, Ratio, Refusal, Side, Tolerance, Verdict, GAP_MAX};
 use std::ffi::{OsStr, OsString};
@@ -29,6 +30,7 @@ pub fn find(name: &str) -> Option<Command> {
         "least" => least,
         "near" => near::near,
         "probes" => probes::probes,
+        "scan" => scan::scan,
         "sum" => sum::sum,
         "summary" => summary::summary,
         "report" => report::report,

@@ -65,7 +65,7 @@ fn stretch(
 }
 
 /// So many samples, in words.
-fn samples(count: usize) -> String {
+pub fn samples(count: usize) -> String {
     format!("{count} sample{}", if count == 1 { "" } else { "s" })
 }
 

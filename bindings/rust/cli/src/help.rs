@@ -18,6 +18,7 @@ Usage: kovrelna COMMAND [OPTION..] [FILE..]
   least     say how near a list of so many samples can come
   near      say how near the lists of walk and gallop are to the shortest
   probes    say how many probes gallop takes
+  scan      say how many samples walk keeps at each of several tolerances
   sum       add two traces, and join what is kept of them
   summary   print a line for each record, and a total
   report    print the sheet of a crate: a line for each channel, and totals
@@ -231,6 +232,37 @@ Usage: kovrelna probes -t TOLERANCE [--gap G] [FILE..]
 After a faulty trace the others are still counted.
 
 Exit status: 0 done, 2 error (also if one trace is faulty).
+";
+
+pub const SCAN: &str = "\
+Scans a trace at 1 to 16 tolerances in one pass: prints, under a heading, a
+line for each in the order given, with the tolerance, how many samples walk
+keeps at it, and the bytes of the record of these. Tolerances may repeat.
+
+Usage: kovrelna scan -t TOLERANCE [-t TOLERANCE].. [--gap G] [--csv] [INPUT]
+       kovrelna scan -t TOLERANCE [-t TOLERANCE].. [--gap G] --draw [-o FILE]
+                     [INPUT]
+
+  -t, --tolerance T   p/q, counts, or noise x multiple: 2/3, 1.5, 3.25x4; up to
+                      16 times
+      --gap G         a link longer than one step crosses no two neighbouring
+                      samples more than G ticks apart; default: no limit
+      --csv           print CSV for a spreadsheet, with two columns for a
+                      tolerance, one for the bound and, if it is given, a last
+                      one for the gap limit
+      --draw          draw the kept numbers by tolerance as SVG instead, with
+                      the bound of each
+  -o, --output FILE   write the picture to FILE instead of standard output (-),
+                      as `kovrelna draw` does
+
+The bound is how many samples minimum keeps at half the tolerance under the
+same gap limit: walk never keeps more. Half of p/q is p over 2q; where no
+denominator so great is allowed, there is no bound, and the picture says so. It
+has each tolerance once, and an axis whose numbers are far apart is
+logarithmic. INPUT is the original trace: samples with a line `# tolerance p/q`
+are refused.
+
+Exit status: 0 done, 2 error.
 ";
 
 pub const SUM: &str = "\

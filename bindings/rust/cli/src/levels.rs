@@ -131,22 +131,10 @@ fn panel<'a>(
     };
     Panel {
         x,
-        marks: marks(&y, ((bottom - top) / 30.0) as i64),
+        marks: y.decimals(((bottom - top) / 30.0) as i64),
         y,
         name,
     }
-}
-
-/// Round numbers on the axis, whole or thousandths, in words.
-fn marks(axis: &Axis, most: i64) -> Vec<(f64, String)> {
-    let thousandths = Axis {
-        low: 1_000.0 * axis.low,
-        high: 1_000.0 * axis.high,
-        ..*axis
-    };
-    let marks = thousandths.marks(most).into_iter();
-    let marks = marks.map(|mark| mark as f64 / 1_000.0);
-    marks.map(|mark| (mark, mark.to_string())).collect()
 }
 
 /// The bands, yesterday's levels, and today's.

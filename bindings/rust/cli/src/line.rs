@@ -3,15 +3,16 @@
 
 use crate::args::{Arguments, Known};
 use crate::failure::{Failure, Status};
-use crate::name::{joined, placed, shown};
+use crate::name::{joined, placed, plain, shown};
 use crate::source::Source;
 use crate::text::{whole, Text};
 use crate::{output, tolerance};
-use kovrelna::{judge, Ratio, Refusal, Tolerance, GAP_MAX};
+use kovrelna::{hold, judge, Ratio, Refusal, Tolerance, GAP_MAX};
 use std::ffi::{OsStr, OsString};
 use std::fmt::Display;
 
 pub const TOLERANCE: Known = Known::valued("tolerance", Some('t'));
+pub const TOLERANCES: Known = Known::repeated("tolerance", Some('t'));
 pub const TOLERANCE2: Known = Known::valued("tolerance2", None);
 pub const GAP: Known = Known::valued("gap", None);
 pub const METHOD: Known = Known::valued("method", Some('m'));
@@ -53,16 +54,16 @@ impl Line {
 
     /// An option's value as text.
     pub fn text(&self, option: Known) -> Result<Option<&str>, Failure> {
-        let Some(value) = self.value(option) else {
-            return Ok(None);
-        };
-        match value.to_str() {
-            Some(text) => Ok(Some(text)),
-            None => {
-                let place = format!("--{}: ", option.name);
-                Err(self.wrong(joined(&[&place, &shown(value), &" is no text"])))
-            }
-        }
+        let value = self.value(option);
+        value.map(|value| self.as_text(option, value)).transpose()
+    }
+
+    /// This value of an option as text.
+    fn as_text<'a>(&self, option: Known, value: &'a OsStr) -> Result<&'a str, Failure> {
+        value.to_str().ok_or_else(|| {
+            let place = format!("--{}: ", option.name);
+            self.wrong(joined(&[&place, &shown(value), &" is no text"]))
+        })
     }
 
     /// An option's value as a tolerance, and the ratio it is held as.
@@ -74,6 +75,19 @@ impl Line {
             Ok(tolerance) => Ok(Some(tolerance)),
             Err(cause) => Err(self.wrong(format!("--{}: {cause}", option.name))),
         }
+    }
+
+    /// Each tolerance of a command that takes several, and the ratio it is held as, in the order given.
+    pub fn tolerances(&self) -> Result<Vec<(Tolerance, Ratio)>, Failure> {
+        let tolerance = |(position, value): (usize, &OsStr)| {
+            let text = self.as_text(TOLERANCES, value)?;
+            tolerance::parse(text).map_err(|cause| {
+                let place = format!("--tolerance {}, at position {position}", plain(text));
+                self.wrong(placed(place, cause))
+            })
+        };
+        let values = self.arguments.values(TOLERANCES.name);
+        values.into_iter().enumerate().map(tolerance).collect()
     }
 
     /// The gap limit, if one is given.
@@ -200,6 +214,28 @@ pub struct Limits {
     pub held: Ratio,
     /// The gap limit, if one is given.
     pub gap: Option<u32>,
+}
+
+impl Limits {
+    /// Half the tolerance under the same gap limit, if half of it is an allowed tolerance.
+    pub fn half(self) -> Option<Limits> {
+        let Ratio { p, q } = half(self.held);
+        let tolerance = Tolerance::Ratio { p, q };
+        let held = hold(tolerance).ok()?;
+        Some(Limits {
+            tolerance,
+            held,
+            ..self
+        })
+    }
+}
+
+/// Half of p/q, which is in lowest terms: p over 2q in lowest terms. It need not be an allowed tolerance.
+pub fn half(Ratio { p, q }: Ratio) -> Ratio {
+    match p % 2 {
+        0 => Ratio { p: p / 2, q },
+        _ => Ratio { p, q: 2 * q },
+    }
 }
 
 impl From<Limits> for kovrelna::Limits {

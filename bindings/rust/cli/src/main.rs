@@ -18,6 +18,7 @@
 //! - `svg`: pictures of a trace.
 //! - `curve`: curves of straight lines in them.
 //! - `levels`: pictures of two pedestal runs.
+//! - `kept`: pictures of kept numbers by tolerance.
 //! - `line`: what the commands share.
 //! - `holes`: holes of a trace.
 //! - `stray`: why a link is invalid, in words.
@@ -26,7 +27,7 @@
 //! - `rounded`: numbers that are rounded in print.
 //! - `budget`: what an error budget may say.
 //! - `commands`: one function for each command.
-//! - `check`, `draw`, `measure`, `near`, `pedestals`, `probes`, `report`, `same`, `sum`, `summary`:
+//! - `check`, `draw`, `measure`, `near`, `pedestals`, `probes`, `report`, `same`, `scan`, `sum`, `summary`:
 //!   commands with a file of their own.
 //!
 //! Which samples are kept, whether a list is within a tolerance and where it strays, what a tolerance is
@@ -48,6 +49,7 @@ mod ending;
 mod failure;
 mod help;
 mod holes;
+mod kept;
 mod levels;
 mod line;
 mod measure;
@@ -62,6 +64,7 @@ mod report;
 mod rounded;
 mod runs;
 mod same;
+mod scan;
 mod source;
 mod stray;
 mod sum;

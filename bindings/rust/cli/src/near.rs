@@ -1,9 +1,9 @@
 //! The command `near`: how near the lists of walk and gallop are to the shortest.
 
 use crate::failure::{Failure, Status};
-use crate::line::{and_gap, Limits, Line, Method, GAP, METHODS, TOLERANCE};
+use crate::line::{and_gap, half, Limits, Line, Method, GAP, METHODS, TOLERANCE};
 use crate::{counts, help, output};
-use kovrelna::{hold, Ratio, Tolerance};
+use kovrelna::Ratio;
 use std::ffi::OsString;
 
 pub fn near(arguments: &[OsString]) -> Result<Status, Failure> {
@@ -13,16 +13,10 @@ pub fn near(arguments: &[OsString]) -> Result<Status, Failure> {
     }
     let limits = line.needed_limits()?;
     let inputs = line.inputs()?;
-    let Ratio { p, q } = half(limits.held);
-    let tolerance = Tolerance::Ratio { p, q };
-    let half = hold(tolerance).ok().map(|held| Limits {
-        tolerance,
-        held,
-        ..limits
-    });
+    let at_half = limits.half();
     output::print(heading(limits))?;
     let [walk, gallop, minimum] = METHODS;
-    let zeros = [Some(0), Some(0), Some(0), Some(0), half.map(|_| 0)];
+    let zeros = [Some(0), Some(0), Some(0), Some(0), at_half.map(|_| 0)];
     let status = counts::print(&inputs, zeros, |text| {
         let kept = |method: Method, limits: Limits| Ok(method.list(text, limits)?.len());
         Ok([
@@ -30,22 +24,15 @@ pub fn near(arguments: &[OsString]) -> Result<Status, Failure> {
             Some(kept(walk, limits)?),
             Some(kept(gallop, limits)?),
             Some(kept(minimum, limits)?),
-            half.map(|half| kept(minimum, half)).transpose()?,
+            at_half.map(|half| kept(minimum, half)).transpose()?,
         ])
     })?;
-    if half.is_none() {
+    if at_half.is_none() {
+        let Ratio { p, q } = half(limits.held);
         let cause = "is no tolerance: its denominator is above 1,048,575";
         output::print(format!("# {p}/{q} {cause}\n"))?;
     }
     Ok(status)
-}
-
-/// Half of p/q, which is in lowest terms: p over 2q in lowest terms. It need not be an allowed tolerance.
-fn half(Ratio { p, q }: Ratio) -> Ratio {
-    match p % 2 {
-        0 => Ratio { p: p / 2, q },
-        _ => Ratio { p, q: 2 * q },
-    }
 }
 
 /// What the columns mean, and their names.

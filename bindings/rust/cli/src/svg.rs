@@ -76,10 +76,9 @@ fn trace_panel<'a>(x: &'a Axis, (low, high): (f64, f64), tolerance: f64) -> Pane
     let (top, bottom) = TRACE;
     // No sample is outside the band.
     let y = Axis::around((low - tolerance, high + tolerance), 0.05, (bottom, top));
-    let marks = y.marks(7).into_iter();
     Panel {
         x,
-        marks: marks.map(|mark| (mark as f64, mark.to_string())).collect(),
+        marks: y.wholes(7),
         y,
         name: "value (ADC counts)",
     }

@@ -14,6 +14,7 @@ pub enum Call {
     Gallop,
     Minimum,
     Least,
+    Scan,
     Sum,
     Expand,
     ExpandWith,
@@ -25,7 +26,7 @@ pub enum Call {
 }
 
 /// Every call.
-pub const CALLS: [Call; 15] = [
+pub const CALLS: [Call; 16] = [
     Call::Hold,
     Call::Measure,
     Call::Judge,
@@ -33,6 +34,7 @@ pub const CALLS: [Call; 15] = [
     Call::Gallop,
     Call::Minimum,
     Call::Least,
+    Call::Scan,
     Call::Sum,
     Call::Expand,
     Call::ExpandWith,
@@ -44,7 +46,7 @@ pub const CALLS: [Call; 15] = [
 ];
 
 /// How many rows the table has.
-pub const ROWS: usize = 18;
+pub const ROWS: usize = 19;
 
 /// How often a call was compared: first with an answer, then with each row of the table.
 pub type Counts = [u64; ROWS + 1];
@@ -59,6 +61,7 @@ impl Call {
             Call::Gallop => "gallop",
             Call::Minimum => "minimum",
             Call::Least => "least",
+            Call::Scan => "scan",
             Call::Sum => "sum",
             Call::Expand => "expand",
             Call::ExpandWith => "expand_with",
@@ -79,6 +82,7 @@ impl Call {
             Call::Judge => &[1, 2, 3, 4, 15, 6],
             Call::Walk | Call::Gallop | Call::Minimum => &[1, 2, 3, 4, 15, 10],
             Call::Least => &[1, 2, 3, 15, 5, 16, 10],
+            Call::Scan => &[1, 2, 3, 19, 4, 15, 10],
             Call::Sum => &[1, 2, 3, 1, 2, 3, 6, 6, 17, 18, 10],
             Call::Expand => &[1, 10],
             Call::ExpandWith => &[1, 12, 10],

@@ -4,17 +4,18 @@
 //! - [`FAMILIES`], [`any`]: every sort, and one drawn from them.
 //! - [`held_tolerances`], [`links_measured`], [`judge_list`], [`codes`], [`codes_with_tables`],
 //!   [`round_trip`], [`random_commands`], [`comparison`], [`random_faults`], [`crates`],
-//!   [`pedestal_runs`], [`traces_summed`]: sorts that the tests run by themselves too.
+//!   [`pedestal_runs`], [`traces_scanned`], [`traces_summed`]: sorts that the tests run by themselves too.
 //! - [`codes_and_room`]: codes, and the entries of their output.
 
 use crate::compare::{
     exactly, expand, expand_with, form, hold, judge, least, measure, noise, pedestals, ratio, read,
-    reduce, report, same, write,
+    reduce, report, same, scan, write,
 };
 use crate::measures::{self, judged};
 use crate::reductions::{
     any_tolerance, least_list, lists, shortest_lists, size_bounds, tolerances,
 };
+use crate::scans::{after_sample, scanned};
 use crate::sums::added;
 use kovrelna::Tolerance::{self, Counts};
 use kovrelna::GAP_MAX;
@@ -37,7 +38,7 @@ pub struct Family {
 }
 
 /// Every sort.
-pub const FAMILIES: [Family; 24] = [
+pub const FAMILIES: [Family; 26] = [
     Family {
         name: "tolerances",
         weight: 40,
@@ -91,6 +92,16 @@ pub const FAMILIES: [Family; 24] = [
         name: "least errors of the longest traces",
         weight: 1,
         case: |random| least_error(256, random),
+    },
+    Family {
+        name: "traces scanned",
+        weight: 100,
+        case: |random| traces_scanned(40, random),
+    },
+    Family {
+        name: "longest traces scanned",
+        weight: 1,
+        case: longest_scanned,
     },
     Family {
         name: "traces summed",
@@ -495,17 +506,18 @@ pub fn comparison(random: &mut Random) {
     same(&record, &encode(&other)).unwrap();
 }
 
-/// A trace, a list, a tolerance, a gap limit and an output with none, one or two faults, and two samples that
+/// A trace, a list, tolerances, a gap limit and an output with none, one or two faults, and two samples that
 /// may be none of the trace, for every call that takes a trace.
 pub fn random_faults(random: &mut Random) {
     let samples = random.within(1, 12) as usize;
     let (Trace { mut ticks, values }, mut gap) = any_limited(samples, random);
     let mut list = any_list(&ticks, gap, random);
     let mut tolerance = ratio(random.below(10), 1);
+    let mut count = random.within(1, 16) as usize;
     let at = random.below(samples as u64) as usize;
     let mut room = samples + random.below(3) as usize;
     for _ in 0..random.below(3) {
-        match random.below(8) {
+        match random.below(9) {
             0 => drop(ticks.pop()),
             1 => ticks.push(u32::MAX),
             2 => ticks[..=at].rotate_right(1),
@@ -513,6 +525,7 @@ pub fn random_faults(random: &mut Random) {
             4 => list = damaged(&list, samples, random),
             5 => room = at,
             6 => gap = no_gap(random),
+            7 => count = random.choose(&[0, 17, 18]),
             _ => tolerance = no_tolerance(random),
         }
         if ticks.len() != samples {
@@ -530,6 +543,12 @@ pub fn random_faults(random: &mut Random) {
     let _ = write(&ticks, &values, &list, limits, 6 * room + 13, at);
     let allowance = random.choose(&[2, 3, 4, 1, 0, 4_097]);
     let _ = least(&ticks, &values, gap, allowance, room);
+    let mut tolerances = vec![ratio(1, 1); count];
+    tolerances
+        .iter_mut()
+        .skip(at)
+        .for_each(|entry| *entry = tolerance);
+    let _ = scan(&ticks, &values, &tolerances, gap, count * room);
 }
 
 /// A crate of so many channels at most, of traces of up to so many samples, with none, one or two faults
@@ -558,6 +577,63 @@ pub fn crates(most: i64, samples: usize, random: &mut Random) {
     let _ = report(&channels, tolerance.with_gap(gap), room);
 }
 
+/// So many tolerances for a scan of this trace, of every form and in any order, some of them equal.
+fn scan_tolerances(trace: &Trace, count: usize, random: &mut Random) -> Vec<Tolerance> {
+    let pool: Vec<Tolerance> = (0..4).flat_map(|_| tolerances(trace, random)).collect();
+    (0..count).map(|_| random.choose(&pool)).collect()
+}
+
+/// A trace of up to so many samples, scanned at 1 to 16 tolerances: the whole trace, and what has been kept
+/// after a sample. Half of them may have up to three faults that the call refuses: in the trace, the number
+/// of tolerances, some of the tolerances, the gap limit or the output.
+pub fn traces_scanned(most: i64, random: &mut Random) {
+    let any = random.within(1, most) as usize;
+    let samples = random.choose(&[any, any, any, most as usize]);
+    let (mut trace, mut gap) = any_limited(samples, random);
+    let any = random.within(1, 16) as usize;
+    let count = random.choose(&[1, any, any, 16]);
+    let mut tolerances = scan_tolerances(&trace, count, random);
+    let mut room = count * samples + random.choose(&[0, 0, 1, 7]);
+    let faulty = random.below(2);
+    for _ in 0..faulty * random.below(4) {
+        match random.below(9) {
+            0 | 1 => damage_trace(&mut trace, random),
+            2 => tolerances.clear(),
+            3 => tolerances.resize(random.choose(&[17, 18]), ratio(1, 1)),
+            4 | 5 if !tolerances.is_empty() => {
+                let at = random.below(tolerances.len() as u64) as usize;
+                tolerances[at] = no_tolerance(random);
+            }
+            6 => gap = no_gap(random),
+            _ => {
+                let any = random.below((count * samples) as u64) as usize;
+                room = random.choose(&[any, count * samples - 1]);
+            }
+        }
+    }
+    if let Ok(lists) = scanned(&trace, &tolerances, gap, room) {
+        if samples > 1 {
+            let j = random.within(1, samples as i64 - 1) as usize;
+            after_sample(&trace, &tolerances, gap, &lists, j);
+        }
+    }
+}
+
+fn longest_scanned(random: &mut Random) {
+    let any = random.within(1_000, 4_096) as usize;
+    let samples = random.choose(&[any, 4_095, 4_096]);
+    let (trace, gap) = any_limited(samples, random);
+    let count = random.choose(&[2, 3, 16]);
+    let tolerances = scan_tolerances(&trace, count, random);
+    let _ = scan(
+        &trace.ticks,
+        &trace.values,
+        &tolerances,
+        gap,
+        count * samples,
+    );
+}
+
 /// Two traces of up to so many samples with kept lists, added. Half of them may have up to three faults that
 /// the call refuses: in either trace or list, in their ticks side by side, in a sum or in the outputs.
 pub fn traces_summed(most: i64, random: &mut Random) {
@@ -583,7 +659,7 @@ pub fn traces_summed(most: i64, random: &mut Random) {
 
 /// A tolerance that is not allowed.
 fn no_tolerance(random: &mut Random) -> Tolerance {
-    random.choose(&[ratio(1, 0), noise(0.0, -1.0)])
+    random.choose(&[ratio(1, 0), Counts(0.01), noise(0.0, -1.0)])
 }
 
 /// A gap limit that is not allowed.

@@ -10,6 +10,7 @@ use kovrelna_reference::generate::Channels;
 use kovrelna_reference::pedestals::{self, Pedestals};
 use kovrelna_reference::record::{self, Content};
 use kovrelna_reference::report::{self, Report};
+use kovrelna_reference::scans;
 use kovrelna_reference::sums::{self, Sum, Summand};
 use kovrelna_reference::{Form, Fraction, Invalid, Least, Measure, Method, Reduced, Row, Side};
 use std::hint::black_box;
@@ -281,6 +282,50 @@ pub fn least(
         assert!(
             ticks.as_expected() && values.as_expected() && out.as_expected(),
             "the list is wrong, or another element was changed: {:?}\n{}",
+            out.slice(),
+            input()
+        );
+    }
+    expected
+}
+
+/// Calls `scan` with an output of `room` entries between two kinds of guard elements, compares with the
+/// reference, sees that each part of the output begins with its list and that no other element changed, and
+/// returns the lists or the refusal's row.
+pub fn scan(
+    ticks: &[u32],
+    values: &[i16],
+    tolerances: &[Tolerance],
+    gap: u32,
+    room: usize,
+) -> Result<Vec<Vec<u16>>, Row> {
+    let forms: Vec<Form> = tolerances.iter().copied().map(form).collect();
+    let expected = scans::scan(ticks, values, &forms, self::gap(gap), room);
+    Call::Scan.count(&expected);
+    for guards in GUARDS {
+        let ticks = Guarded::new(ticks, guards.0);
+        let values = Guarded::new(values, guards.1);
+        let mut out = output(room, guards.2);
+        let (t, v) = (ticks.slice(), values.slice());
+        let answer = kovrelna::scan(t, v, tolerances, gap, out.slice_mut());
+        let input = || {
+            format!("scan under {gap} of ticks, values: {t:?} {v:?}\n{tolerances:?} room {room}")
+        };
+        let known = match &expected {
+            Ok(lists) => {
+                let mut kept = [0; scans::TOLERANCES];
+                for (position, list) in lists.iter().enumerate() {
+                    kept[position] = list.len();
+                    out.expect(position * t.len(), list);
+                }
+                Ok(kept)
+            }
+            Err(row) => Err(*row),
+        };
+        assert_eq!(answer.map_err(row), known, "{}", input());
+        assert!(
+            ticks.as_expected() && values.as_expected() && out.as_expected(),
+            "a list is wrong, or another element was changed: {:?}\n{}",
             out.slice(),
             input()
         );

@@ -5,6 +5,7 @@
 //! - [`compare`]: each call, compared with the reference.
 //! - [`measures`]: what holds of the measures of links, and of judge's no.
 //! - [`reductions`]: what holds of the lists of the reductions.
+//! - [`scans`]: what holds of scans.
 //! - [`sums`]: what holds of sums.
 //! - [`cases`]: random cases of every sort.
 //! - [`run`]: many cases from one seed.
@@ -16,4 +17,5 @@ pub mod compare;
 pub mod measures;
 pub mod reductions;
 pub mod run;
+pub mod scans;
 pub mod sums;

@@ -19,6 +19,7 @@
 //! - [`record`]: range codes and records.
 //! - [`report`]: the report on a crate.
 //! - [`pedestals`]: two pedestal runs of a crate, compared.
+//! - [`scans`]: the scan of a trace at several tolerances.
 //! - [`sums`]: two traces with kept lists, added.
 //! - [`generate`]: repeatable random traces, lists, range tables, contents of records, crates, pedestal
 //!   runs and traces to be added.
@@ -27,6 +28,7 @@ pub mod generate;
 pub mod pedestals;
 pub mod record;
 pub mod report;
+pub mod scans;
 pub mod sums;
 
 use std::cmp::Reverse;

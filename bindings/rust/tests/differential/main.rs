@@ -7,6 +7,7 @@
 //! - `judge`: lists on random and adversarial traces.
 //! - `reduce`: walk, gallop and minimum on random and adversarial traces.
 //! - `least`: least errors on random and adversarial traces.
+//! - `scans`: scans at several tolerances.
 //! - `sums`: traces with kept lists, added.
 //! - `gaps`: gap limits, on traces with holes in every place.
 //! - `codes`: range codes, with their own values and with those of a table.
@@ -26,6 +27,7 @@ mod records;
 mod reduce;
 mod refusals;
 mod report;
+mod scans;
 mod sums;
 
 use kovrelna_reference::generate::Trace;

@@ -7,7 +7,7 @@ use kovrelna_evidence::calls::CALLS;
 use kovrelna_evidence::cases::random_faults;
 use kovrelna_evidence::compare::{
     expand, expand_with, hold, judge, least, measure, noise, pedestals, ratio, read, reduce,
-    report, same, sum, write,
+    report, same, scan, sum, write,
 };
 use kovrelna_reference::generate::{crate_of, Channels, Random, Trace};
 use kovrelna_reference::record::{end, first, short, tolerance};
@@ -25,6 +25,9 @@ struct Input {
     tolerance: Tolerance,
     gap: u32,
     allowance: u64,
+    /// The tolerances of a scan, and the entries of its output.
+    tolerances: Vec<Tolerance>,
+    scan_room: usize,
     /// Two traces to be added.
     summands: [Summand; 2],
     codes: Vec<u8>,
@@ -45,8 +48,8 @@ struct Input {
 }
 
 /// Eight samples, codes or channels, and outputs with exactly enough room: no call refuses it. The least
-/// gap limit leaves no hole. The channels of the two runs have three samples each, and the ticks of the two
-/// traces to be added rise by two.
+/// gap limit leaves no hole. There are three tolerances to scan at. The channels of the two runs have three
+/// samples each, and the ticks of the two traces to be added rise by two.
 fn accepted() -> Input {
     let run = Channels {
         ticks: (0..24).collect(),
@@ -71,6 +74,8 @@ fn accepted() -> Input {
         tolerance: ratio(0, 1),
         gap: 1,
         allowance: 2,
+        tolerances: vec![ratio(0, 1); 3],
+        scan_room: 24,
         summands: [summand.clone(), summand],
         codes: vec![9; 8],
         table: (-100..156).collect(),
@@ -110,6 +115,12 @@ fn refused(call: Call, input: &Input) -> Option<Row> {
         Gallop => reduced(Method::Gallop),
         Minimum => reduced(Method::Minimum),
         Least => least(ticks, values, input.gap, input.allowance, room).err(),
+        Scan => {
+            let Input {
+                tolerances, gap, ..
+            } = input;
+            scan(ticks, values, tolerances, *gap, input.scan_room).err()
+        }
         Sum => {
             let [first, second] = &input.summands;
             sum(first, second, input.rooms).err()
@@ -136,10 +147,10 @@ fn refused(call: Call, input: &Input) -> Option<Row> {
 
 /// The calls that take a trace, one of any number of samples from 1 to 4,096, a tolerance, a gap limit, a
 /// list, codes; those with an output of an entry for each sample, code or channel, and with two of them.
-const TRACES: &[Call] = &[Measure, Judge, Walk, Gallop, Minimum, Least, Write];
-const LONG_TRACES: &[Call] = &[Judge, Walk, Gallop, Minimum, Write];
+const TRACES: &[Call] = &[Measure, Judge, Walk, Gallop, Minimum, Least, Scan, Write];
+const LONG_TRACES: &[Call] = &[Judge, Walk, Gallop, Minimum, Scan, Write];
 const TOLERANCES: &[Call] = &[Hold, Judge, Walk, Gallop, Minimum, Write, Report, Pedestals];
-const GAPS: &[Call] = &[Judge, Walk, Gallop, Minimum, Least, Write, Report];
+const GAPS: &[Call] = &[Judge, Walk, Gallop, Minimum, Least, Scan, Write, Report];
 const LISTS: &[Call] = &[Judge, Write];
 const CODES: &[Call] = &[Expand, ExpandWith];
 const OUTPUTS: &[Call] = &[
@@ -170,9 +181,13 @@ const FAULTS: &[Fault] = &[
             .iter_mut()
             .for_each(|tick| *tick += 1_048_576)
     }),
+    (&[Scan], (19, 0), |input| {
+        input.tolerances.resize(17, ratio(0, 1))
+    }),
     (TOLERANCES, (4, 0), |input| {
         input.tolerance = Tolerance::Counts(f64::NAN)
     }),
+    (&[Scan], (4, 2), |input| input.tolerances[2] = ratio(0, 0)),
     (GAPS, (15, 0), |input| input.gap = 0),
     // The channels of pedestals' own rows are 1, 2, 3 and 4.
     (&[Pedestals], (1, 1), |input| {
@@ -233,6 +248,7 @@ const FAULTS: &[Fault] = &[
     (&[Read, Same], (8, 16), |input| input.record.truncate(18)),
     (&[Same], (9, 19), |input| input.second.truncate(20)),
     (OUTPUTS, (10, 8), |input| input.rooms.0 = 7),
+    (&[Scan], (10, 24), |input| input.scan_room = 23),
     (&[Write], (10, 22), |input| input.size = 21),
 ];
 
@@ -296,6 +312,7 @@ fn limits() {
         lengths(),
         tables(),
         ticks(),
+        counts(),
         tolerances(),
         gaps(),
         allowances(),
@@ -353,6 +370,7 @@ fn lengths() -> Vec<Entry> {
                 link: (0, samples.saturating_sub(1)),
                 list: list.clone(),
                 rooms: (samples, samples),
+                scan_room: 3 * samples,
                 size: 100,
                 ..accepted()
             };
@@ -380,7 +398,9 @@ fn lengths() -> Vec<Entry> {
                     list: Vec::new(),
                     tolerance: ratio(0, 0),
                     gap: 0,
+                    tolerances: Vec::new(),
                     rooms: (0, 0),
+                    scan_room: 0,
                     size: 0,
                     ..input
                 };
@@ -524,6 +544,35 @@ fn ticks() -> Vec<Entry> {
     entries
 }
 
+/// Numbers of tolerances for a scan, with an output for each or none.
+fn counts() -> Vec<Entry> {
+    let mut entries: Vec<Entry> = Vec::new();
+    for count in [0, 1, 2, 8, 15, 16, 17, 18, 32, 256, 257, 65_537] {
+        let row = (!(1..=16).contains(&count)).then_some((19, 0));
+        let input = Input {
+            tolerances: vec![ratio(0, 1); count],
+            scan_room: 8 * count,
+            ..accepted()
+        };
+        entries.push((&[Scan], input.clone(), row));
+        let short = Input {
+            scan_room: input.scan_room.saturating_sub(1),
+            ..input.clone()
+        };
+        let needed = (10, 8 * count as u64);
+        entries.push((&[Scan], short, row.or(Some(needed))));
+        // Later rows fail too: every tolerance, the gap limit and the room.
+        let input = Input {
+            tolerances: vec![ratio(0, 0); count],
+            gap: 0,
+            scan_room: 0,
+            ..input
+        };
+        entries.push((&[Scan], input, row.or(Some((4, 0)))));
+    }
+    entries
+}
+
 fn tolerances() -> Vec<Entry> {
     let cases = [
         (ratio(0, 1), true),
@@ -548,7 +597,27 @@ fn tolerances() -> Vec<Entry> {
         };
         (TOLERANCES, input, (!allowed).then_some((4, 0)))
     };
-    cases.map(entry).to_vec()
+    let mut entries = cases.map(entry).to_vec();
+    // Every position of a scan; the first of several, with later rows that fail too.
+    for (tolerance, allowed) in cases {
+        for position in 0..16 {
+            let row = (!allowed).then_some((4, position as u64));
+            let mut input = Input {
+                tolerances: vec![ratio(0, 1); 16],
+                scan_room: 16 * 8,
+                ..accepted()
+            };
+            input.tolerances[position] = tolerance;
+            entries.push((&[Scan], input.clone(), row));
+            if !allowed {
+                input.tolerances[position..].fill(tolerance);
+                input.gap = 0;
+                input.scan_room = 0;
+                entries.push((&[Scan], input, row));
+            }
+        }
+    }
+    entries
 }
 
 fn gaps() -> Vec<Entry> {
@@ -572,6 +641,7 @@ fn gaps() -> Vec<Entry> {
             let mut input = Input {
                 allowance: 0,
                 rooms: (0, 0),
+                scan_room: 0,
                 size: 0,
                 ..input
             };
@@ -1277,6 +1347,13 @@ fn rooms() -> Vec<Entry> {
         };
         (&[Write], input, (!enough).then_some((10, 22)))
     };
+    let scans = |scan_room, enough: bool| -> Entry {
+        let input = Input {
+            scan_room,
+            ..accepted()
+        };
+        (&[Scan], input, (!enough).then_some((10, 24)))
+    };
     vec![
         rooms(OUTPUTS, (8, 8), true),
         rooms(OUTPUTS, (9, 8), true),
@@ -1291,6 +1368,13 @@ fn rooms() -> Vec<Entry> {
         // A place past the end counts as an empty part.
         places(22, 23, false),
         places(22, usize::MAX, false),
+        scans(24, true),
+        scans(25, true),
+        scans(32, true),
+        scans(23, false),
+        scans(16, false),
+        scans(8, false),
+        scans(0, false),
     ]
 }
 
@@ -1302,7 +1386,10 @@ fn numbers() {
         (Refusal::Length, 1, 0),
         (Refusal::Tick(21), 2, 21),
         (Refusal::Span(31), 3, 31),
+        (Refusal::Count, 19, 0),
         (Refusal::Tolerance, 4, 0),
+        (Refusal::ToleranceAt(0), 4, 0),
+        (Refusal::ToleranceAt(15), 4, 15),
         (Refusal::Gap, 15, 0),
         (Refusal::Allowance, 5, 0),
         (Refusal::Holes, 16, 0),
@@ -1331,6 +1418,8 @@ fn numbers() {
         );
     }
     for (refusal, part) in [
+        (Refusal::Count, "no tolerances, or more than 16"),
+        (Refusal::ToleranceAt(3), "the tolerance at position 3"),
         (Refusal::Gap, "the gap limit is below 1 or above 1,048,575"),
         (
             Refusal::Holes,

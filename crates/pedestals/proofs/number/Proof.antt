@@ -16,7 +16,7 @@ number-requires-2 : tie.Need-number-requires-2
 number-requires-2 c κs = search needs
 
 returns : tie.Need-returns
-returns c = search needs
+returns c = rw (c .before .before .x .given .1, c .number .ensures)
 
 returns-2 : tie.Need-returns-2
 returns-2 c = rw (c .before .before .x2 .given .1, c .number2 .ensures)

@@ -13,7 +13,7 @@ enum-known-x-2 : tie.Need-enum-known-x-2
 enum-known-x-2 c = search needs
 
 returns : tie.Need-returns
-returns c = search needs
+returns c = rw (c .before .before .x .given .1, c .returned .ensures)
 
 returns-2 : tie.Need-returns-2
 returns-2 c = rw (c .before .x2 .given .1)

@@ -8,13 +8,14 @@ use std::fs;
 const HOLE: &str = "0,0\n1,0\n2,0\n10,0\n11,0\n12,0\n";
 
 /// The commands with a gap limit, each with what else it needs to be asked about standard input.
-const LIMITED: [&[&str]; 9] = [
+const LIMITED: [&[&str]; 10] = [
     &["record", "-t0"],
     &["judge", "-t0", "-l0,5"],
     &["check", "missing", "-"],
     &["least", "-a2"],
     &["near", "-t0"],
     &["probes", "-t0"],
+    &["scan", "-t0"],
     &["sum", "-t0", "-", "missing"],
     &["report", "-t0"],
     &["draw", "-t0"],
@@ -378,6 +379,8 @@ fn no_limit() {
         &["near", "-t8", pulse],
         &["probes", "-t8", pulse],
         &["least", "-a12", pulse],
+        &["scan", "-t8", "-t2", pulse],
+        &["scan", "-t8", "-t2", "--draw", pulse],
         &["sum", "-t8", pulse, pulse],
         &["report", "-t8", pulse],
         &["draw", "-t8", pulse],

@@ -12,6 +12,7 @@
 //! - `probes`: gallop's probes.
 //! - `report`: the sheet of a crate.
 //! - `same`: whether two records are the same.
+//! - `scan`: scans at several tolerances.
 //! - `signals`: runs that are ended while they write a file.
 //! - `sum`: two traces added.
 
@@ -27,6 +28,7 @@ mod pedestals;
 mod probes;
 mod report;
 mod same;
+mod scan;
 mod signals;
 mod sum;
 
@@ -346,7 +348,7 @@ fn places_of_errors() {
         (long.as_bytes(), ":4097: too many samples"),
     ] {
         fs::write(&file, text).unwrap();
-        for command in ["record", "draw", "judge", "measure", "sum"] {
+        for command in ["record", "draw", "judge", "measure", "scan", "sum"] {
             let arguments = match command {
                 "judge" => vec![command, "-t1", "-l0", path(&file)],
                 "measure" => vec![command, path(&file), "0", "1"],
@@ -395,6 +397,7 @@ fn the_other_kind() {
         &["judge", "-t1", "-l0"],
         &["measure", "0", "1"],
         &["least", "-a2"],
+        &["scan", "-t1"],
         &["sum", "-t1", "-", "missing"],
     ] {
         fails(
@@ -437,6 +440,7 @@ fn noise() {
             &["measure", "0", "1"],
             &["pedestals", "-t1", "-k1", "-", path(&pulse)],
             &["pedestals", "-t1", "-k1", path(&pulse), "-"],
+            &["scan", "-t1", "-t2"],
             &["sum", "-t1", "-", path(&pulse)],
             &["sum", "-t1", path(&pulse), "-"],
         ] {
@@ -526,6 +530,7 @@ fn help() {
         "least",
         "near",
         "probes",
+        "scan",
         "sum",
         "summary",
         "report",
@@ -568,6 +573,9 @@ fn full_output() {
         &["pedestals", "-t1", "-k1", pulse, pulse],
         &["pedestals", "-t1", "-k1", "--csv", pulse, pulse],
         &["pedestals", "-t1", "-k1", "--draw", pulse, pulse],
+        &["scan", "-t1"],
+        &["scan", "-t1", "--csv"],
+        &["scan", "-t1", "--draw"],
         &["sum", "-t1", pulse, pulse],
         &["--help"],
         &["record", "-t1", "-o", "/dev/full"],

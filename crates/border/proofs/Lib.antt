@@ -1,0 +1,2 @@
+-- Laws of the definitions of the crate `border`.
+pub mod ToleranceLaws
