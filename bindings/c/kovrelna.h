@@ -27,8 +27,8 @@
  * - Any content is allowed: what does not fit is refused with a number, as listed below.
  * - Nothing is allocated and nothing is kept after the call returns. There is no global state: calls
  *   may run at the same time on any threads.
- * - kovrelna_minimum, kovrelna_least and kovrelna_report take up to 18 KiB of stack, every other
- *   call under 1 KiB.
+ * - kovrelna_minimum, kovrelna_least and kovrelna_report take up to 18 KiB of stack, kovrelna_scan
+ *   up to 4 KiB, every other call under 1 KiB.
  */
 #ifndef KOVRELNA_H
 #define KOVRELNA_H

@@ -45,8 +45,8 @@ otherwise an array.array. Of a lent output only the entries used change, and the
 of these. It overlaps no other list; one that does raises ValueError.
 
 A call may run at the same time as others on any threads. Nothing else may write to a lent list
-before the call returns. minimum, least and report take up to 18 KiB of stack, every other call under
-1 KiB.
+before the call returns. minimum, least and report take up to 18 KiB of stack, scan up to 4 KiB, every
+other call under 1 KiB.
 
 >>> ticks, values = [0, 1, 3], [0, 1, 1]
 >>> kept = walk(ticks, values, Ratio(4, 6))

@@ -30,7 +30,8 @@
 //! neighbouring entries and are counted from 0.
 //!
 //! Every call accepts every input, allocates nothing and may run at the same time on any threads.
-//! [`minimum`], [`least`] and [`report`] take up to 18 KiB of stack, every other call under 1 KiB.
+//! [`minimum`], [`least`] and [`report`] take up to 18 KiB of stack, [`scan`] up to 4 KiB, every other call
+//! under 1 KiB.
 //!
 //! ```
 //! use kovrelna::{judge, walk, Refusal, Tolerance, Verdict};
