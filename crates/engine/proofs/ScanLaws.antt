@@ -1,15 +1,15 @@
 -- Laws of `scan`: where the checks pass the pass may run, and what it wrote is what the separate calls promise.
 -- Assumes nothing.
-use mathlib.Core.Path.{_≡_, sym, ap, subst, _∙_}
+use mathlib.Core.Path.{_≡_, sym, _∙_}
 use mathlib.Core.List.{List}
-use Prim.Native.Nat.{ℕ, _≤_, _<_}
+use Prim.Native.Nat.{ℕ, _<_}
 use native.Mathlib.Omega.{arith}
 use lib.IntN.{ℤ}
 use lib.ListN.{length, getD, take}
 use lib.Seq.{getD-take, length-take-le}
 use Rattle.lists.specs.Overwrite.{Wrote}
 use Rattle.refusal.specs.declared.Checked.the-variants.{Fine}
-use Rattle.limits.specs.Prepare.{criterionOf, OutputReady}
+use Rattle.limits.specs.Prepare.{criterionOf}
 use Rattle.limits.proofs.PrepareLaws.{sets-ready, room-fine}
 use Rattle.trace.specs.declared.Criterion.{Criterion}
 use Rattle.trace.specs.Link.{limited}
@@ -17,7 +17,7 @@ use Rattle.tolerances.specs.declared.Tolerances.{Tolerances}
 use Rattle.tolerances.specs.Tolerances.{limitsAt, scanRows, ratioAt, ScanReady}
 use Rattle.tolerances.proofs.TolerancesLaws.{several-sets}
 use Rattle.reduction.specs.Walking.{walkList}
-use Rattle.scans.specs.Held.{part}
+use Rattle.scans.specs.Answers.{part}
 use Rattle.scans.specs.Scan.{criterionAt, Given, Scanned}
 use Rattle.scans.proofs.PassLaws.{part-length}
 use Rattle.scans.proofs.StreamLaws.{kept-streams}

@@ -15,8 +15,7 @@ use Rattle.limits.specs.Prepare.{criterionOf}
 use Rattle.tolerances.specs.declared.Tolerances.{Tolerances}
 use Rattle.tolerances.specs.Tolerances.{limitsAt, scanRows}
 use Rattle.reduction.specs.Walking.{walkList}
-use Rattle.scans.specs.Held.{part}
-use Rattle.scans.specs.Scan.{keptBefore}
+use Rattle.scans.specs.Answers.{part, keptBefore}
 use Rattle.engine.specs.declared.Scanned.{Scanned}
 use Rattle.engine.specs.Reduce.{okOf, WalkKept}
 

@@ -9,7 +9,6 @@ use lib.IntN.{ℤ, pos, negsuc}
 use lib.ListN.{replicate}
 use Rattle.lists.specs.First.{first, firstOf}
 use Rattle.refusal.specs.declared.Refusal.the-variants.{Length, Tick, Span, Tolerance, Gap, Room, Count}
-use Rattle.refusal.specs.declared.Checked.{Checked}
 use Rattle.refusal.specs.declared.Checked.the-variants.{Fine, Refused}
 use Rattle.refusal.specs.Table.{numberOf, returnedOf}
 use Rattle.ratio.specs.Gcd.{gcd, euclid}
@@ -23,7 +22,7 @@ use Rattle.tolerances.specs.declared.Entry.{Entry}
 use Rattle.tolerances.specs.declared.Tolerances.{Tolerances}
 use Rattle.tolerances.specs.Tolerances.{limitsAt, badAt, severalRows, scanRows}
 use Rattle.reduction.specs.Walking.{walkList}
-use Rattle.scans.specs.Scan.{keptBefore}
+use Rattle.scans.specs.Answers.{keptBefore}
 
 abbrev five : List ℕ
 five = 0 ∷ 1 ∷ 2 ∷ 3 ∷ 4 ∷ []
@@ -123,9 +122,9 @@ behind-the-last : scanRows five wave (record { count = 1; list = bad .list }) 1 
 unfolding scanRows severalRows traceRows badAt first firstOf gcd euclid
 behind-the-last = refl
 
-gap-before-room : scanRows five wave three 0 0 ≡ Refused Gap
+scan-gap-before-room : scanRows five wave three 0 0 ≡ Refused Gap
 unfolding scanRows severalRows traceRows badAt first firstOf gcd euclid
-gap-before-room = refl
+scan-gap-before-room = refl
 
 room-for-each : scanRows five wave three 1 14 ≡ Refused (Room 15)
 unfolding scanRows severalRows traceRows badAt first firstOf gcd euclid

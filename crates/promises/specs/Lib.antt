@@ -5,3 +5,4 @@ pub mod Probes
 pub mod Pedestals
 pub mod Dropouts
 pub mod Sums
+pub mod Scans

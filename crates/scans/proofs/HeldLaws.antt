@@ -22,7 +22,8 @@ use Rattle.trace.specs.Cone.{coneFrom, admitsEdge, steeperOf, flatterOf, extend
 use Rattle.trace.proofs.EdgeLaws.{edge-slope}
 use Rattle.scans.specs.declared.Sample.{Sample}
 use Rattle.scans.specs.Sample.{edgeFrom, Ahead, edgeIn, Put}
-use Rattle.scans.specs.Held.{Held, goesOn, further, anew, stepped, Numbers, numbers, Sized, part, Inside, coneIn, heldIn}
+use Rattle.scans.specs.Answers.{part}
+use Rattle.scans.specs.Held.{Held, goesOn, further, anew, stepped, Numbers, numbers, Sized, Inside, coneIn, heldIn}
 use Rattle.scans.specs.Scan.{KeptAt, Restarted, Turning, Became}
 use Rattle.scans.proofs.SampleLaws.{offset-climb, put-as}
 
@@ -66,22 +67,22 @@ edge-same : {x x′ y y′ : ℕ} {z z′ : ℤ} → x ≡ x′ → y ≡ y′ �
 edge-same e f g = rw (e, f, g)
 
 module _ {climbs climbs′ : List ℤ} {runs runs′ : List ℕ} {b : ℕ} {e : Edge} (h : Put climbs runs b e climbs′ runs′) where
-  pub put-here : b < length climbs → b < length runs → Slope e → edgeIn climbs′ runs′ b ≡ e
+  put-here : b < length climbs → b < length runs → Slope e → edgeIn climbs′ runs′ b ≡ e
   put-here lc lr s =
       let z : getD climbs′ b (pos 0) ≡ e .climb = ap (λ (l : List ℤ). getD l b (pos 0)) (h .climb) ∙ getD-set-same climbs b (e .climb) (pos 0) lc in
       let y : getD runs′ b 0 ≡ e .run = ap (λ (l : List ℕ). getD l b 0) (h .run) ∙ getD-set-same runs b (e .run) 0 lr in
       edge-same (ap (offset middle) (z ∙ s .climb) ∙ offset-climb (e .rise)) y z
 
-  pub put-there : (a : ℕ) → a ≢ b → edgeIn climbs′ runs′ a ≡ edgeIn climbs runs a
+  put-there : (a : ℕ) → a ≢ b → edgeIn climbs′ runs′ a ≡ edgeIn climbs runs a
   put-there a ne =
       let z : getD climbs′ a (pos 0) ≡ getD climbs a (pos 0) = ap (λ (l : List ℤ). getD l a (pos 0)) (h .climb) ∙ getD-set-other climbs b a (e .climb) (pos 0) ne in
       let y : getD runs′ a 0 ≡ getD runs a 0 = ap (λ (l : List ℕ). getD l a 0) (h .run) ∙ getD-set-other runs b a (e .run) 0 ne in
       edge-same (ap (offset middle) z) y z
 
-  pub put-climbs : length climbs′ ≡ length climbs
+  put-climbs : length climbs′ ≡ length climbs
   put-climbs = ap length (h .climb) ∙ length-set climbs b (e .climb)
 
-  pub put-runs : length runs′ ≡ length runs
+  put-runs : length runs′ ≡ length runs
   put-runs = ap length (h .run) ∙ length-set runs b (e .run)
 
 module _ (l : List ℕ) (b v : ℕ) {l′ : List ℕ} (h : l′ ≡ set l b v) where
@@ -97,13 +98,13 @@ module _ (l : List ℕ) (b v : ℕ) {l′ : List ℕ} (h : l′ ≡ set l b v) w
 -- ---- parts of the output
 
 module _ (n b k : ℕ) (o : List ℕ) (v : ℕ) (h : k < n) where
-  pub part-here : part n b (set o (b * n + k) v) ≡ set (part n b o) k v
+  part-here : part n b (set o (b * n + k) v) ≡ set (part n b o) k v
   part-here = ap (take n) (drop-set-add (b * n) o k v) ∙ take-set-lt n (drop (b * n) o) k v h
 
-  pub drop-there : (m : ℕ) → b < m → drop (m * n) (set o (b * n + k) v) ≡ drop (m * n) o
+  drop-there : (m : ℕ) → b < m → drop (m * n) (set o (b * n + k) v) ≡ drop (m * n) o
   drop-there m lt = drop-set-lt (m * n) o (b * n + k) v (omega (arith, mul-le-mul-right n lt))
 
-  pub part-there : (a : ℕ) → a ≢ b → part n a (set o (b * n + k) v) ≡ part n a o
+  part-there : (a : ℕ) → a ≢ b → part n a (set o (b * n + k) v) ≡ part n a o
   part-there a ne = elim (decLt a b) [
     | yes q ↦ let m : a * n + n ≤ b * n = omega (arith, mul-le-mul-right n q) in
         let e : b * n + k ≡ a * n + (b * n + k - a * n) = omega arith in
@@ -158,7 +159,7 @@ module _ (n b : ℕ) (s : Numbers) (out : List ℕ) (few : b < 16) (z : Sized s)
     beyond = beyond;
   }
 
-pub became-as : {n b : ℕ} {h h′ : Held} {s s′ : Numbers} {out out′ : List ℕ} → h ≡ h′ → Became n b h s out s′ out′ → Became n b h′ s out s′ out′
+became-as : {n b : ℕ} {h h′ : Held} {s s′ : Numbers} {out out′ : List ℕ} → h ≡ h′ → Became n b h s out s′ out′ → Became n b h′ s out s′ out′
 became-as {n} {b} {s = s} {s′} {out} {out′} e g = subst (λ (x : Held). Became n b x s out s′ out′) e g
 
 module _ (c : Criterion) (cut : Bool) (before here : Sample) (at : ℕ) (h : Held) where

@@ -3,23 +3,20 @@
 use mathlib.Core.Path.{_≡_, refl, sym, ap, subst, _∙_}
 use mathlib.Core.Bool.{Bool, true, false}
 use mathlib.Core.List.{List}
-use Prim.Native.Nat.{ℕ, _+_, _-_, _*_, _≤_, _<_}
-use native.Mathlib.Nat.{mul-le-mul-right}
+use Prim.Native.Nat.{ℕ, _+_, _-_}
 use native.Mathlib.Omega.{arith}
 use lib.IntN.{ℤ, pos, negsuc, _+ℤ_}
-use lib.ListN.{length, getD, set}
 use lib.Seq.{set-getD}
 use mir.Syntax.{w64}
 use mir.Val.{SFits, toZ, ofZ}
-use mir.ValLaws.{toZ-pos, toZ-ofZ}
+use mir.ValLaws.{toZ-ofZ}
 use Rattle.trace.specs.declared.Edge.{Edge}
 use Rattle.trace.specs.Level.{offset}
-use Rattle.trace.specs.Edge.{middle, climbOf, edgeOf, Slope, Tilt, noSteeper}
+use Rattle.trace.specs.Edge.{middle, climbOf, Slope, noSteeper}
 use Rattle.trace.specs.Cone.{steeperOf, flatterOf}
 use Rattle.trace.proofs.Difference.{Diff, minus, plus, natural, alike}
 use Rattle.trace.proofs.Climbs.{climb-fits}
-use Rattle.scans.specs.declared.Sample.{Sample}
-use Rattle.scans.specs.Sample.{edgeFrom, Ahead, Climbs, edgeIn, Put}
+use Rattle.scans.specs.Sample.{Climbs, edgeIn, Put}
 
 -- ---- climbs
 
@@ -40,9 +37,6 @@ offset-is {z = negsuc n} h = omega arith
 -- the rise comes back from its climb
 pub offset-climb : (x : ℕ) → offset middle (climbOf x) ≡ x
 offset-climb x = offset-is (minus x middle x middle refl)
-
-pub slope-climbs : {e : Edge} → Slope e → Climbs (e .climb)
-slope-climbs {e} h = rw (h .climb) (record { is = ap climbOf (sym (offset-climb (e .rise))); bound = omega (arith, offset-climb (e .rise), h .rise-bound) })
 
 pub edge-in-climbs : {z : ℤ} {y : ℕ} → Slope (record { rise = offset middle z; run = y; climb = z }) → Climbs z
 edge-in-climbs h = record { is = h .climb; bound = h .rise-bound }

@@ -1,7 +1,7 @@
 -- The streaming promise: closed with sample j, what walk has kept there is its list of the trace up to j, and so is what the pass holds.
 -- Assumes nothing.
 use mathlib.Core.Path.{_≡_, refl, sym, ap, _∙_}
-use mathlib.Core.Bool.{Bool, not, _&&_, _||_}
+use mathlib.Core.Bool.{Bool, not}
 use mathlib.Core.List.{List, [], _∷_, _++_}
 use Prim.Native.Nat.{ℕ, zero, suc, _+_, _-_, _≤_, _<_}
 use native.Mathlib.Omega.{arith}
@@ -17,8 +17,9 @@ use Rattle.trace.specs.Link.{deviation, within, allWithin, hole, obeys, valid, 
 use Rattle.trace.proofs.Validity.{steps-valid}
 use Rattle.reduction.specs.Walking.{walkList}
 use Rattle.scans.specs.declared.Sample.{Sample}
-use Rattle.scans.specs.Held.{Held, Numbers, part, heldIn}
-use Rattle.scans.specs.Scan.{criterionAt, keptBefore, Walked, Scanning}
+use Rattle.scans.specs.Answers.{part, keptBefore}
+use Rattle.scans.specs.Held.{Held, Numbers, heldIn}
+use Rattle.scans.specs.Scan.{criterionAt, Walked, Scanning}
 use Rattle.scans.specs.Stream.{Streams}
 use Rattle.scans.proofs.PassLaws.{part-length}
 use Rattle.scans.proofs.WalkedLaws.{kept-closes, closed-count, closed-list}
@@ -55,7 +56,7 @@ module _ (ts : List ℕ) (vs : List ℤ) (c : Criterion) (m : ℕ) where
       rw (obeys-same i j lt le, all-same (within (take (suc m) ts) (take (suc m) vs) c i j) (within ts vs c i j) (j - suc i) (suc i) (λ x l u. within-same i j x (omega arith) le (omega arith)))
 
   -- walk's list of the trace up to sample m
-  pub walk-up-to : m < length ts → walkList (take (suc m) ts) (take (suc m) vs) c ≡ walkOf (valid ts vs c) m
+  walk-up-to : m < length ts → walkList (take (suc m) ts) (take (suc m) vs) c ≡ walkOf (valid ts vs c) m
   walk-up-to inside =
       let e : length (take (suc m) ts) ≡ suc m = length-take-le (suc m) ts (omega arith) in
       let n : length (take (suc m) ts) - 1 ≡ m = omega arith in

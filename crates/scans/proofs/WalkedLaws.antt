@@ -2,7 +2,8 @@
 -- sample it is walk's list of the samples up to there.
 -- Assumes nothing.
 use mathlib.Core.Path.{_≡_, refl, sym, ap, _∙_}
-use mathlib.Core.Bool.{Bool, true, false, not, _&&_}
+use mathlib.Core.Logic.{_⊎_, inl, inr, ⊎-elim}
+use mathlib.Core.Bool.{Bool, true, false}
 use mathlib.Core.List.{List, [], _∷_, _++_}
 use Prim.Native.Nat.{ℕ, zero, suc, _+_, _*_, _≤_, _<_}
 use native.Mathlib.Nat.{mul-le-mul-right}
@@ -23,7 +24,6 @@ use Rattle.trace.specs.declared.Start.{Start}
 use Rattle.trace.specs.Trace.{tick, value, Trace}
 use Rattle.trace.specs.Link.{Bounded, hole, obeys, valid, linksEnd}
 use Rattle.trace.specs.Edge.{StartAt, EdgeTo}
-use Rattle.trace.specs.Cone.{admitsEdge}
 use Rattle.trace.proofs.Ticks.{not-earlier, span-bound}
 use Rattle.trace.proofs.Level.{short, level-short}
 use Rattle.trace.proofs.Holes.{obeys-true, true-obeys, none-hole, some-hole, obeys-past}
@@ -33,21 +33,22 @@ use Rattle.reduction.specs.Outgoing.{TakenIn, Next}
 use Rattle.reduction.proofs.OutgoingLaws.{next-at, next-valid, next-taken, next-tilt, taken-first, first-tilt}
 use Rattle.scans.specs.declared.Sample.{Sample}
 use Rattle.scans.specs.Sample.{SampleAt, edgeFrom, Ahead}
+use Rattle.scans.specs.Answers.{keptBefore}
 use Rattle.scans.specs.Held.{Held, goesOn, further, anew, stepped, Steps}
-use Rattle.scans.specs.Scan.{holeBefore, cutAt, keptBefore, linksOf, Walked}
+use Rattle.scans.specs.Scan.{holeBefore, cutAt, linksOf, Walked}
 use Rattle.scans.proofs.HeldLaws.{extended-fits, none-fits, stepped-yes, stepped-no, goes-not, goes-as}
 
 -- ---- a sample by value
 
 -- a sample as a start
-pub sample-start : {ts : List ℕ} {vs : List ℤ} {k : ℕ} {s : Sample} (q : ℕ) → SampleAt ts vs k s → StartAt ts vs q k (record { sample = k; tick = s .tick; base = q * s .level })
+sample-start : {ts : List ℕ} {vs : List ℤ} {k : ℕ} {s : Sample} (q : ℕ) → SampleAt ts vs k s → StartAt ts vs q k (record { sample = k; tick = s .tick; base = q * s .level })
 sample-start q h = record { sample = refl; tick = h .tick; base = ap (λ (x : ℕ). q * x) (h .level .is); range = h .level .range }
 
 module _ {ts : List ℕ} {vs : List ℤ} {q i k : ℕ} {s : Start} {to : Sample} (h : StartAt ts vs q i s) (g : SampleAt ts vs k to) (b : q ≤ 1048575) where
-  pub edge-to-sample : EdgeTo ts vs q i k (edgeFrom q (s .tick) (s .base) to)
+  edge-to-sample : EdgeTo ts vs q i k (edgeFrom q (s .tick) (s .base) to)
   edge-to-sample = rw (g .tick) (edge-made h b (g .level) refl)
 
-  pub ahead-of : Trace ts vs → i ≤ k → k < length ts → Ahead q (s .tick) (s .base) to
+  ahead-of : Trace ts vs → i ≤ k → k < length ts → Ahead q (s .tick) (s .base) to
   ahead-of t ik kn = record {
     q-bound = b;
     base-bound = omega (arith, h .base, mul-le-mul-right q (level-short (value vs i) (h .range)));
@@ -60,34 +61,34 @@ module _ {ts : List ℕ} {vs : List ℤ} {q i k : ℕ} {s : Start} {to : Sample}
 
 module _ (ok : ℕ → ℕ → Bool) (step : StepsValid ok) where
   -- the open link starts before the sample that it has reached, and is valid
-  pub start-before : (j : ℕ) → walkStart ok (suc j) ≤ j
+  start-before : (j : ℕ) → walkStart ok (suc j) ≤ j
   unfolding walkStart
   start-before j = by-test (ok (walkStart ok j) (suc j)) (λ q. rw q (walk-start-le ok j)) (λ q. rw q (omega arith))
 
-  pub open-link : (j : ℕ) → ok (walkStart ok (suc j)) (suc j) ≡ true
+  open-link : (j : ℕ) → ok (walkStart ok (suc j)) (suc j) ≡ true
   unfolding walkStart
   open-link j = by-test (ok (walkStart ok j) (suc j)) (λ q. rw (q, q)) (λ q. rw q (step j))
 
   module _ (j : ℕ) where
     module _ (q : ok (walkStart ok (suc j)) (suc (suc j)) ≡ true) where
-      pub start-valid : walkStart ok (suc (suc j)) ≡ walkStart ok (suc j)
+      start-valid : walkStart ok (suc (suc j)) ≡ walkStart ok (suc j)
       unfolding walkStart
       start-valid = rw q
 
-      pub kept-valid : keptBefore ok (suc (suc j)) ≡ keptBefore ok (suc j)
+      kept-valid : keptBefore ok (suc (suc j)) ≡ keptBefore ok (suc j)
       unfolding keptBefore walkOpen
       kept-valid = rw q
 
     module _ (q : ok (walkStart ok (suc j)) (suc (suc j)) ≡ false) where
-      pub start-invalid : walkStart ok (suc (suc j)) ≡ suc j
+      start-invalid : walkStart ok (suc (suc j)) ≡ suc j
       unfolding walkStart
       start-invalid = rw q
 
-      pub kept-invalid : keptBefore ok (suc (suc j)) ≡ keptBefore ok (suc j) ++ (suc j ∷ [])
+      kept-invalid : keptBefore ok (suc (suc j)) ≡ keptBefore ok (suc j) ++ (suc j ∷ [])
       unfolding keptBefore walkOpen
       kept-invalid = rw q
 
-  pub start-first : walkStart ok 1 ≡ 0
+  start-first : walkStart ok 1 ≡ 0
   unfolding walkStart
   start-first = by-test (ok 0 1) (λ q. rw q) (λ q. rw q)
 
@@ -95,13 +96,21 @@ module _ (ok : ℕ → ℕ → Bool) (step : StepsValid ok) where
   unfolding keptBefore walkOpen walkStart
   kept-first = rw (step 0)
 
-  pub kept-length : (j : ℕ) → length (keptBefore ok j) ≤ j
+  kept-none : keptBefore ok 0 ≡ []
   unfolding keptBefore
-  kept-length zero = omega arith
-  kept-length (suc zero) = rw kept-first (omega arith)
-  kept-length (suc (suc j)) = by-test (ok (walkStart ok (suc j)) (suc (suc j)))
-      (λ q. rw (kept-valid j q) (omega (arith, kept-length (suc j))))
-      (λ q. rw (kept-invalid j q, length-append) (omega (arith, kept-length (suc j))))
+  kept-none = refl
+
+  -- one sample more: the sample before is kept, or not
+  pub kept-more : (j : ℕ) → (keptBefore ok (suc j) ≡ keptBefore ok j) ⊎ (keptBefore ok (suc j) ≡ keptBefore ok j ++ (j ∷ []))
+  kept-more zero = inr kept-first
+  kept-more (suc j) = by-test (ok (walkStart ok (suc j)) (suc (suc j))) (λ q. inl (kept-valid j q)) (λ q. inr (kept-invalid j q))
+
+  pub kept-length : (j : ℕ) → length (keptBefore ok j) ≤ j
+  kept-length zero = rw kept-none (omega arith)
+  kept-length (suc j) = ⊎-elim
+      (λ e. omega (arith, ap length e, kept-length j))
+      (λ e. omega (arith, ap length e ∙ length-append (keptBefore ok j) (j ∷ []), kept-length j))
+      (kept-more j)
 
   -- sample j closes the list
   pub kept-closes : (j : ℕ) → walkOf ok j ≡ keptBefore ok j ++ (j ∷ [])
@@ -164,7 +173,7 @@ module _ {ts : List ℕ} {vs : List ℤ} {c : Criterion} {o : List ℕ} where
             list = rw (f, w .list, w .count) (overwrite-snoc (keptBefore (valid ts vs c) j) o j (omega (arith, kept-length (valid ts vs c) (steps-valid ts vs c) j)));
           }
 
-      pub again-ahead : Ahead (c .q) (before .tick) (c .q * before .level) here
+      again-ahead : Ahead (c .q) (before .tick) (c .q * before .level) here
       again-ahead = ahead-of start k (b .q-bound) t (omega arith) inside
 
 -- from the first sample
@@ -174,7 +183,7 @@ module _ {ts : List ℕ} {vs : List ℤ} {c : Criterion} {o : List ℕ} {h : Hel
   unfolding holeBefore
   first-cut = refl
 
-  pub first-steps : Steps c (cutAt ts (c .gap) 0) before here h
+  first-steps : Steps c (cutAt ts (c .gap) 0) before here h
   first-steps = record {
     bounded = b;
     goes = record { ahead = λ q. true-false first-cut q; fits = λ q. true-false first-cut q };
@@ -182,7 +191,7 @@ module _ {ts : List ℕ} {vs : List ℤ} {c : Criterion} {o : List ℕ} {h : Hel
     short = short (g .level);
   }
 
-  pub first-step : 1 < length o → Walked ts vs c o 1 (stepped c (cutAt ts (c .gap) 0) before here 0 h)
+  first-step : 1 < length o → Walked ts vs c o 1 (stepped c (cutAt ts (c .gap) 0) before here 0 h)
   first-step room =
       rw (stepped-no c (cutAt ts (c .gap) 0) before here 0 h (goes-not _ first-cut))
       (kept-step w t b inside g k (start-first (valid ts vs c) (steps-valid ts vs c)) (kept-first (valid ts vs c) (steps-valid ts vs c)) room)
@@ -223,7 +232,7 @@ module _ {ts : List ℕ} {vs : List ℤ} {c : Criterion} {o : List ℕ} {j : ℕ
       (λ q. goes-not _ q ∙ sym (hole-invalid ts vs c i (suc (suc j)) (cut-cuts ts (c .gap) early reached q)))
       (λ q. goes-as _ q (next-valid (next (uncut-obeys ts (c .gap) early reached q)) edge))
 
-  pub later-steps : Steps c (cutAt ts (c .gap) (suc j)) before here h
+  later-steps : Steps c (cutAt ts (c .gap) (suc j)) before here h
   later-steps = record {
     bounded = b;
     goes = record { ahead = λ q. ahead-of (held .start) k (b .q-bound) t (omega (arith, early)) inside; fits = λ q. held .fits };
@@ -240,7 +249,7 @@ module _ {ts : List ℕ} {vs : List ℤ} {c : Criterion} {o : List ℕ} {j : ℕ
         list = rw (kept-valid ok (steps-valid ts vs c) j q) (w .list);
       }
 
-  pub later-step : suc (suc j) < length o → Walked ts vs c o (suc (suc j)) (stepped c (cutAt ts (c .gap) (suc j)) before here (suc j) h)
+  later-step : suc (suc j) < length o → Walked ts vs c o (suc (suc j)) (stepped c (cutAt ts (c .gap) (suc j)) before here (suc j) h)
   later-step room = by-test (ok i (suc (suc j)))
       (λ q. rw (stepped-yes c (cutAt ts (c .gap) (suc j)) before here (suc j) h (goes-valid ∙ q)) (valid-step q))
       (λ q. rw (stepped-no c (cutAt ts (c .gap) (suc j)) before here (suc j) h (goes-valid ∙ q))

@@ -8,7 +8,6 @@
 --   Steps      the numbers of a step fit
 --   Numbers    the lists of numbers in which all tolerances' states are held
 --   Sized      each of them has 16 entries
---   part       part a of an output whose parts are n long
 --   Inside     x is a place of part a
 --   coneIn     the cone that the lists hold of tolerance a
 --   heldIn     what the lists hold of tolerance a
@@ -18,12 +17,13 @@ use mathlib.Core.Bool.{Bool, false, cond, not, _&&_}
 use mathlib.Core.List.{List}
 use Prim.Native.Nat.{ℕ, _+_, _-_, _*_, _≤_, _<_}
 use lib.IntN.{ℤ}
-use lib.ListN.{length, getD, set, take, drop}
+use lib.ListN.{length, getD, set}
 use Rattle.trace.specs.declared.Criterion.{Criterion}
 use Rattle.trace.specs.declared.Cone.{Cone}
 use Rattle.trace.specs.Link.{Bounded}
 use Rattle.trace.specs.Cone.{coneFrom, admitsEdge, extendedBy, ConeFits}
 use Rattle.scans.specs.declared.Sample.{Sample}
+use Rattle.scans.specs.Answers.{part}
 use Rattle.scans.specs.Sample.{edgeFrom, Ahead, edgeIn}
 
 pub record Held : Type 0 where
@@ -91,9 +91,6 @@ pub record Sized (s : Numbers) : Type 0 where
   pub high-climbs : length (s .highClimbs) ≡ 16
   pub high-runs : length (s .highRuns) ≡ 16
   pub places : length (s .places) ≡ 16
-
-abbrev pub part : ℕ → ℕ → List ℕ → List ℕ
-part n a out = take n (drop (a * n) out)
 
 pub record Inside (n a x : ℕ) : Type 0 where
   pub from : a * n ≤ x

@@ -1,4 +1,5 @@
 -- The definitions of the crate `scans`.
+pub mod Answers
 pub mod Sample
 pub mod Held
 pub mod Scan

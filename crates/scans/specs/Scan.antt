@@ -6,7 +6,6 @@
 --   Became, AllBecame     entry b became h, and everything else stayed; every entry became what f gives
 --   Places                each tolerance writes at the start of its part next
 --   holeBefore, cutAt     a hole lies before sample j; links of more than one step to sample j + 1 are cut
---   keptBefore            the samples that walk has kept at sample j, which closes its list
 --   Walked                what is held of a tolerance is walk's, with the samples up to j taken in
 --   Given, Scanning       what the pass requires; the pass with the samples up to j taken in
 --   Closing, Closed       every part can be closed with a sample; it was
@@ -15,12 +14,12 @@
 use mathlib.Core.Path.{_≡_}
 use mathlib.Core.Logic.{_≢_}
 use mathlib.Core.Bool.{Bool, true, _||_}
-use mathlib.Core.List.{List, []}
+use mathlib.Core.List.{List}
 use Prim.Native.Nat.{ℕ, zero, suc, _+_, _-_, _*_, _≤_, _<_}
 use lib.IntN.{ℤ}
 use lib.ListN.{length, getD, set, drop}
 use Rattle.lists.specs.Overwrite.{overwrite}
-use Rattle.kept.specs.Walk.{walkStart, walkOpen}
+use Rattle.kept.specs.Walk.{walkStart}
 use Rattle.trace.specs.declared.Criterion.{Criterion}
 use Rattle.trace.specs.Trace.{Trace}
 use Rattle.trace.specs.Link.{Bounded, hole, valid, linksEnd}
@@ -30,7 +29,8 @@ use Rattle.reduction.specs.Outgoing.{TakenIn}
 use Rattle.reduction.specs.Walking.{walkList}
 use Rattle.scans.specs.declared.Sample.{Sample}
 use Rattle.scans.specs.Sample.{SampleAt, edgeFrom, Put}
-use Rattle.scans.specs.Held.{Held, stepped, Steps, Numbers, Sized, part, Inside, heldIn}
+use Rattle.scans.specs.Answers.{part, keptBefore}
+use Rattle.scans.specs.Held.{Held, Steps, Numbers, Sized, Inside, heldIn}
 
 abbrev pub criterionAt : List ℕ → List ℕ → ℕ → ℕ → Criterion
 criterionAt ps qs g a = record { p = getD ps a 0; q = getD qs a 0; gap = g }
@@ -100,10 +100,6 @@ holeBefore ts g (suc j) = hole ts g j
 -- a link that reaches sample j over more than one step crosses no hole up to there
 abbrev pub cutAt : List ℕ → ℕ → ℕ → Bool
 cutAt ts g j = holeBefore ts g j || hole ts g j
-
-unfoldable pub keptBefore : (ℕ → ℕ → Bool) → ℕ → List ℕ
-keptBefore ok zero = []
-keptBefore ok (suc j) = walkOpen ok (suc j)
 
 -- what is held as links from sample i
 abbrev pub linksOf : List ℕ → ℕ → ℕ → Held → Links

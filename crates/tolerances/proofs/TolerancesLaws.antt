@@ -1,13 +1,13 @@
 -- Laws of the checks 19, 4, 15 and 10 of several tolerances.
 -- Assumes nothing.
-use mathlib.Core.Path.{_≡_, refl, sym, ap, _∙_}
+use mathlib.Core.Path.{_≡_, sym, _∙_}
 use mathlib.Core.Bool.{true, false, _&&_}
 use mathlib.Core.List.{List}
 use Prim.Native.Nat.{ℕ, _+_, _*_, _≤_, _<_}
 use native.Mathlib.Omega.{arith}
 use lib.Dec.{leb}
 use lib.IntN.{ℤ}
-use lib.ListN.{length, getD, set, length-set}
+use lib.ListN.{length, set, length-set}
 use lib.Seq.{getD-set-same, getD-set-other}
 use borrow.Author.Count.{below-more}
 use borrow.Author.Tests.{le-leb, lt-leb, leb-true}
@@ -23,7 +23,7 @@ use Rattle.refusal.specs.Table.{placed}
 use Rattle.refusal.proofs.TableLaws.{row-fine, then-fine}
 use Rattle.tolerance.specs.declared.Meaning.the-variants.{Exact, NotAllowed}
 use Rattle.tolerance.specs.Meaning.{meaning}
-use Rattle.trace.specs.Trace.{Trace, traceRows}
+use Rattle.trace.specs.Trace.{traceRows}
 use Rattle.trace.specs.Link.{limited}
 use Rattle.trace.proofs.TraceLaws.{rows-trace}
 use Rattle.limits.specs.Prepare.{gapRow, Sets}
@@ -53,11 +53,11 @@ refused-fine e = let z : _≡_ {A = ℕ} 0 1 = cc in absurd (omega arith)
 -- ---- row 4 of each
 
 module _ (t : Tolerances) (a : ℕ) where
-  pub exact-good : {r : Fraction} → meaning (toleranceAt t a) ≡ Exact r → badAt t a ≡ false
+  exact-good : {r : Fraction} → meaning (toleranceAt t a) ≡ Exact r → badAt t a ≡ false
   unfolding badAt
   exact-good e = rw e
 
-  pub not-allowed-bad : meaning (toleranceAt t a) ≡ NotAllowed → badAt t a ≡ true
+  not-allowed-bad : meaning (toleranceAt t a) ≡ NotAllowed → badAt t a ≡ true
   unfolding badAt
   not-allowed-bad e = rw e
 
@@ -108,7 +108,7 @@ module _ (m held g n room : ℕ) where
     held-fine e u = rw (le-leb m held le, e, le-leb (m * n) room u)
 
   -- what the rows say where none applies
-  pub held-passes : heldRows m held g n room ≡ Fine → (m ≤ held) × (gapRow g ≡ Fine) × (m * n ≤ room)
+  held-passes : heldRows m held g n room ≡ Fine → (m ≤ held) × (gapRow g ≡ Fine) × (m * n ≤ room)
   held-passes e =
       let a = then-fine (placed NotAllowedAt m held) _ e in
       let b = then-fine (gapRow g) _ (a .1) in

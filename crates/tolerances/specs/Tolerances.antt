@@ -31,7 +31,6 @@ use Rattle.tolerance.specs.Meaning.{meaning}
 use Rattle.trace.specs.Trace.{Trace, traceRows}
 use Rattle.limits.specs.declared.Limits.{Limits}
 use Rattle.limits.specs.Prepare.{gapRow}
-use Rattle.tolerances.specs.declared.Entry.{Entry}
 use Rattle.tolerances.specs.declared.Tolerances.{Tolerances}
 use Rattle.tolerances.specs.declared.Ratios.{Ratios}
 use Rattle.tolerances.specs.declared.Ready.{Ready}

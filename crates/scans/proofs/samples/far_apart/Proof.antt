@@ -1,5 +1,4 @@
 -- `scans::samples::far_apart` meets its contract. Assumes nothing.
-use mathlib.Core.Path.{ap}
 use borrow.Author.Needs.{needs}
 use Rattle.scans.proofs.samples.far_apart.Statement.{statement}
 use Rattle.scans.proofs.samples.far_apart.Tie as tie
