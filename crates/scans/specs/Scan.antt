@@ -1,11 +1,12 @@
 -- Walk at several tolerances in one pass (document 02, "Sixteen tolerances in one reading").
 --   criterionAt           the criterion of tolerance a under the gap limit
---   Ratios                1 to 16 tolerances, each allowed
+--   Ratios                up to 16 tolerances, each allowed
 --   KeptAt, Restarted     the two halves of a step that keeps a sample
 --   Turning, Sampling     one tolerance's turn can be made; every one's
 --   Became, AllBecame     entry b became h, and everything else stayed; every entry became what f gives
 --   Places                each tolerance writes at the start of its part next
 --   holeBefore, cutAt     a hole lies before sample j; links of more than one step to sample j + 1 are cut
+--   linksOf               what is held of a tolerance, as links from a sample
 --   Walked                what is held of a tolerance is walk's, with the samples up to j taken in
 --   Given, Scanning       what the pass requires; the pass with the samples up to j taken in
 --   Closing, Closed       every part can be closed with a sample; it was
@@ -63,6 +64,7 @@ pub record Turning (c : Criterion) (cut : Bool) (before here : Sample) (at n b :
   pub inside : Inside n b (getD (s .places) b 0)
   pub number : at < 65536
 
+-- where each tolerance writes next, only that of b may change, and no place goes back
 pub record Became (n b : ℕ) (h : Held) (s : Numbers) (out : List ℕ) (s′ : Numbers) (out′ : List ℕ) : Type 0 where
   pub sized : Sized s′
   pub this : heldIn n s′ out′ b ≡ h
@@ -97,11 +99,10 @@ unfoldable pub holeBefore : List ℕ → ℕ → ℕ → Bool
 holeBefore ts g zero = true
 holeBefore ts g (suc j) = hole ts g j
 
--- a link that reaches sample j over more than one step crosses no hole up to there
+-- the open link is valid up to sample j: it goes one step there, or crosses no hole
 abbrev pub cutAt : List ℕ → ℕ → ℕ → Bool
 cutAt ts g j = holeBefore ts g j || hole ts g j
 
--- what is held as links from sample i
 abbrev pub linksOf : List ℕ → ℕ → ℕ → Held → Links
 linksOf ts g i h = record { from = record { sample = i; tick = h .tick; base = h .base }; cone = h .cone; limit = linksEnd ts g i }
 
