@@ -17,9 +17,8 @@ use borrow.Author.Tests.{le-ltb, lt-ltb}
 use Rattle.lists.specs.First.{first, firstOf}
 use Rattle.lists.specs.Overwrite.{overwrite}
 use Rattle.lists.proofs.Tests.{by-test}
-use Rattle.refusal.specs.declared.Checked.the-variants.{Fine, Refused}
 use Rattle.refusal.specs.Table.{roomRow, _thenCheck_}
-use Rattle.refusal.proofs.TableLaws.{then-assoc}
+use Rattle.refusal.proofs.TableLaws.{then-assoc, refused-fine}
 use Rattle.tolerance.specs.declared.Meaning.{Meaning}
 use Rattle.tolerance.specs.declared.Meaning.the-variants.{Exact, NotAllowed}
 use Rattle.tolerance.specs.Meaning.{meaning}
@@ -47,10 +46,7 @@ module _ {ts : List ℕ} {vs : List ℤ} {t : Tolerances} {g : ℕ} {o counts o�
   -- the separate call is lent the part as it was
   pub scan-separate : (r : Reduced) (p : List ℕ) → WalkOutcome ts vs (limitsAt t g a) (part (length ts) a o) r p → (r ≡ Kept (getD counts a 0)) × (p ≡ part (length ts) a o′)
   scan-separate (Kept n) p w = (ap Kept (w .wrote .count ∙ sym (s .each a lt .wrote .count)), w .wrote .content ∙ sym (s .each a lt .wrote .content))
-  scan-separate (Declined x) p w = let z : _≡_ {A = ℕ} 0 1 = fine-refused (sym (s .each a lt .rows) ∙ w .0) in absurd (omega arith)
-    where
-      fine-refused : {x : _} → Fine ≡ Refused x → _≡_ {A = ℕ} 0 1
-      fine-refused e = cc
+  scan-separate (Declined x) p w = refused-fine (sym (w .0) ∙ s .each a lt .rows)
 
   -- j is a sample of the trace, and its first samples up to j are scanned by another call
   pub scan-up-to : {j : ℕ} {q counts₂ q′ : List ℕ} → j < length ts → ScanKept (take (suc j) ts) (take (suc j) vs) t g q counts₂ q′

@@ -17,8 +17,8 @@ use Rattle.lists.proofs.Tests.{by-test, is-false, true-false, or-false}
 use Rattle.lists.proofs.OverwriteLaws.{overwrite-snoc}
 use Rattle.kept.specs.Kept.{StepsValid}
 use Rattle.kept.specs.Stops.{stops}
-use Rattle.kept.specs.Walk.{walkOf, walkStart, walkOpen}
-use Rattle.kept.proofs.WalkLaws.{walk-closes, walk-start-le}
+use Rattle.kept.specs.Walk.{walkOf, walkStart}
+use Rattle.kept.proofs.WalkLaws.{walk-closes, walk-start-valid, walk-open-valid, walk-start-invalid, walk-open-invalid, walk-start-before, walk-link, walk-start-first, walk-open-first}
 use Rattle.trace.specs.declared.Criterion.{Criterion}
 use Rattle.trace.specs.declared.Start.{Start}
 use Rattle.trace.specs.Trace.{tick, value, Trace}
@@ -60,41 +60,18 @@ module _ {ts : List ℕ} {vs : List ℤ} {q i k : ℕ} {s : Start} {to : Sample}
 -- ---- walk so far
 
 module _ (ok : ℕ → ℕ → Bool) (step : StepsValid ok) where
-  -- the open link starts before the sample that it has reached, and is valid
-  start-before : (j : ℕ) → walkStart ok (suc j) ≤ j
-  unfolding walkStart
-  start-before j = by-test (ok (walkStart ok j) (suc j)) (λ q. rw q (walk-start-le ok j)) (λ q. rw q (omega arith))
-
-  open-link : (j : ℕ) → ok (walkStart ok (suc j)) (suc j) ≡ true
-  unfolding walkStart
-  open-link j = by-test (ok (walkStart ok j) (suc j)) (λ q. rw (q, q)) (λ q. rw q (step j))
-
   module _ (j : ℕ) where
-    module _ (q : ok (walkStart ok (suc j)) (suc (suc j)) ≡ true) where
-      start-valid : walkStart ok (suc (suc j)) ≡ walkStart ok (suc j)
-      unfolding walkStart
-      start-valid = rw q
+    kept-valid : ok (walkStart ok (suc j)) (suc (suc j)) ≡ true → keptBefore ok (suc (suc j)) ≡ keptBefore ok (suc j)
+    unfolding keptBefore
+    kept-valid q = walk-open-valid ok (suc j) q
 
-      kept-valid : keptBefore ok (suc (suc j)) ≡ keptBefore ok (suc j)
-      unfolding keptBefore walkOpen
-      kept-valid = rw q
-
-    module _ (q : ok (walkStart ok (suc j)) (suc (suc j)) ≡ false) where
-      start-invalid : walkStart ok (suc (suc j)) ≡ suc j
-      unfolding walkStart
-      start-invalid = rw q
-
-      kept-invalid : keptBefore ok (suc (suc j)) ≡ keptBefore ok (suc j) ++ (suc j ∷ [])
-      unfolding keptBefore walkOpen
-      kept-invalid = rw q
-
-  start-first : walkStart ok 1 ≡ 0
-  unfolding walkStart
-  start-first = by-test (ok 0 1) (λ q. rw q) (λ q. rw q)
+    kept-invalid : ok (walkStart ok (suc j)) (suc (suc j)) ≡ false → keptBefore ok (suc (suc j)) ≡ keptBefore ok (suc j) ++ (suc j ∷ [])
+    unfolding keptBefore
+    kept-invalid q = walk-open-invalid ok (suc j) q
 
   pub kept-first : keptBefore ok 1 ≡ keptBefore ok 0 ++ (0 ∷ [])
-  unfolding keptBefore walkOpen walkStart
-  kept-first = rw (step 0)
+  unfolding keptBefore
+  kept-first = walk-open-first ok step
 
   kept-none : keptBefore ok 0 ≡ []
   unfolding keptBefore
@@ -194,7 +171,7 @@ module _ {ts : List ℕ} {vs : List ℤ} {c : Criterion} {o : List ℕ} {h : Hel
   first-step : 1 < length o → Walked ts vs c o 1 (stepped c (cutAt ts (c .gap) 0) before here 0 h)
   first-step room =
       rw (stepped-no c (cutAt ts (c .gap) 0) before here 0 h (goes-not _ first-cut))
-      (kept-step w t b inside g k (start-first (valid ts vs c) (steps-valid ts vs c)) (kept-first (valid ts vs c) (steps-valid ts vs c)) room)
+      (kept-step w t b inside g k (walk-start-first (valid ts vs c)) (kept-first (valid ts vs c) (steps-valid ts vs c)) room)
 
 -- from a later one
 module _ {ts : List ℕ} {vs : List ℤ} {c : Criterion} {o : List ℕ} {j : ℕ} {h : Held} (w : Walked ts vs c o (suc j) h)
@@ -206,10 +183,10 @@ module _ {ts : List ℕ} {vs : List ℤ} {c : Criterion} {o : List ℕ} {j : ℕ
   i = walkStart (valid ts vs c) (suc j)
 
   early : i ≤ j
-  early = start-before ok (steps-valid ts vs c) j
+  early = walk-start-before ok j
 
   reached : obeys ts (c .gap) i (suc j) ≡ true
-  reached = valid-obeys ts vs c i (suc j) (open-link ok (steps-valid ts vs c) j)
+  reached = valid-obeys ts vs c i (suc j) (walk-link ok j (steps-valid ts vs c))
 
   held : TakenIn ts vs c i (suc (suc j)) (linksOf ts (c .gap) i h)
   held = w .taken (omega arith)
@@ -244,7 +221,7 @@ module _ {ts : List ℕ} {vs : List ℤ} {c : Criterion} {o : List ℕ} {j : ℕ
   valid-step q =
       let n = next (valid-obeys ts vs c i (suc (suc j)) q) in
       record {
-        taken = λ z. rw (start-valid ok (steps-valid ts vs c) j q) (rw (add-one (suc (suc j))) at (next-taken n edge refl (extended-fits (held .fits) (next-tilt n edge))));
+        taken = λ z. rw (walk-start-valid ok (suc j) q) (rw (add-one (suc (suc j))) at (next-taken n edge refl (extended-fits (held .fits) (next-tilt n edge))));
         count = rw (kept-valid ok (steps-valid ts vs c) j q) (w .count);
         list = rw (kept-valid ok (steps-valid ts vs c) j q) (w .list);
       }
@@ -253,7 +230,7 @@ module _ {ts : List ℕ} {vs : List ℤ} {c : Criterion} {o : List ℕ} {j : ℕ
   later-step room = by-test (ok i (suc (suc j)))
       (λ q. rw (stepped-yes c (cutAt ts (c .gap) (suc j)) before here (suc j) h (goes-valid ∙ q)) (valid-step q))
       (λ q. rw (stepped-no c (cutAt ts (c .gap) (suc j)) before here (suc j) h (goes-valid ∙ q))
-      (kept-step w t b inside g k (start-invalid ok (steps-valid ts vs c) j q) (kept-invalid ok (steps-valid ts vs c) j q) room))
+      (kept-step w t b inside g k (walk-start-invalid ok (suc j) q) (kept-invalid ok (steps-valid ts vs c) j q) room))
 
 -- from any sample
 module _ {ts : List ℕ} {vs : List ℤ} {c : Criterion} {o : List ℕ} {h : Held} {before here : Sample} (t : Trace ts vs) (b : Bounded c) where

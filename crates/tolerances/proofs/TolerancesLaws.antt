@@ -20,7 +20,7 @@ use Rattle.refusal.specs.declared.Refusal.the-variants.{Tolerance as NotAllowed
 use Rattle.refusal.specs.declared.Checked.{Checked}
 use Rattle.refusal.specs.declared.Checked.the-variants.{Fine, Refused}
 use Rattle.refusal.specs.Table.{placed}
-use Rattle.refusal.proofs.TableLaws.{row-fine, then-fine}
+use Rattle.refusal.proofs.TableLaws.{row-fine, then-fine, refused-fine}
 use Rattle.tolerance.specs.declared.Meaning.the-variants.{Exact, NotAllowed}
 use Rattle.tolerance.specs.Meaning.{meaning}
 use Rattle.trace.specs.Trace.{traceRows}
@@ -46,9 +46,6 @@ count-fine m some h = rw (le-leb 1 m some, le-leb m 16 h)
 
 pub fine-few : (m : ℕ) → countRow m ≡ Fine → m ≤ 16
 fine-few m e = leb-true m 16 (and-second (leb 1 m) (leb m 16) (row-fine (leb 1 m && leb m 16) Count e))
-
-refused-fine : {x : Refusal} {A : Type 0} → Refused x ≡ Fine → A
-refused-fine e = let z : _≡_ {A = ℕ} 0 1 = cc in absurd (omega arith)
 
 -- ---- row 4 of each
 

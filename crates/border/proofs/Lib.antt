@@ -1,2 +1,0 @@
--- Laws of the definitions of the crate `border`.
-pub mod ToleranceLaws
