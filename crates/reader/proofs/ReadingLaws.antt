@@ -29,8 +29,9 @@ use Rattle.format.proofs.NumberLaws.{bytes-drop}
 use Rattle.format.proofs.CommandLaws.{Starts, Read, read}
 use Rattle.format.proofs.EncodeParse.{encode-parse}
 use Rattle.format.proofs.SameLaws.{same-bytes}
-use Rattle.reader.specs.Reading.{recordRow, readRows, sameRows, Said, CheckOutcome, ReadBack, Compared, SameOutcome, recordVerdict, AfterFirst, Fitting, Filled}
-use Rattle.reader.specs.declared.Verdict.{Verdict}
+use Rattle.commands.specs.declared.Verdict.{Verdict}
+use Rattle.commands.specs.Passing.{recordVerdict, AfterFirst, Fitting, Filled}
+use Rattle.reader.specs.Reading.{recordRow, readRows, sameRows, Said, CheckOutcome, ReadBack, Compared, SameOutcome}
 use Rattle.reader.specs.declared.Comparison.{Comparison}
 use Rattle.reader.specs.declared.Comparison.the-variants.{Same, Different, Refused as NotCompared}
 

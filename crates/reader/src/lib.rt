@@ -1,21 +1,18 @@
-// Reads records (document 01, "The record"): checks one (check), reads one into lent lists (read), compares two (same). The header
-// is read in headers, a command in steps, its numbers in numbers, and all steps in passes.
+// Reads records (document 01, "The record"): checks one (check), reads one into lent lists (read), compares two (same). Their commands are
+// read in the crate `commands`.
 ghost use mathlib.Core.Path.{_≡_};
 ghost use Rattle.lists.specs.Decides.{Decides};
 ghost use Rattle.format.specs.Format.{headerOf};
 ghost use Rattle.format.specs.declared.Header.the-variants.{Start};
 ghost use Rattle.reader.specs.Reading.{CheckOutcome, ReadOutcome, sameRows, SameOutcome};
+use commands::Verdict;
+use commands::headers;
+use commands::passes;
 use format::Cursor;
 use format::Header;
 use ratio::Ratio;
 use refusal::Checked;
 use refusal::Refusal;
-
-// What a record says: the number of its samples and its tolerance, or the fault's byte.
-pub enum Verdict {
-    Samples(usize, Ratio),
-    Fault(usize),
-}
 
 // What reading answers: the number of samples and the tolerance, or why it declined.
 pub enum Answer {
@@ -29,11 +26,6 @@ pub enum Comparison {
     Different,
     Refused(Refusal),
 }
-
-pub mod headers;
-pub mod numbers;
-pub mod passes;
-pub mod steps;
 
 // Checks a record.
 pub fn check(bytes: &[u8]) -> Verdict

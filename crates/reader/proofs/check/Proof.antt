@@ -2,7 +2,7 @@
 use mathlib.Core.Path.{sym, _∙_, ap}
 use borrow.Author.Needs.{needs}
 use Rattle.format.specs.Number.{Bytes}
-use Rattle.reader.specs.Reading.{recordVerdict}
+use Rattle.commands.specs.Passing.{recordVerdict}
 use Rattle.reader.proofs.ReadingLaws.{parse-start, parse-fault, header-after-first, verdict}
 use Rattle.reader.proofs.check.Statement.{statement}
 use Rattle.reader.proofs.check.Tie as tie

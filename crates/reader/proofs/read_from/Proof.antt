@@ -2,7 +2,8 @@
 use mathlib.Core.Path.{refl, sym, _∙_, ap, subst}
 use borrow.Author.Tests.{le-leb, lt-leb}
 use Rattle.format.specs.Number.{Bytes}
-use Rattle.reader.specs.Reading.{Said, CheckOutcome, recordVerdict}
+use Rattle.commands.specs.Passing.{recordVerdict}
+use Rattle.reader.specs.Reading.{Said, CheckOutcome}
 use Rattle.reader.proofs.ReadingLaws.{parse-start, header-after-first, verdict, no-room, room, read-back, read-fault}
 use borrow.Author.Needs.{needs}
 use Rattle.reader.proofs.read_from.Statement.{statement}

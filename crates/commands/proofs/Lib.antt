@@ -1,0 +1,3 @@
+-- The laws of the crate `commands`.
+pub mod CommandsAt
+pub mod PassLaws
