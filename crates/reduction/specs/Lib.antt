@@ -1,4 +1,3 @@
 -- The definitions of the crate `reduction`.
-pub mod Outgoing
 pub mod Walking
 pub mod Galloping

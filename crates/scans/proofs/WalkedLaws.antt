@@ -29,8 +29,8 @@ use Rattle.trace.proofs.Level.{short, level-short}
 use Rattle.trace.proofs.Holes.{obeys-true, true-obeys, none-hole, some-hole, obeys-past}
 use Rattle.trace.proofs.Validity.{steps-valid, valid-obeys, hole-invalid}
 use Rattle.trace.proofs.EdgeLaws.{edge-made}
-use Rattle.reduction.specs.Outgoing.{TakenIn, Next}
-use Rattle.reduction.proofs.OutgoingLaws.{next-at, next-valid, next-taken, next-tilt, taken-first, first-tilt}
+use Rattle.outgoing.specs.Outgoing.{TakenIn, Next}
+use Rattle.outgoing.proofs.OutgoingLaws.{next-at, next-valid, next-taken, next-tilt, taken-first, first-tilt}
 use Rattle.scans.specs.declared.Sample.{Sample}
 use Rattle.scans.specs.Sample.{SampleAt, edgeFrom, Ahead}
 use Rattle.scans.specs.Answers.{keptBefore}

@@ -25,8 +25,8 @@ use Rattle.trace.specs.declared.Criterion.{Criterion}
 use Rattle.trace.specs.Trace.{Trace}
 use Rattle.trace.specs.Link.{Bounded, hole, valid, linksEnd}
 use Rattle.trace.specs.Cone.{coneFrom, extendedBy}
-use Rattle.reduction.specs.declared.Links.{Links}
-use Rattle.reduction.specs.Outgoing.{TakenIn}
+use Rattle.outgoing.specs.declared.Links.{Links}
+use Rattle.outgoing.specs.Outgoing.{TakenIn}
 use Rattle.reduction.specs.Walking.{walkList}
 use Rattle.scans.specs.declared.Sample.{Sample}
 use Rattle.scans.specs.Sample.{SampleAt, edgeFrom, Put}

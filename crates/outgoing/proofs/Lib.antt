@@ -1,0 +1,3 @@
+-- The laws of the crate `outgoing`.
+pub mod OutgoingLaws
+pub mod StopLaws

@@ -1,0 +1,20 @@
+-- `outgoing::passes` meets its contract. Assumes nothing.
+use mathlib.Core.Path.{sym, _∙_}
+use borrow.Author.Needs.{needs}
+use Rattle.outgoing.proofs.OutgoingLaws.{later-slope, later-invalid}
+use Rattle.outgoing.proofs.passes.Statement.{statement}
+use Rattle.outgoing.proofs.passes.Tie as tie
+
+edge-to-requires : tie.Need-edge-to-requires
+edge-to-requires c κs = search needs
+
+admits-requires : tie.Need-admits-requires
+admits-requires c κs =
+    let pre = c .before .before .before .before .pre in
+    (pre .taken .fits, later-slope pre (c .edge-to .ensures))
+
+returns : tie.Need-returns
+returns c = λ r. later-invalid (c .before .before .before .before .before .pre) (c .before .edge-to .ensures) (sym (c .admits .ensures) ∙ r)
+
+pub passes-spec : {M : Type 1} → statement M
+passes-spec = tie.close (tie.spec edge-to-requires admits-requires returns)

@@ -1,0 +1,2 @@
+-- The definitions of the crate `probing`.
+pub mod Probing
