@@ -18,12 +18,12 @@ use Rattle.trace.specs.Trace.{tick}
 use Rattle.trace.specs.Link.{hole}
 use Rattle.trace.proofs.Holes.{hole-test}
 use Rattle.trace.proofs.Ticks.{not-earlier}
-use Rattle.scans.specs.declared.Sample.{Sample}
-use Rattle.scans.specs.Sample.{SampleAt}
-use Rattle.scans.specs.Answers.{part}
-use Rattle.scans.specs.Held.{Held, stepped, Steps, Numbers, Sized, Inside, heldIn}
-use Rattle.scans.specs.Scan.{criterionAt, Turning, Became, AllBecame, Sampling, Places, holeBefore, cutAt, Walked, Given, Scanning, Closing, Closed, Scanned}
-use Rattle.scans.proofs.HeldLaws.{Round, round-none, round-more, place-here, place-there, place-beyond, set-here, set-there, set-sized}
+use Rattle.turns.specs.declared.Sample.{Sample}
+use Rattle.turns.specs.Sample.{SampleAt}
+use Rattle.turns.specs.Held.{Held, stepped, Steps, Numbers, Sized, part, Inside, heldIn}
+use Rattle.turns.specs.Turn.{Turning, Became}
+use Rattle.turns.proofs.HeldLaws.{Round, round-none, round-more, place-here, place-there, place-beyond, set-here, set-there, set-sized}
+use Rattle.scans.specs.Scan.{criterionAt, AllBecame, Sampling, Places, holeBefore, cutAt, Walked, Given, Scanning, Closing, Closed, Scanned}
 use Rattle.scans.proofs.WalkedLaws.{walked-none, walked-count, walked-steps, walked-step, closed-count, closed-list}
 
 -- part b has room where all have

@@ -16,9 +16,9 @@ use Rattle.trace.specs.Link.{valid}
 use Rattle.trace.proofs.Validity.{steps-valid}
 use Rattle.trace.proofs.UpTo.{valid-up-to}
 use Rattle.reduction.specs.Walking.{walkList}
-use Rattle.scans.specs.declared.Sample.{Sample}
-use Rattle.scans.specs.Answers.{part, keptBefore}
-use Rattle.scans.specs.Held.{Held, Numbers, heldIn}
+use Rattle.turns.specs.declared.Sample.{Sample}
+use Rattle.turns.specs.Held.{Held, Numbers, part, heldIn}
+use Rattle.scans.specs.Answers.{keptBefore}
 use Rattle.scans.specs.Scan.{criterionAt, Walked, Scanning}
 use Rattle.scans.specs.Stream.{Streams}
 use Rattle.scans.proofs.PassLaws.{part-length}

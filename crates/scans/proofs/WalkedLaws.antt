@@ -31,12 +31,12 @@ use Rattle.trace.proofs.Validity.{steps-valid, valid-obeys, hole-invalid}
 use Rattle.trace.proofs.EdgeLaws.{edge-made}
 use Rattle.outgoing.specs.Outgoing.{TakenIn, Next}
 use Rattle.outgoing.proofs.OutgoingLaws.{next-at, next-valid, next-taken, next-tilt, taken-first, first-tilt}
-use Rattle.scans.specs.declared.Sample.{Sample}
-use Rattle.scans.specs.Sample.{SampleAt, edgeFrom, Ahead}
+use Rattle.turns.specs.declared.Sample.{Sample}
+use Rattle.turns.specs.Sample.{SampleAt, edgeFrom, Ahead}
+use Rattle.turns.specs.Held.{Held, goesOn, further, anew, stepped, Steps}
+use Rattle.turns.proofs.HeldLaws.{extended-fits, none-fits, stepped-yes, stepped-no, goes-not, goes-as}
 use Rattle.scans.specs.Answers.{keptBefore}
-use Rattle.scans.specs.Held.{Held, goesOn, further, anew, stepped, Steps}
 use Rattle.scans.specs.Scan.{holeBefore, cutAt, linksOf, Walked}
-use Rattle.scans.proofs.HeldLaws.{extended-fits, none-fits, stepped-yes, stepped-no, goes-not, goes-as}
 
 -- ---- a sample by value
 

@@ -1,9 +1,8 @@
 -- Walk at several tolerances in one pass (document 02, "Sixteen tolerances in one reading").
 --   criterionAt           the criterion of tolerance a under the gap limit
 --   Ratios                up to 16 tolerances, each allowed
---   KeptAt, Restarted     the two halves of a step that keeps a sample
---   Turning, Sampling     one tolerance's turn can be made; every one's
---   Became, AllBecame     entry b became h, and everything else stayed; every entry became what f gives
+--   Sampling              every tolerance's turn can be made
+--   AllBecame             every entry became what f gives
 --   Places                each tolerance writes at the start of its part next
 --   holeBefore, cutAt     a hole lies before sample j; links of more than one step to sample j + 1 are cut
 --   linksOf               what is held of a tolerance, as links from a sample
@@ -11,9 +10,8 @@
 --   Given, Scanning       what the pass requires; the pass with the samples up to j taken in
 --   Closing, Closed       every part can be closed with a sample; it was
 --   Scanned               every part begins with walk's list at its tolerance, and nothing else changed
--- Laws are in HeldLaws (Became), WalkedLaws (Walked) and PassLaws. Assumes nothing.
+-- Laws are in WalkedLaws (Walked) and PassLaws. Assumes nothing.
 use mathlib.Core.Path.{_≡_}
-use mathlib.Core.Logic.{_≢_}
 use mathlib.Core.Bool.{Bool, true, _||_}
 use mathlib.Core.List.{List}
 use Prim.Native.Nat.{ℕ, zero, suc, _+_, _-_, _*_, _≤_, _<_}
@@ -24,14 +22,13 @@ use Rattle.kept.specs.Walk.{walkStart}
 use Rattle.trace.specs.declared.Criterion.{Criterion}
 use Rattle.trace.specs.Trace.{Trace}
 use Rattle.trace.specs.Link.{Bounded, hole, valid, linksEnd}
-use Rattle.trace.specs.Cone.{coneFrom, extendedBy}
 use Rattle.outgoing.specs.declared.Links.{Links}
 use Rattle.outgoing.specs.Outgoing.{TakenIn}
 use Rattle.reduction.specs.Walking.{walkList}
-use Rattle.scans.specs.declared.Sample.{Sample}
-use Rattle.scans.specs.Sample.{SampleAt, edgeFrom, Put}
-use Rattle.scans.specs.Answers.{part, keptBefore}
-use Rattle.scans.specs.Held.{Held, Steps, Numbers, Sized, Inside, heldIn}
+use Rattle.turns.specs.declared.Sample.{Sample}
+use Rattle.turns.specs.Sample.{SampleAt}
+use Rattle.turns.specs.Held.{Held, Steps, Numbers, Sized, part, Inside, heldIn}
+use Rattle.scans.specs.Answers.{keptBefore}
 
 abbrev pub criterionAt : List ℕ → List ℕ → ℕ → ℕ → Criterion
 criterionAt ps qs g a = record { p = getD ps a 0; q = getD qs a 0; gap = g }
@@ -42,36 +39,6 @@ pub record Ratios (ps qs : List ℕ) (g : ℕ) : Type 0 where
   pub bounded : (a : ℕ) → a < length ps → Bounded (criterionAt ps qs g a)
 
 -- ---- one sample
-
--- the sample `at` was kept at the place of entry b, whose next place is one further
-pub record KeptAt (at b : ℕ) (places out places′ out′ : List ℕ) : Type 0 where
-  pub place : places′ ≡ set places b (getD places b 0 + 1)
-  pub list : out′ ≡ set out (getD places b 0) at
-
--- the open link of entry b starts at the sample before
-pub record Restarted (c : Criterion) (before here : Sample) (b : ℕ) (s s′ : Numbers) : Type 0 where
-  pub start : s′ .starts ≡ set (s .starts) b (before .tick)
-  pub base : s′ .bases ≡ set (s .bases) b (c .q * before .level)
-  pub low : Put (s .lowClimbs) (s .lowRuns) b (extendedBy (coneFrom (c .p)) (edgeFrom (c .q) (before .tick) (c .q * before .level) here) (c .p) .low) (s′ .lowClimbs) (s′ .lowRuns)
-  pub high : Put (s .highClimbs) (s .highRuns) b (extendedBy (coneFrom (c .p)) (edgeFrom (c .q) (before .tick) (c .q * before .level) here) (c .p) .high) (s′ .highClimbs) (s′ .highRuns)
-
--- entry b is one of 16, and its part has room
-pub record Turning (c : Criterion) (cut : Bool) (before here : Sample) (at n b : ℕ) (s : Numbers) (out : List ℕ) : Type 0 where
-  pub few : b < 16
-  pub sized : Sized s
-  pub steps : Steps c cut before here (heldIn n s out b)
-  pub room : b * n + n ≤ length out
-  pub inside : Inside n b (getD (s .places) b 0)
-  pub number : at < 65536
-
--- where each tolerance writes next, only that of b may change, and no place goes back
-pub record Became (n b : ℕ) (h : Held) (s : Numbers) (out : List ℕ) (s′ : Numbers) (out′ : List ℕ) : Type 0 where
-  pub sized : Sized s′
-  pub this : heldIn n s′ out′ b ≡ h
-  pub others : (a : ℕ) → a ≢ b → heldIn n s′ out′ a ≡ heldIn n s out a
-  pub elsewhere : (a : ℕ) → a ≢ b → getD (s′ .places) a 0 ≡ getD (s .places) a 0
-  pub places : (a : ℕ) → getD (s .places) a 0 ≤ getD (s′ .places) a 0
-  pub beyond : (m : ℕ) → b < m → drop (m * n) out′ ≡ drop (m * n) out
 
 pub record AllBecame (m n : ℕ) (f : ℕ → Held) (s : Numbers) (out : List ℕ) (s′ : Numbers) (out′ : List ℕ) : Type 0 where
   pub sized : Sized s′

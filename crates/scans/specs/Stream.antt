@@ -10,7 +10,7 @@ use lib.ListN.{length, set, take}
 use Rattle.lists.specs.Overwrite.{overwrite}
 use Rattle.trace.specs.declared.Criterion.{Criterion}
 use Rattle.reduction.specs.Walking.{walkList}
-use Rattle.scans.specs.Held.{Held}
+use Rattle.turns.specs.Held.{Held}
 
 pub record Streams (ts : List ℕ) (vs : List ℤ) (c : Criterion) (o : List ℕ) (j : ℕ) (h : Held) : Type 0 where
   pub list : set (h .list) (h .count) j ≡ overwrite (walkList (take (suc j) ts) (take (suc j) vs) c) o

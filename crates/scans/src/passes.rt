@@ -2,16 +2,16 @@
 ghost use mathlib.Core.Path.{_≡_};
 ghost use Prim.Native.Nat.{_≤_, _<_};
 ghost use lib.ListN.{length};
-ghost use Rattle.scans.specs.Held.{stepped, numbers, heldIn};
+ghost use Rattle.turns.specs.Held.{stepped, numbers, heldIn};
 ghost use Rattle.scans.specs.Scan.{criterionAt, Places, Sampling, AllBecame, Closing, Closed, Given, Scanned};
 use crate::Kept;
-use crate::Sample;
 use crate::Starts;
-use crate::samples::far_apart;
-use crate::samples::sample_at;
-use crate::turns::turn;
 use reduction::entries::store;
 use trace::Criterion;
+use turns::Sample;
+use turns::samples::far_apart;
+use turns::samples::sample_at;
+use turns::turn;
 
 // Each tolerance's next place: the start of its part, as many entries long as the trace has samples.
 fn part_starts(m: usize, n: usize) -> Starts

@@ -4,7 +4,7 @@ use mathlib.Core.Path.{refl}
 use Prim.Native.Nat.{_-_}
 use native.Mathlib.Omega.{arith}
 use borrow.Author.Needs.{needs}
-use Rattle.scans.specs.Held.{numbers}
+use Rattle.turns.specs.Held.{numbers}
 use Rattle.scans.specs.Scan.{Scanning}
 use Rattle.scans.proofs.PassLaws.{scan-first, scan-order, sampling, scan-next, closing, scan-closed}
 use Rattle.scans.proofs.passes.scan.Statement.{statement}

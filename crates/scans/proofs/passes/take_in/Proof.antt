@@ -2,7 +2,7 @@
 use Prim.Native.Nat.{_-_}
 use native.Mathlib.Omega.{arith}
 use lib.ListN.{length}
-use Rattle.scans.specs.Held.{stepped, numbers, heldIn}
+use Rattle.turns.specs.Held.{stepped, numbers, heldIn}
 use Rattle.scans.specs.Scan.{criterionAt}
 use Rattle.scans.proofs.PassLaws.{Looping, loop-first, loop-next, loop-done, loop-own, turning-at}
 use borrow.Author.Needs.{needs}

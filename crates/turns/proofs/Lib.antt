@@ -1,0 +1,3 @@
+-- The laws of the crate `turns`.
+pub mod SampleLaws
+pub mod HeldLaws
