@@ -34,11 +34,11 @@ use Rattle.tolerance.specs.declared.Meaning.the-variants.{Exact, NotAllowed}
 use Rattle.tolerance.specs.Meaning.{meaning}
 use Rattle.engine.specs.Checks.{ownRows}
 use Rattle.limits.specs.Prepare.{toleranceRow}
+use Rattle.listing.specs.declared.Counts.{Counts}
 use Rattle.pedestals.specs.declared.Cause.{Cause}
 use Rattle.pedestals.specs.declared.Cause.the-variants.{Call, Trace}
 use Rattle.pedestals.specs.declared.Check.{Check}
 use Rattle.pedestals.specs.declared.Check.the-variants.{Fine, Refused}
-use Rattle.pedestals.specs.declared.Counts.{Counts}
 use Rattle.pedestals.specs.declared.Compared.{Compared}
 use Rattle.pedestals.specs.declared.Compared.the-variants.{Listed as IsListed, Refused as Declined}
 use Rattle.verdicts.specs.Sums.{moved, noisy}

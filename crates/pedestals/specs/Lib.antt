@@ -1,4 +1,3 @@
 -- What the crate `pedestals` holds.
 pub mod Compare
 pub mod Checking
-pub mod Listing

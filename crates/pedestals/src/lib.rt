@@ -1,6 +1,7 @@
 // The comparison of two pedestal runs of a crate: a product above the engine, from its public calls alone.
 ghost use mathlib.Core.Path.{_≡_};
 ghost use Rattle.pedestals.specs.Compare.{causeNumber, causeValue, runOf, CompareOutcome};
+use listing::Counts;
 use ratio::Ratio;
 use refusal::Refusal;
 use tolerance::Tolerance;
@@ -23,12 +24,6 @@ enum Ready {
     Refused(Cause),
 }
 
-// How many channels have moved, and how many are noisy.
-pub struct Counts {
-    pub moved: usize,
-    pub noisy: usize,
-}
-
 // What `compare` answers: the lengths of both lists, or why it is refused.
 pub enum Compared {
     Listed(Counts),
@@ -36,7 +31,6 @@ pub enum Compared {
 }
 
 mod checks;
-mod listing;
 
 // A cause's number: of a channel's trace its own.
 pub fn number(x: Cause) -> u32

@@ -21,7 +21,7 @@ use Rattle.trace.proofs.TraceLaws.{rows-counts}
 use Rattle.tolerance.specs.declared.Tolerance.{Tolerance}
 use Rattle.tolerance.specs.Meaning.{meaning}
 use Rattle.pedestals.specs.declared.Check.the-variants.{Fine}
-use Rattle.pedestals.specs.declared.Counts.{Counts}
+use Rattle.listing.specs.declared.Counts.{Counts}
 use Rattle.pedestals.specs.declared.Compared.{Compared}
 use Rattle.pedestals.specs.declared.Compared.the-variants.{Listed as IsListed, Refused as Declined}
 use Rattle.pedestals.specs.Compare.{Run, valuesOf, heldRatio, runsRow, channelRow, channelRows, compareRows, hasMoved, isNoisy, movedChannels, noisyChannels, CompareOutcome}

@@ -1,8 +1,8 @@
--- `pedestals::listing::put` meets its contract. Assumes nothing.
+-- `listing::put` meets its contract. Assumes nothing.
 use mathlib.Core.Path.{refl}
 use borrow.Author.Needs.{needs}
-use Rattle.pedestals.proofs.listing.put.Statement.{statement}
-use Rattle.pedestals.proofs.listing.put.Tie as tie
+use Rattle.listing.proofs.put.Statement.{statement}
+use Rattle.listing.proofs.put.Tie as tie
 
 cast-list : tie.Need-cast-list
 cast-list c = search needs

@@ -1,12 +1,12 @@
--- `pedestals::listing::list_channels` meets its contract: the loop has the lists of the channels before c. Assumes nothing.
+-- `listing::list_channels` meets its contract: the loop has the lists of the channels before c. Assumes nothing.
 use Prim.Native.Nat.{_-_}
 use native.Mathlib.Nat.{lt-of-le-of-lt}
 use native.Mathlib.Omega.{arith}
 use lib.ListN.{length}
-use Rattle.pedestals.proofs.ListLaws.{Listing, listing-none, listing-lengths, listing-fits, listing-rooms, listing-more, listing-all}
+use Rattle.listing.proofs.ListingLaws.{Listing, listing-none, listing-lengths, listing-fits, listing-rooms, listing-more, listing-all}
 use borrow.Author.Needs.{needs}
-use Rattle.pedestals.proofs.listing.list_channels.Statement.{statement}
-use Rattle.pedestals.proofs.listing.list_channels.Tie as tie
+use Rattle.listing.proofs.list_channels.Statement.{statement}
+use Rattle.listing.proofs.list_channels.Tie as tie
 
 abbrev Inv-loop : tie.InvT-loop
 Inv-loop today earlier lengths r k moved₀ noisy₀ a₀ b₀ at₀ c₀ moved noisy a b at c = Listing today earlier lengths r k moved₀ noisy₀ moved noisy a b at c

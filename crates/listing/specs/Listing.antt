@@ -4,7 +4,7 @@
 --   Listable             what the checks show: runs of the same lengths, and room for each channel in both lists
 --   movedIn, noisyIn     the two tests of a channel
 --   BothListed           both lists are made
--- Assumes nothing.
+-- Laws are in ListingLaws. Assumes nothing.
 use mathlib.Core.Path.{_≡_}
 use mathlib.Core.Bool.{Bool, cond}
 use mathlib.Core.List.{List}
@@ -16,8 +16,8 @@ use Rattle.lists.specs.Listed.{listed}
 use Rattle.channels.specs.Channels.{sum, ofChannel}
 use Rattle.ratio.specs.declared.Ratio.{Ratio}
 use Rattle.tolerance.specs.Meaning.{Held}
-use Rattle.pedestals.specs.declared.Counts.{Counts}
 use Rattle.verdicts.specs.Sums.{moved, noisy}
+use Rattle.listing.specs.declared.Counts.{Counts}
 
 pub record Put (o : List ℕ) (n c : ℕ) (belongs : Bool) (r : ℕ) (o′ : List ℕ) : Type 0 where
   pub count : r ≡ cond belongs (n + 1) n

@@ -1,13 +1,18 @@
-// The two lists of channels.
+// The two lists of channels that a comparison of pedestal runs makes: those that have moved, and those that are noisy.
 ghost use Prim.Native.Nat.{_≤_, _<_};
 ghost use lib.ListN.{length};
 ghost use Rattle.channels.specs.Channels.{part};
 ghost use Rattle.verdicts.specs.Sums.{Judged};
-ghost use Rattle.pedestals.specs.Listing.{Put, PartFits, Listable, BothListed};
-use crate::Counts;
+ghost use Rattle.listing.specs.Listing.{Put, PartFits, Listable, BothListed};
 use ratio::Ratio;
 use verdicts::Verdict;
 use verdicts::verdict_of;
+
+// How many channels have moved, and how many are noisy.
+pub struct Counts {
+    pub moved: usize,
+    pub noisy: usize,
+}
 
 // Puts channel c behind the n entries of a list if it belongs there; returns how many there are then.
 fn put(list: &mut [u16], n: usize, c: usize, belongs: bool) -> usize

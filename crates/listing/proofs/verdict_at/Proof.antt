@@ -1,8 +1,8 @@
--- `pedestals::listing::verdict_at` meets its contract. Assumes nothing.
-use Rattle.pedestals.proofs.ListLaws.{part-judged}
+-- `listing::verdict_at` meets its contract. Assumes nothing.
+use Rattle.listing.proofs.ListingLaws.{part-judged}
 use borrow.Author.Needs.{needs}
-use Rattle.pedestals.proofs.listing.verdict_at.Statement.{statement}
-use Rattle.pedestals.proofs.listing.verdict_at.Tie as tie
+use Rattle.listing.proofs.verdict_at.Statement.{statement}
+use Rattle.listing.proofs.verdict_at.Tie as tie
 
 add-end : tie.Need-add-end
 add-end c = search needs

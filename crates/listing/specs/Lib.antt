@@ -1,0 +1,2 @@
+-- The definitions of the crate `listing`.
+pub mod Listing
