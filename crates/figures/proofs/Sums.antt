@@ -20,7 +20,8 @@ use Rattle.kept.specs.Error.{errorFrom}
 use Rattle.trace.specs.Trace.{traceRows}
 use Rattle.trace.specs.Link.{deviation, within, allFrom, hole, obeys, allWithin, valid, greatest, farthest, linkError, listError, limited}
 use Rattle.proposed.specs.Proposed.{badAt, listRow}
-use Rattle.summed.specs.Sum.{mismatchRow, sumsOf, overflowRow, sumRows, joinedOf, twiceSum}
+use Rattle.matching.specs.Match.{mismatchRow}
+use Rattle.summed.specs.Sum.{sumsOf, overflowRow, sumRows, joinedOf, twiceSum}
 
 -- ---- the bound is reached: list 1 has the error 0 and list 2 the error 1, and the joined list has the error 2
 

@@ -1,5 +1,4 @@
 -- Summed channels (document 02, "Summed channels"): two traces added sample by sample, and their two kept lists joined.
---   differAt, mismatchRow     a sample whose ticks differ or that one trace lacks; row 17
 --   sumsOf                    the values of the summed trace
 --   outside                   a sum that is below -32,768 or above 32,767
 --   overflowAt, overflowRow   a sample whose sum is; row 18
@@ -10,34 +9,27 @@
 --   JoinedWithin              what is promised of the joined list
 --   Summable, Joinable        what the checks show of traces to be added and of lists to be joined
 -- Laws are in RowLaws, EntryLaws, JoinLaws and SumLaws. Assumes nothing.
-use mathlib.Core.Bool.{Bool, false, not, _||_}
+use mathlib.Core.Bool.{Bool, false, _||_}
 use mathlib.Core.List.{List, [], _∷_}
 use mathlib.Core.Path.{_≡_}
-use Prim.Native.Nat.{ℕ, _+_, _-_, _*_, _≤_, min, max}
-use lib.Dec.{leb, eqb}
+use Prim.Native.Nat.{ℕ, _+_, _-_, _*_, _≤_}
+use lib.Dec.{eqb}
 use lib.IntN.{ℤ, pos, negsuc, _+ℤ_}
 use lib.ListN.{length}
 use lib.Signed.{ltZ}
 use Rattle.lists.specs.First.{first, Clear}
 use Rattle.lists.specs.Listed.{listed}
-use Rattle.refusal.specs.declared.Refusal.the-variants.{Mismatch, Overflow}
+use Rattle.refusal.specs.declared.Refusal.the-variants.{Overflow}
 use Rattle.refusal.specs.declared.Checked.{Checked}
 use Rattle.refusal.specs.Table.{placed, roomRow, _thenCheck_}
 use Rattle.ratio.specs.declared.Ratio.{Ratio}
 use Rattle.kept.specs.Kept.{KeptList, AllValid}
-use Rattle.trace.specs.Trace.{tick, value, traceRows}
+use Rattle.trace.specs.Trace.{value, traceRows}
 use Rattle.trace.specs.Link.{valid, limited}
 use Rattle.proposed.specs.Proposed.{listRow}
+use Rattle.matching.specs.Match.{mismatchRow}
 
 -- ---- rows
-
--- the ticks of sample k differ, or one trace lacks it
-abbrev pub differAt : List ℕ → List ℕ → ℕ → Bool
-differAt ts us k = leb (min (length ts) (length us)) k || not (eqb (tick ts k) (tick us k))
-
--- 17: ticks differ, at the first sample that differs or is missing in one
-unfoldable pub mismatchRow : List ℕ → List ℕ → Checked
-mismatchRow ts us = let n = max (length ts) (length us) in placed Mismatch n (first (differAt ts us) 0 n)
 
 -- sample by sample
 abbrev pub sumsOf : List ℤ → List ℤ → List ℤ

@@ -1,5 +1,5 @@
-// Summed channels: two traces with the same ticks added sample by sample (adding), where their ticks agree (matching), and their two kept
-// lists joined (joining); the checks of all that.
+// Summed channels: two traces with the same ticks added sample by sample (adding), and their two kept lists joined (joining); the checks of
+// all that.
 ghost use mathlib.Core.Path.{_≡_};
 ghost use Rattle.refusal.specs.Table.{roomRow, _thenCheck_};
 ghost use Rattle.summed.specs.Sum.{sumRows};
@@ -8,7 +8,6 @@ use refusal::Refusal;
 
 pub mod adding;
 pub mod joining;
-mod matching;
 
 // Check 10 of both outputs, which have so many entries; n are needed.
 fn check_rooms(n: usize, sums: usize, joined: usize) -> Checked

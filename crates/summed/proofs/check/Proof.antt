@@ -5,7 +5,8 @@ use lib.ListN.{length}
 use Rattle.refusal.specs.declared.Checked.the-variants.{Fine}
 use Rattle.trace.specs.Trace.{traceRows}
 use Rattle.proposed.specs.Proposed.{listRow}
-use Rattle.summed.specs.Sum.{mismatchRow, overflowRow}
+use Rattle.matching.specs.Match.{mismatchRow}
+use Rattle.summed.specs.Sum.{overflowRow}
 use Rattle.summed.proofs.RowLaws.{trace1-refused, trace2-refused, list1-refused, list2-refused, ticks-refused, values-refused, values-fine, same-counts}
 use Rattle.summed.proofs.check.Statement.{statement}
 use Rattle.summed.proofs.check.Tie as tie

@@ -4,7 +4,7 @@ ghost use mathlib.Core.Bool.{false};
 ghost use Prim.Native.Nat.{min};
 ghost use lib.ListN.{length};
 ghost use Rattle.lists.specs.First.{first, Clear};
-ghost use Rattle.summed.specs.Sum.{differAt, mismatchRow};
+ghost use Rattle.matching.specs.Match.{differAt, mismatchRow};
 use refusal::Checked;
 use refusal::Refusal;
 

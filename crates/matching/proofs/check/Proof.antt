@@ -1,9 +1,9 @@
--- `summed::matching::check` meets its contract. Assumes nothing.
+-- `matching::check` meets its contract. Assumes nothing.
 use borrow.Author.Needs.{needs}
 use native.Mathlib.Omega.{arith}
-use Rattle.summed.proofs.RowLaws.{mismatch-at, mismatch-none}
-use Rattle.summed.proofs.matching.check.Statement.{statement}
-use Rattle.summed.proofs.matching.check.Tie as tie
+use Rattle.matching.proofs.MatchLaws.{mismatch-at, mismatch-none}
+use Rattle.matching.proofs.check.Statement.{statement}
+use Rattle.matching.proofs.check.Tie as tie
 
 shorter-requires : tie.Need-shorter-requires
 shorter-requires c κs = search needs

@@ -1,4 +1,4 @@
--- `summed::matching::first_different` meets its contract: it searches only where some ticks differ. Assumes nothing.
+-- `matching::first_different` meets its contract: it searches only where some ticks differ. Assumes nothing.
 use borrow.Author.Needs.{needs}
 use borrow.Author.Tests.{not-true, eq-eqb, ne-eqb}
 use mathlib.Core.Path.{_≡_, sym, _∙_, ap}
@@ -8,10 +8,10 @@ use native.Mathlib.Omega.{arith}
 use lib.Dec.{eqb}
 use Rattle.lists.proofs.FirstLaws.{first-none, Searching, searching-none, searching-more, searched-at, searched-none}
 use Rattle.trace.specs.Trace.{tick}
-use Rattle.summed.specs.Sum.{differAt}
-use Rattle.summed.proofs.RowLaws.{differ-test}
-use Rattle.summed.proofs.matching.first_different.Statement.{statement}
-use Rattle.summed.proofs.matching.first_different.Tie as tie
+use Rattle.matching.specs.Match.{differAt}
+use Rattle.matching.proofs.MatchLaws.{differ-test}
+use Rattle.matching.proofs.first_different.Statement.{statement}
+use Rattle.matching.proofs.first_different.Tie as tie
 
 abbrev Inv-loop : tie.InvT-loop
 Inv-loop ticks1 ticks2 n k₀ k = Searching (differAt ticks1 ticks2) 0 n k

@@ -1,14 +1,14 @@
--- `summed::matching::some_differ` meets its contract: while `some` is false no ticks before k differ. Assumes nothing.
+-- `matching::some_differ` meets its contract: while `some` is false no ticks before k differ. Assumes nothing.
 use borrow.Author.Needs.{needs}
 use mathlib.Core.Path.{ap}
 use mathlib.Core.Bool.{not}
 use Prim.Native.Nat.{_-_}
 use native.Mathlib.Omega.{arith}
 use Rattle.lists.proofs.FirstLaws.{Passing, passing-none, passing-more, passed}
-use Rattle.summed.specs.Sum.{differAt}
-use Rattle.summed.proofs.RowLaws.{differ-test}
-use Rattle.summed.proofs.matching.some_differ.Statement.{statement}
-use Rattle.summed.proofs.matching.some_differ.Tie as tie
+use Rattle.matching.specs.Match.{differAt}
+use Rattle.matching.proofs.MatchLaws.{differ-test}
+use Rattle.matching.proofs.some_differ.Statement.{statement}
+use Rattle.matching.proofs.some_differ.Tie as tie
 
 abbrev Inv-loop : tie.InvT-loop
 Inv-loop ticks1 ticks2 n some₀ k₀ some k = Passing (differAt ticks1 ticks2) 0 n some k
