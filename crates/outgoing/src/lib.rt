@@ -1,4 +1,5 @@
-// The links from one sample of a trace: each is tested, and each sample taken in, in constant time. Walk's stop from that sample is in stops.
+// The links from one sample of a trace: each is tested, and each sample taken in, in constant time. Walk's stop from that sample is in stops,
+// and entries of the list in entries.
 ghost use mathlib.Core.Path.{_≡_};
 ghost use mathlib.Core.Bool.{false};
 ghost use Prim.Native.Nat.{_+_, _<_};
@@ -23,6 +24,7 @@ pub struct Links {
     pub limit: usize,
 }
 
+pub mod entries;
 pub mod stops;
 
 // The links from sample i, with the next sample taken in.

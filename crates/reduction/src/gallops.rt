@@ -5,7 +5,7 @@ ghost use Rattle.trace.specs.Trace.{Trace};
 ghost use Rattle.trace.specs.Link.{Bounded};
 ghost use Rattle.reduction.specs.Galloping.{Gallops};
 use crate::Galloped;
-use crate::entries::store;
+use outgoing::entries::store;
 use probing::search;
 use trace::Criterion;
 use trace::gaps::links_end;

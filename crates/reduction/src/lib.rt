@@ -1,4 +1,4 @@
-// Reductions of a checked trace: entries of the list (entries), walk (walks) and gallop (gallops).
+// Reductions of a checked trace: walk (walks) and gallop (gallops).
 
 // How many samples gallop kept, and the probes that it made.
 pub struct Galloped {
@@ -6,6 +6,5 @@ pub struct Galloped {
     pub probes: usize,
 }
 
-pub mod entries;
 pub mod gallops;
 pub mod walks;

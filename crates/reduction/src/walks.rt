@@ -5,7 +5,7 @@ ghost use Rattle.lists.specs.Overwrite.{Wrote};
 ghost use Rattle.trace.specs.Trace.{Trace};
 ghost use Rattle.trace.specs.Link.{Bounded};
 ghost use Rattle.reduction.specs.Walking.{walkList};
-use crate::entries::store;
+use outgoing::entries::store;
 use outgoing::stops::stop_after;
 use trace::Criterion;
 use trace::gaps::links_end;

@@ -6,7 +6,7 @@ ghost use Rattle.turns.specs.Held.{stepped, numbers, heldIn};
 ghost use Rattle.scans.specs.Scan.{criterionAt, Places, Sampling, AllBecame, Closing, Closed, Given, Scanned};
 use crate::Kept;
 use crate::Starts;
-use reduction::entries::store;
+use outgoing::entries::store;
 use trace::Criterion;
 use turns::Sample;
 use turns::samples::far_apart;

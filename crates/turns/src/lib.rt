@@ -12,7 +12,7 @@ use crate::bounds::lower_high;
 use crate::bounds::put_edge;
 use crate::bounds::raise_low;
 use crate::samples::edge_from;
-use reduction::entries::store;
+use outgoing::entries::store;
 use trace::Cone;
 use trace::Criterion;
 use trace::cones::admits;
