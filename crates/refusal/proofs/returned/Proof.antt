@@ -62,6 +62,9 @@ enum-known-r-12 c = search needs
 enum-told-7 : tie.Need-enum-told-7
 enum-told-7 c = search needs
 
+enum-told-8 : tie.Need-enum-told-8
+enum-told-8 c = search needs
+
 returns : tie.Need-returns
 returns c = sym (ap returnedOf (c .enum-told .given .1))
 
@@ -119,6 +122,9 @@ returns-18 c = sym (ap returnedOf (c .before .r12 .given .1))
 returns-19 : tie.Need-returns-19
 returns-19 c = sym (ap returnedOf (c .enum-told7 .given .1))
 
+returns-20 : tie.Need-returns-20
+returns-20 c = sym (ap returnedOf (c .enum-told8 .given .1))
+
 pub returned-spec : {M : Type 1} → statement M
 returned-spec =
     tie.close
@@ -142,6 +148,7 @@ returned-spec =
     enum-known-r-11
     enum-known-r-12
     enum-told-7
+    enum-told-8
     returns
     returns-2
     returns-3
@@ -160,4 +167,5 @@ returned-spec =
     returns-16
     returns-17
     returns-18
-    returns-19)
+    returns-19
+    returns-20)
