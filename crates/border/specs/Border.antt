@@ -3,7 +3,8 @@
 --   entryOf, tolerancesOf   one of several tolerances; all of them
 --   sideNumber   the number of a side
 --   numberIn, valueIn   0 and 0 for success, or the refusal's number and value
---   heldOf, measuredOf, judgedOf, keptOf, scannedOf, gallopedOf, closestOf, writtenOf, readOf, comparedOf, reportOf, listedOf   an answer as numbers: 0 for success, or the refusal's number and value
+--   heldOf, measuredOf, judgedOf, keptOf, checkedOf, begunOf, scannedOf, gallopedOf, closestOf, writtenOf, readOf, comparedOf, reportOf, listedOf   an answer as numbers: 0 for success, or the refusal's number and value
+--   steppedOf   what an addition to a view answers, as numbers, and the state after it
 -- Assumes nothing.
 use mathlib.Core.Bool.{cond}
 use mathlib.Core.List.{map}
@@ -28,6 +29,7 @@ use Rattle.engine.specs.declared.Verdict.the-variants.{Yes, No, Refused}
 use Rattle.engine.specs.declared.Reduced.{Reduced}
 use Rattle.engine.specs.declared.Reduced.the-variants.{Kept as IsKept, Refused as NotKept}
 use Rattle.engine.specs.declared.Scanned as N
+use Rattle.live.specs.declared.Viewed.{Viewed}
 use Rattle.engine.specs.declared.Probed.{Probed}
 use Rattle.engine.specs.declared.Probed.the-variants.{Kept as IsGalloped, Refused as NotGalloped}
 use Rattle.engine.specs.declared.Closest as C
@@ -51,6 +53,8 @@ use Rattle.border.specs.declared.Measured.{Measured}
 use Rattle.border.specs.declared.Judged.{Judged}
 use Rattle.border.specs.declared.Verdict.{Verdict}
 use Rattle.border.specs.declared.Answer.{Answer}
+use Rattle.border.specs.declared.Begun.{Begun}
+use Rattle.border.specs.declared.Stepped.{Stepped}
 use Rattle.border.specs.declared.Scanned.{Scanned}
 use Rattle.border.specs.declared.Closest.{Closest}
 use Rattle.border.specs.declared.Content.{Content}
@@ -104,6 +108,15 @@ numberIn (IsRefused x) = numberOf x
 abbrev pub valueIn : Checked → ℕ
 valueIn Fine = 0
 valueIn (IsRefused x) = returnedOf x
+
+abbrev pub checkedOf : Checked → Answer
+checkedOf c = record { number = numberIn c; value = valueIn c }
+
+abbrev pub begunOf : Viewed → Begun
+begunOf v = record { number = numberIn (v .checked); value = valueIn (v .checked); view = v .view }
+
+abbrev pub steppedOf : Viewed → Stepped
+steppedOf v = record { answer = checkedOf (v .checked); view = v .view }
 
 abbrev pub scannedOf : N.Scanned → Scanned
 scannedOf s = record { number = numberIn (s .checked); value = valueIn (s .checked); kept = s .counts }

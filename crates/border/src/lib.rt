@@ -1,6 +1,8 @@
 // The border of the C interface: its structs, and the converters between them and the enums of `engine` and of the products above it.
 ghost use mathlib.Core.Path.{_≡_};
-ghost use Rattle.border.specs.Border.{toleranceOf, limitsOf, entryOf, tolerancesOf, heldOf, sideNumber, measuredOf, judgedOf, keptOf, scannedOf, gallopedOf, closestOf, writtenOf, readOf, comparedOf, reportOf, listedOf};
+ghost use Rattle.border.specs.Border.{toleranceOf, limitsOf, entryOf, tolerancesOf, heldOf, sideNumber, measuredOf, judgedOf, keptOf, checkedOf, begunOf, steppedOf, scannedOf, gallopedOf, closestOf, writtenOf, readOf, comparedOf, reportOf, listedOf};
+use live::View;
+use live::Viewed;
 use sheet::Sheet;
 
 // A tolerance: form 0 is the ratio p/q, form 1 is x counts, form 2 is the noise x times the multiple y. No other form is allowed.
@@ -80,6 +82,20 @@ pub struct Galloped {
     pub number: u32,
     pub value: u64,
     pub probes: u64,
+}
+
+// A view under the number 0; or a refusal's number and value, and zeros.
+#[repr(C)]
+pub struct Begun {
+    pub number: u32,
+    pub value: u64,
+    pub view: View,
+}
+
+// What an addition to a view answers, and the state after it.
+pub struct Stepped {
+    pub answer: Answer,
+    pub view: View,
 }
 
 // How many samples were kept at each tolerance under the number 0, and 0 behind the last; or a refusal's number and value, and zeros.
@@ -316,6 +332,43 @@ pub fn scanned_of(s: engine::Scanned) -> Scanned
             kept,
         },
     }
+}
+
+fn checked_of(c: refusal::Checked) -> Answer
+    ensures { λ r. ⌜ r ≡ checkedOf c ⌝ }
+{
+    match c {
+        refusal::Checked::Fine => Answer {
+            number: 0,
+            value: 0,
+        },
+        refusal::Checked::Refused(x) => Answer {
+            number: refusal::number(x),
+            value: refusal::returned(x) as u64,
+        },
+    }
+}
+
+pub fn begun_of(v: Viewed) -> Begun
+    ensures { λ r. ⌜ r ≡ begunOf v ⌝ }
+{
+    let checked = v.checked;
+    let view = v.view;
+    let answer = checked_of(checked);
+    Begun {
+        number: answer.number,
+        value: answer.value,
+        view,
+    }
+}
+
+pub fn stepped_of(v: Viewed) -> Stepped
+    ensures { λ r. ⌜ r ≡ steppedOf v ⌝ }
+{
+    let checked = v.checked;
+    let view = v.view;
+    let answer = checked_of(checked);
+    Stepped { answer, view }
 }
 
 pub fn galloped_of(a: engine::Probed) -> Galloped

@@ -69,5 +69,6 @@ pub mod report;
 pub mod same;
 pub mod scan;
 pub mod sum;
+pub mod view;
 pub mod walk;
 pub mod write;

@@ -1,11 +1,14 @@
 -- What the exports of the C interface promise.
---   HoldExport, MeasureExport, JudgeExport, WalkExport, ScanExport, GallopExport, MinimumExport, LeastExport, SumExport, ExpandExport, ExpandWithExport, WriteExport, ReadExport, SameExport,
+--   HoldExport, MeasureExport, JudgeExport, WalkExport, ScanExport, GallopExport, MinimumExport, LeastExport, ViewBeginExport, ViewAddExport, SumExport, ExpandExport, ExpandWithExport, WriteExport, ReadExport, SameExport,
 --   ReportExport, PedestalsExport   an export's answer is that of the public call, with its whole outcome
 -- Assumes nothing.
 use mathlib.Core.Path.{_≡_}
 use mathlib.Core.List.{List}
 use Prim.Native.Nat.{ℕ}
 use lib.IntN.{ℤ}
+use Rattle.refusal.specs.declared.Checked.{Checked}
+use Rattle.live.specs.declared.View.{View}
+use Rattle.live.specs.Live.{begunOf as begunBy, AddOutcome}
 use Rattle.engine.specs.declared.Holding.{Holding}
 use Rattle.engine.specs.declared.Measured as M
 use Rattle.engine.specs.declared.Verdict as E
@@ -40,13 +43,14 @@ use Rattle.border.specs.declared.Measured.{Measured}
 use Rattle.border.specs.declared.Judged.{Judged}
 use Rattle.border.specs.declared.Verdict.{Verdict}
 use Rattle.border.specs.declared.Answer.{Answer}
+use Rattle.border.specs.declared.Begun.{Begun}
 use Rattle.border.specs.declared.Scanned.{Scanned}
 use Rattle.border.specs.declared.Closest.{Closest}
 use Rattle.border.specs.declared.Content.{Content}
 use Rattle.border.specs.declared.Galloped.{Galloped}
 use Rattle.border.specs.declared.Report.{Report}
 use Rattle.border.specs.declared.Compared.{Compared}
-use Rattle.border.specs.Border.{toleranceOf, limitsOf, tolerancesOf, heldOf, measuredOf, judgedOf, keptOf, scannedOf, gallopedOf, closestOf, writtenOf, readOf, comparedOf, reportOf, listedOf}
+use Rattle.border.specs.Border.{toleranceOf, limitsOf, tolerancesOf, heldOf, measuredOf, judgedOf, keptOf, checkedOf, begunOf, scannedOf, gallopedOf, closestOf, writtenOf, readOf, comparedOf, reportOf, listedOf}
 
 pub record HoldExport (t : Tolerance) (r : Held) : Type 0 where
   pub answer : Holding
@@ -87,6 +91,14 @@ pub record LeastExport (ts : List ℕ) (vs : List ℤ) (g m : ℕ) (o : List ℕ
   pub answer : C.Closest
   pub is : r ≡ closestOf answer
   pub outcome : LeastOutcome ts vs g m o answer o′
+
+abbrev pub ViewBeginExport : ℕ → Begun → Type 0
+ViewBeginExport k r = r ≡ begunOf (begunBy k)
+
+pub record ViewAddExport (ts : List ℕ) (vs : List ℤ) (before : View) (r : Answer) (after : View) : Type 0 where
+  pub answer : Checked
+  pub is : r ≡ checkedOf answer
+  pub outcome : AddOutcome ts vs before answer after
 
 pub record SumExport (ts : List ℕ) (vs : List ℤ) (us : List ℕ) (ws : List ℤ) (l m : List ℕ) (o : List ℤ) (p : List ℕ) (r : Answer) (o′ : List ℤ) (p′ : List ℕ) : Type 0 where
   pub answer : Reduced

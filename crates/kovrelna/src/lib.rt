@@ -1,9 +1,10 @@
 // The C interface: each export is a public call of `engine` or of a product above it, with the numbers and structs of `border` for its enums.
 ghost use Rattle.engine.specs.Report.{Surveyed};
 ghost use Rattle.border.specs.Border.{limitsOf};
-ghost use Rattle.kovrelna.specs.Exports.{HoldExport, MeasureExport, JudgeExport, WalkExport, ScanExport, GallopExport, MinimumExport, LeastExport, SumExport, ExpandExport, ExpandWithExport, WriteExport, ReadExport, SameExport, ReportExport, PedestalsExport};
+ghost use Rattle.kovrelna.specs.Exports.{HoldExport, MeasureExport, JudgeExport, WalkExport, ScanExport, GallopExport, MinimumExport, LeastExport, ViewBeginExport, ViewAddExport, SumExport, ExpandExport, ExpandWithExport, WriteExport, ReadExport, SameExport, ReportExport, PedestalsExport};
 ghost use Rattle.pedestals.specs.Compare.{runOf};
 use border::Answer;
+use border::Begun;
 use border::Closest;
 use border::Compared;
 use border::Content;
@@ -14,9 +15,11 @@ use border::Limits;
 use border::Measured;
 use border::Report;
 use border::Scanned;
+use border::Stepped;
 use border::Tolerance;
 use border::Tolerances;
 use border::Verdict;
+use border::begun_of;
 use border::closest_of;
 use border::compared_of;
 use border::galloped_of;
@@ -29,9 +32,11 @@ use border::measured_of;
 use border::read_of;
 use border::report_of;
 use border::scanned_of;
+use border::stepped_of;
 use border::tolerance_of;
 use border::tolerances_of;
 use border::written_of;
+use live::View;
 use sheet::Sheet;
 use sheet::Summary;
 
@@ -142,6 +147,31 @@ pub extern "C" fn kovrelna_least(
     ensures { λ r. ⌜ LeastExport (now (ticks .entry)) (now (values .entry)) gap allowance (now (out .entry)) r (now (out .exit)) ⌝ }
 {
     closest_of(engine::least::least(ticks, values, gap, allowance as usize, out))
+}
+
+// A view of the first sample.
+#[no_mangle]
+pub extern "C" fn kovrelna_view_begin(k: u64) -> Begun
+    ensures { λ r. ⌜ ViewBeginExport k r ⌝ }
+{
+    begun_of(engine::view::begin(k))
+}
+
+// An addition by value.
+fn border_step(view: View, ticks: &[u32], values: &[i16]) -> Stepped
+    ensures { λ r. ⌜ ViewAddExport (now (ticks .entry)) (now (values .entry)) view (r .answer) (r .view) ⌝ }
+{
+    stepped_of(engine::view::added(view, ticks, values))
+}
+
+// Adds the last sample to the view of those before it.
+#[no_mangle]
+pub extern "C" fn kovrelna_view_add(view: &mut View, ticks: &[u32], values: &[i16]) -> Answer
+    ensures { λ r. ⌜ ViewAddExport (now (ticks .entry)) (now (values .entry)) (now (view .entry)) r (now (view .exit)) ⌝ }
+{
+    let after = border_step(*view, ticks, values);
+    *view = after.view;
+    after.answer
 }
 
 // Writes the sums of two traces into the first entries of `sums`, and the samples of either list into those of `joined`.

@@ -1,0 +1,3 @@
+-- The definitions of the crate `live`.
+pub mod Live
+pub mod Candidates

@@ -1,0 +1,3 @@
+-- The laws of the crate `views`.
+pub mod CheapestLaws
+pub mod ViewLaws

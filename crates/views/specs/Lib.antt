@@ -1,0 +1,2 @@
+-- The definitions of the crate `views`.
+pub mod View
