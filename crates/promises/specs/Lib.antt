@@ -6,3 +6,4 @@ pub mod Pedestals
 pub mod Dropouts
 pub mod Sums
 pub mod Scans
+pub mod Views
