@@ -5,3 +5,4 @@ pub mod Links
 pub mod Sums
 pub mod Records
 pub mod Scans
+pub mod Views
