@@ -2,7 +2,7 @@
  * (x86-64, System V ABI), as `pkg-config --cflags --libs kovrelna` says once they are installed.
  *
  * Contents, in order: version and bounds; refusals; tolerances; limits; links; lists; reductions;
- * scans; sums; crates; range codes; records.
+ * scans; live views; sums; crates; range codes; records.
  *
  * A trace is two lists of equal length: ticks and values (ADC counts). It has 1 to 4,096 samples,
  * numbered from 0. Ticks rise strictly; the last minus the first is at most 1,048,575.
@@ -52,6 +52,9 @@ extern "C" {
 #define KOVRELNA_LEAST_SAMPLES_MAX 256
 /* The most tolerances of a scan. */
 #define KOVRELNA_TOLERANCES_MAX 16
+/* The largest k of a view, and the most samples that one keeps: 2 k + 2 at the largest k. */
+#define KOVRELNA_VIEW_K_MAX 32
+#define KOVRELNA_VIEW_SAMPLES_MAX 66
 /* The most channels of a crate. */
 #define KOVRELNA_CHANNELS_MAX 64
 /* The largest gap limit, which is none: no two samples of a trace lie further apart. */
@@ -63,11 +66,11 @@ extern "C" {
 /* ---- Refusals ----
  *
  * Each answer has a number, 0 if the call succeeded, and a value. A call checks the rows that
- * concern it in rising number, only 14 and then 11 before all others, 12 right after 1, 19 right
- * before 4, 15 right after 4 (in kovrelna_least right after 3) and 16 right after 5, and answers
- * with the first that fits; in kovrelna_pedestals 1, 2, 3 and 13 come after 4, channel by channel,
- * and in kovrelna_sum 1, 2, 3 of trace 1 come before those of trace 2, and 10 last. A refused call
- * leaves every list and buffer as it was.
+ * concern it in rising number, only 14 and then 11 before all others, 12 right after 1, 20 right
+ * after 3, 19 right before 4, 15 right after 4 (in kovrelna_least right after 3) and 16 right after
+ * 5, and answers with the first that fits; in kovrelna_pedestals 1, 2, 3 and 13 come after 4, channel
+ * by channel, and in kovrelna_sum 1, 2, 3 of trace 1 come before those of trace 2, and 10 last. A
+ * refused call leaves every list, buffer and view as it was.
  */
 enum kovrelna_refusal {
   /* No samples or codes, too many, or ticks and values differ in length. Value: 0; in
@@ -117,7 +120,9 @@ enum kovrelna_refusal {
   /* A sum is below -32,768 or above 32,767. Value: its sample. */
   KOVRELNA_REFUSED_OVERFLOW = 18,
   /* There are no tolerances, or more than 16. Value: 0. */
-  KOVRELNA_REFUSED_COUNT = 19
+  KOVRELNA_REFUSED_COUNT = 19,
+  /* k of a view is above 32, or its state is no view of the samples before the new one. Value: 0. */
+  KOVRELNA_REFUSED_VIEW = 20
 };
 
 /* The cause in words, for a message; "none" for a number that is no refusal's. */
@@ -162,6 +167,8 @@ static inline const char *kovrelna_cause(uint32_t number) {
     return "a sum below -32,768 or above 32,767";
   case KOVRELNA_REFUSED_COUNT:
     return "no tolerances, or more than 16";
+  case KOVRELNA_REFUSED_VIEW:
+    return "k of a view above 32, or a state that is no view of the earlier samples";
   default:
     return "none";
   }
@@ -429,6 +436,61 @@ kovrelna_scanned kovrelna_scan(const uint32_t *ticks, size_t ticks_len,
                                const int16_t *values, size_t values_len,
                                kovrelna_tolerances tolerances, uint32_t gap,
                                uint16_t *out, size_t out_len);
+
+/* ---- Live views ----
+ *
+ * A live view keeps a few samples of a trace while it grows: with k from 0 to 32, both ends and at
+ * most 2 k inner samples, those between the ends. It is begun from k alone, and each new sample is
+ * added to it in place.
+ */
+
+/* The state of a view: its kept list is the first `count` entries of `samples`. The entries behind
+ * the list mean nothing, and additions leave them as they were. A state is plain data, 140 bytes
+ * without padding: a caller may copy it, save it and restore it. */
+typedef struct kovrelna_view {
+  uint32_t k;
+  uint32_t count;
+  uint16_t samples[KOVRELNA_VIEW_SAMPLES_MAX];
+} kovrelna_view;
+
+/* number 0: the view; value is 0.
+ * Otherwise: the refusal's number and value; view is 0 throughout, which every addition refuses. */
+typedef struct kovrelna_begun {
+  uint32_t number;
+  uint64_t value;
+  kovrelna_view view;
+} kovrelna_begun;
+
+/* Begins a view: this k and the list 0, which is the view of the first sample. All entries of its
+ * samples are 0. Refusal: 20 if k is above 32. */
+kovrelna_begun kovrelna_view_begin(uint64_t k);
+
+/* Adds a new sample to the view of the samples before it. The trace has all of these, with the new
+ * sample last, so that the first addition is lent two samples. The value is 0.
+ *
+ * The new sample is put at the end of the list. If that makes 2 k + 1 inner samples, the one whose
+ * neighbours in the list have the link with the least error is dropped, the earliest among equals: so
+ * the new sample never is, and the one before it, the last until then, may be. No gap limit applies.
+ *
+ * For a view that was begun on the first sample and changed only by additions, with k and the earlier
+ * samples unaltered, the list's error, that of its worst link, is at most twice that of every kept
+ * list of the trace with at most k inner samples; so it is at most twice the error of kovrelna_least
+ * with the allowance k + 2 and no gap limit, for as many samples as that takes. For a state set by
+ * hand there is no such bound.
+ *
+ * An addition checks every tick that it is lent and, where it drops a sample, looks at each sample at
+ * most twice: its time grows in proportion to the number of samples lent. So a whole trace of n
+ * samples, added one by one, takes time in proportion to n squared.
+ *
+ * The view overlaps neither list; the pointer is aligned, and valid for one state.
+ *
+ * Refusals, in this order: 1, 2, 3 of the trace with the new sample; 20 if k is above 32, if the list
+ * is no kept list of the samples before the new one (a count of 0 or above 66 is none, and of a trace
+ * of one sample there is none), or if it has more than 2 k inner samples. A refused addition leaves
+ * every byte of the state as it was. */
+kovrelna_answer kovrelna_view_add(kovrelna_view *view,
+                                  const uint32_t *ticks, size_t ticks_len,
+                                  const int16_t *values, size_t values_len);
 
 /* ---- Sums ---- */
 

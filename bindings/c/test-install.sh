@@ -54,7 +54,7 @@ cat >"$work/causes.c" <<'END'
 #include <stdio.h>
 int main(void) {
   uint32_t number;
-  for (number = 1; number <= KOVRELNA_REFUSED_COUNT; number++)
+  for (number = 1; number <= KOVRELNA_REFUSED_VIEW; number++)
     printf("%u: %s\n", (unsigned)number, kovrelna_cause(number));
   return 0;
 }
