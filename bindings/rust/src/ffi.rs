@@ -1,6 +1,6 @@
 //! The C interface, call by call, as safe functions. `kovrelna.h` describes the structs.
 
-use crate::{ReducedTrace, Run, Summary, TOLERANCES_MAX};
+use crate::{ReducedTrace, Run, Summary, View, TOLERANCES_MAX};
 
 #[repr(C)]
 pub struct Answer {
@@ -71,6 +71,13 @@ pub struct Scanned {
     pub number: u32,
     pub value: u64,
     pub kept: [u64; TOLERANCES_MAX],
+}
+
+#[repr(C)]
+pub struct Begun {
+    pub number: u32,
+    pub value: u64,
+    pub view: View,
 }
 
 #[repr(C)]
@@ -180,6 +187,14 @@ extern "C" {
         out: *mut u16,
         out_len: usize,
     ) -> Scanned;
+    fn kovrelna_view_begin(k: u64) -> Begun;
+    fn kovrelna_view_add(
+        view: *mut View,
+        ticks: *const u32,
+        ticks_len: usize,
+        values: *const i16,
+        values_len: usize,
+    ) -> Answer;
     fn kovrelna_sum(
         ticks1: *const u32,
         ticks1_len: usize,
@@ -377,6 +392,24 @@ pub fn scan(
             gap,
             out.as_mut_ptr(),
             out.len(),
+        )
+    }
+}
+
+pub fn view_begin(k: u64) -> Begun {
+    // SAFETY: the call takes a number by value and accepts every one.
+    unsafe { kovrelna_view_begin(k) }
+}
+
+pub fn view_add(view: &mut View, ticks: &[u32], values: &[i16]) -> Answer {
+    // SAFETY: as above; the output is `view`, which is laid out as C's.
+    unsafe {
+        kovrelna_view_add(
+            view,
+            ticks.as_ptr(),
+            ticks.len(),
+            values.as_ptr(),
+            values.len(),
         )
     }
 }

@@ -7,6 +7,7 @@
 //! - [`walk`], [`Galloped`], [`gallop`], [`minimum`]: kept lists with every link valid.
 //! - [`Least`], [`least`]: the least error that a list of so many samples can have.
 //! - [`TOLERANCES_MAX`], [`scan`]: what walk keeps at each of several tolerances, in one pass.
+//! - [`View`], [`VIEW_K_MAX`], [`VIEW_SAMPLES_MAX`]: a view of a trace that grows.
 //! - [`ReducedTrace`], [`sum`]: two traces added, with their kept lists joined.
 //! - [`expand`], [`expand_with`]: the values of range codes, by the rule or by a table of the caller's.
 //! - [`write()`], [`Content`], [`read`], [`same`]: records of kept samples.
@@ -56,7 +57,7 @@ use std::fmt;
 /// [`Refusal::Factor`] and then [`Refusal::Crate`] before all others, [`Refusal::Table`] right after
 /// [`Refusal::Length`], and [`Refusal::Channel`] and [`Refusal::Samples`], channel by channel, right
 /// before [`Refusal::Room`]; [`sum`] checks its first trace, then its second. It answers with the first
-/// that fits; a refused call leaves every slice as it was.
+/// that fits; a refused call leaves every slice and view as it was.
 #[derive(Clone, Copy, Debug, PartialEq, Eq, Hash)]
 pub enum Refusal {
     /// 1: no samples or codes, too many, or ticks and values differ in length.
@@ -65,6 +66,8 @@ pub enum Refusal {
     Tick(usize),
     /// 3: the first sample more than 1,048,575 ticks after sample 0.
     Span(usize),
+    /// 20: k of a view is above 32, or its state is no view of the samples before the new one.
+    View,
     /// 19: no tolerances, or more than 16.
     Count,
     /// 4: the tolerance is not allowed.
@@ -115,12 +118,13 @@ pub enum Refusal {
 }
 
 impl Refusal {
-    /// The refusal's number, 1 to 19.
+    /// The refusal's number, 1 to 20.
     pub fn number(self) -> u32 {
         match self {
             Refusal::Length => 1,
             Refusal::Tick(_) => 2,
             Refusal::Span(_) => 3,
+            Refusal::View => 20,
             Refusal::Count => 19,
             Refusal::Tolerance | Refusal::ToleranceAt(_) => 4,
             Refusal::Gap => 15,
@@ -145,6 +149,7 @@ impl Refusal {
     pub fn returned(self) -> usize {
         match self {
             Refusal::Length
+            | Refusal::View
             | Refusal::Count
             | Refusal::Tolerance
             | Refusal::Gap
@@ -192,6 +197,7 @@ impl Refusal {
             17 => Refusal::Mismatch(value),
             18 => Refusal::Overflow(value),
             19 => Refusal::Count,
+            20 => Refusal::View,
             _ => unreachable!("there is no refusal {number}"),
         })
     }
@@ -219,6 +225,12 @@ impl fmt::Display for Refusal {
             }
             Refusal::Span(sample) => {
                 write!(f, "sample {sample} is over 1,048,575 ticks after the first")
+            }
+            Refusal::View => {
+                write!(
+                    f,
+                    "k of a view is above 32, or its state is no view of the earlier samples"
+                )
             }
             Refusal::Count => write!(f, "no tolerances, or more than 16"),
             Refusal::Tolerance => write!(f, "the tolerance is not allowed"),
@@ -814,6 +826,92 @@ pub fn scan(
     }
     Refusal::check(answer.number, answer.value)?;
     Ok(answer.kept.map(|kept| kept as usize))
+}
+
+/// The largest k of a [`View`].
+pub const VIEW_K_MAX: u32 = 32;
+
+/// The most samples that a [`View`] keeps: both ends and 2 k inner ones at the largest k.
+pub const VIEW_SAMPLES_MAX: usize = 66;
+
+/// The state of a live view, which keeps a few samples of a trace while it grows: with k from 0 to 32,
+/// both ends and at most 2 k inner samples, those between the ends. It is begun from k alone, and each
+/// new sample is added to it in place.
+///
+/// A state is plain data: it may be copied, saved and restored.
+///
+/// ```
+/// use kovrelna::{Refusal, View};
+///
+/// let (ticks, values) = ([0, 1, 2, 3, 4, 5, 6, 7], [-4, -4, 0, 4, -4, 4, -4, 0]);
+/// let mut view = View::begin(1)?;
+/// assert_eq!(view.list(), [0]);
+/// for n in 2..=8 {
+///     view.add(&ticks[..n], &values[..n])?;
+/// }
+/// assert_eq!(view.list(), [0, 4, 5, 7]);
+///
+/// // The samples so far are lent once more, with no new one.
+/// let before = view;
+/// assert_eq!(view.add(&ticks, &values), Err(Refusal::View));
+/// assert_eq!(view, before);
+/// assert_eq!(View::begin(33), Err(Refusal::View));
+/// # Ok::<(), Refusal>(())
+/// ```
+#[repr(C)]
+#[derive(Clone, Copy, Debug, PartialEq, Eq, Hash)]
+pub struct View {
+    /// Half the most inner samples that the view keeps.
+    pub k: u32,
+    /// The kept number.
+    pub count: u32,
+    /// The kept list in the first `count` entries. Those behind it mean nothing, and additions leave
+    /// them as they were.
+    pub samples: [u16; VIEW_SAMPLES_MAX],
+}
+
+impl View {
+    /// Begins a view: this k and the list 0, which is the view of the first sample. All entries of its
+    /// samples are 0.
+    ///
+    /// Refusal: [`Refusal::View`] if k is above 32.
+    pub fn begin(k: u64) -> Result<View, Refusal> {
+        let answer = ffi::view_begin(k);
+        Refusal::check(answer.number, answer.value)?;
+        Ok(answer.view)
+    }
+
+    /// Adds a new sample to the view of the samples before it. The trace has all of these, with the new
+    /// sample last, so that the first addition is lent two samples.
+    ///
+    /// The new sample is put at the end of the list. If that makes 2 k + 1 inner samples, the one whose
+    /// neighbours in the list have the link with the least error is dropped, the earliest among equals:
+    /// so the new sample never is, and the one before it, the last until then, may be. No gap limit
+    /// applies.
+    ///
+    /// For a view that was begun on the first sample and changed only by additions, with k and the
+    /// earlier samples unaltered, the list's error, that of its worst link, is at most twice that of
+    /// every kept list of the trace with at most k inner samples; so it is at most twice the error of
+    /// [`least`] with the allowance k + 2 and no gap limit, for as many samples as that takes. For a
+    /// state set by hand there is no such bound.
+    ///
+    /// An addition checks every tick that it is lent and, where it drops a sample, looks at each sample
+    /// at most twice: its time grows in proportion to the number of samples lent. So a whole trace of n
+    /// samples, added one by one, takes time in proportion to n squared.
+    ///
+    /// Refusals: [`Refusal::Length`], [`Refusal::Tick`], [`Refusal::Span`] of the trace with the new
+    /// sample; [`Refusal::View`] if k is above 32, if the list is no kept list of the samples before the
+    /// new one (a count of 0 or above 66 is none, and of a trace of one sample there is none), or if it
+    /// has more than 2 k inner samples. A refused addition leaves the whole state as it was.
+    pub fn add(&mut self, ticks: &[u32], values: &[i16]) -> Result<(), Refusal> {
+        ffi::view_add(self, ticks, values).value()?;
+        Ok(())
+    }
+
+    /// The kept list: the first `count` entries of `samples`, all of them if `count` is above 66.
+    pub fn list(&self) -> &[u16] {
+        &self.samples[..VIEW_SAMPLES_MAX.min(self.count as usize)]
+    }
 }
 
 /// A trace with a kept list of it.
