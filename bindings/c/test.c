@@ -2,8 +2,8 @@
  * says what differs and returns 1.
  *
  * Contents, in order: lent lists and where they are placed; the table of calls; cases of each call;
- * empty lists; the longest trace, scan, sum, crate and pedestal runs; the version, and causes and
- * sides in words.
+ * empty lists; the longest trace, scan, view, sum, crate and pedestal runs; the version, and causes
+ * and sides in words.
  *
  * Each case is called once in every placement of its lists: against a page that cannot be read or
  * written, between guard bytes, and at exact size on the heap. Where the program is built with
@@ -59,8 +59,8 @@ enum { GUARD = 64 };
 /* A list as it is lent to a call. */
 struct list {
   size_t size, len;     /* bytes of an element; elements */
-  const void *content;  /* what an input holds; null for an output, which `lend` fills */
-  const void *written;  /* what the call writes into an output, */
+  const void *content;  /* what an input or a state holds; null for an output, which `lend` fills */
+  const void *written;  /* what the call writes into an output or a state, */
   size_t at, count;     /* from this byte on, so many bytes; */
   const uint8_t *only;  /* of these elements those with 1 alone, if it is not null */
   unsigned char *first; /* the first element as lent */
@@ -83,6 +83,16 @@ static struct list output(size_t len, size_t size) {
 static struct list filled(size_t len, size_t size, const void *written, size_t at, size_t count) {
   struct list list = {size, len, NULL, written, at * size, count * size, NULL, NULL, NULL, 0};
   return list;
+}
+
+/* A state, of which the call makes another in place. */
+static struct list state(const void *before, const void *after, size_t size) {
+  struct list list = {size, 1, before, after, 0, size, NULL, NULL, NULL, 0};
+  return list;
+}
+
+static int is_input(const struct list *list) {
+  return list->content != NULL && list->written == NULL;
 }
 
 /* The byte at k of an output, or of guard bytes, before a call. */
@@ -118,7 +128,7 @@ static void protect(const struct list *list, enum placement placement) {
   unsigned char *own = placement == AT_END ? list->block : list->block + page();
   unsigned char *other = placement == AT_END ? list->block + pages : list->block;
   if (mprotect(other, page(), PROT_NONE) != 0 ||
-      (list->content != NULL && pages != 0 && mprotect(own, pages, PROT_READ) != 0))
+      (is_input(list) && pages != 0 && mprotect(own, pages, PROT_READ) != 0))
     fail("no protection");
 }
 
@@ -158,7 +168,8 @@ static void take_back(struct list *list, enum placement placement) {
     }
     changed += list->first[k] != expected;
   }
-  differ(content != NULL ? "bytes of an input changed" : "wrong bytes of an output", changed, 0);
+  differ(is_input(list) ? "bytes of an input changed" : "wrong bytes of an output or a state",
+         changed, 0);
   if (placement == GUARDED) {
     for (changed = 0, k = 0; k < GUARD; k++)
       changed += (list->block[k] != filler(placement, k)) +
@@ -280,6 +291,12 @@ static struct answer call_scan(const struct list *lists, kovrelna_limits limits,
   return answer;
 }
 
+static struct answer call_view_add(const struct list *lists, kovrelna_limits limits,
+                                   size_t place) {
+  (void)limits, (void)place;
+  return plain(kovrelna_view_add((kovrelna_view *)(void *)lists[0].first, U32(1), I16(2)));
+}
+
 static struct answer call_sum(const struct list *lists, kovrelna_limits limits, size_t place) {
   (void)limits, (void)place;
   return plain(kovrelna_sum(U32(0), I16(1), U32(2), I16(3), U16(4), U16(5), I16(6), U16(7)));
@@ -341,6 +358,8 @@ static const uint8_t figure[] = {0x54, 0, 0, 0, 0, 2, 0, 0, 3, 0x41, 0, 0, 0, 0,
 /* The samples of that record. */
 static const uint32_t kept_ticks[] = {0, 3};
 static const int16_t kept_values[] = {0, 1};
+/* A view of that trace at k = 0, before its last sample and with it. */
+static const kovrelna_view view_before = {0, 2, {0, 1, 9}}, view_with = {0, 2, {0, 2, 9}};
 /* The values of another trace with these ticks, and the sums of both. */
 static const int16_t other_step[] = {5, 3, -2}, both_steps[] = {5, 4, -1};
 /* That trace as a crate of one channel, and its row. */
@@ -368,7 +387,8 @@ static void make_table(void) {
 }
 
 /* A list of a call: bytes of an element, elements, the content of an input, what is written into an
- * output. The last two: the refusal where the list is empty, and its value. */
+ * output; for a state, which is never empty, both. The last two: the refusal where the list is
+ * empty, and its value. */
 struct parameter {
   size_t size, len;
   const void *content, *written;
@@ -381,6 +401,12 @@ struct parameter {
   { sizeof((list)[0]), COUNT(list), list, NULL, 0, number, value }
 #define OUT(len, list, number, value)                                                              \
   { sizeof((list)[0]), len, NULL, list, COUNT(list), number, value }
+#define STATE(before, after)                                                                       \
+  { sizeof(before), 1, &(before), &(after), 1, 0, 0 }
+
+static int is_state(const struct parameter *parameter) {
+  return parameter->content != NULL && parameter->written != NULL;
+}
 
 /* Every call that is lent lists, as it is made on the figures at tolerance 4/6, no gap limit, place
  * 0, and allowance or noise factor 2, and its answer; measure of the link from sample 0 to 2. */
@@ -392,6 +418,7 @@ enum {
   MINIMUM,
   LEAST,
   SCAN,
+  VIEW_ADD,
   SUM,
   EXPAND,
   EXPAND_WITH,
@@ -430,6 +457,9 @@ static const struct call {
     {"scan", call_scan, 3,
      {IN(uneven, 1, 0), IN(step, 1, 0), OUT(3, pair, 10, 3)},
      {0, 0, 0, 0, 0, 0, 0, 2, 0, 0, 0, 0}},
+    {"view_add", call_view_add, 3,
+     {STATE(view_before, view_with), IN(uneven, 1, 0), IN(step, 1, 0)},
+     {0, 0, 0, 0, 0, 0, 0, 0, 0, 0, 0, 0}},
     {"sum", call_sum, 8,
      {IN(uneven, 1, 0), IN(step, 1, 0), IN(uneven, 1, 0), IN(other_step, 1, 0), IN(pair, 6, 0),
       IN(pair, 6, 0), OUT(3, both_steps, 10, 3), OUT(3, pair, 10, 3)},
@@ -704,6 +734,95 @@ static void not_scanned(int line, struct trace trace, kovrelna_tolerances tolera
 
 #define NOT_SCANNED(trace, tolerances, gap, number, value)                                         \
   not_scanned(__LINE__, trace, tolerances, gap, number, value)
+
+/* view_begin answers with this number: a view has the list 0, and zeros behind it; a refusal has
+ * zeros alone. */
+static void begin(int line, uint64_t k, uint32_t number) {
+  kovrelna_begun answer = kovrelna_view_begin(k);
+  size_t entry;
+  now_name = "view_begin";
+  now_line = line;
+  differ("number", answer.number, number);
+  differ("value", answer.value, 0);
+  differ("k", answer.view.k, number == 0 ? k : 0);
+  differ("count", answer.view.count, number == 0);
+  for (entry = 0; entry < KOVRELNA_VIEW_SAMPLES_MAX; entry++)
+    differ("sample", answer.view.samples[entry], 0);
+}
+
+/* The view with this list. */
+static kovrelna_view with_list(kovrelna_view view, const uint16_t *list, uint32_t count) {
+  view.count = count;
+  memcpy(view.samples, list, count * sizeof(uint16_t));
+  return view;
+}
+
+/* A view with this list, and something else in each entry behind it. */
+static kovrelna_view view_of(uint32_t k, const uint16_t *list, uint32_t count) {
+  kovrelna_view view;
+  uint32_t entry;
+  view.k = k;
+  for (entry = 0; entry < KOVRELNA_VIEW_SAMPLES_MAX; entry++)
+    view.samples[entry] = (uint16_t)(40000 + 7 * entry);
+  return with_list(view, list, count);
+}
+
+#define VIEW(k, list) view_of(k, list, COUNT(list))
+
+/* The addition answers so, and makes this of the state. */
+static void add(int line, kovrelna_view before, struct trace trace, uint32_t number, uint64_t value,
+                kovrelna_view after) {
+  struct list lists[3];
+  lists[0] = state(&before, &after, sizeof(kovrelna_view));
+  lists[1] = input(trace.ticks, trace.ticks_len, sizeof(uint32_t));
+  lists[2] = input(trace.values, trace.values_len, sizeof(int16_t));
+  run(line, VIEW_ADD, lists, within_ratio(0, 0), 0, answered(number, value));
+}
+
+/* The list becomes this one, and all else stays. */
+#define ADDED(k, list, ticks, values, becomes)                                                     \
+  add(__LINE__, VIEW(k, list), TRACE(ticks, values), 0, 0,                                         \
+      with_list(VIEW(k, list), becomes, COUNT(becomes)))
+
+/* Refused: the state stays. */
+#define NOT_ADDED(view, trace, number, value) add(__LINE__, view, trace, number, value, view)
+
+/* What an addition makes of a view, by the measures of links: sample n - 1 is last, and of 2 k + 1
+ * inner samples the first is dropped whose neighbours' link has the least error. */
+static kovrelna_view view_after(kovrelna_view view, struct trace trace) {
+  uint16_t list[KOVRELNA_VIEW_SAMPLES_MAX + 1];
+  uint32_t count = view.count, dropped = 0, entry;
+  kovrelna_measured least = {0, 0, 0, 0, 0, 0};
+  memcpy(list, view.samples, count * sizeof(uint16_t));
+  list[count++] = (uint16_t)(trace.ticks_len - 1);
+  if (count == 2 * view.k + 3) {
+    for (entry = 1; entry + 1 < count; entry++) {
+      kovrelna_measured link = kovrelna_measure(trace.ticks, trace.ticks_len, trace.values,
+                                                trace.values_len, list[entry - 1], list[entry + 1]);
+      if (dropped != 0 && link.p * least.q >= least.p * link.q) continue;
+      least = link;
+      dropped = entry;
+    }
+    count--;
+    memmove(&list[dropped], &list[dropped + 1], (count - dropped) * sizeof(uint16_t));
+  }
+  return with_list(view, list, count);
+}
+
+/* The trace grows to the end, from the samples of this view on: each addition does what view_after
+ * says. */
+static kovrelna_view grown(int line, struct trace whole, kovrelna_view view) {
+  size_t n;
+  for (n = (size_t)view.samples[view.count - 1] + 2; n <= whole.ticks_len; n++) {
+    struct trace so_far = trace(whole.ticks, n, whole.values, n);
+    kovrelna_view after = view_after(view, so_far);
+    add(line, view, so_far, 0, 0, after);
+    view = after;
+  }
+  return view;
+}
+
+#define GROWN(ticks, values, view) grown(__LINE__, TRACE(ticks, values), view)
 
 /* A trace and a list of it as they are lent. */
 struct reduced {
@@ -1538,6 +1657,262 @@ static void lists_of_tolerances(void) {
   }
 }
 
+static void begun_views(void) {
+  uint64_t k;
+  for (k = 0; k <= KOVRELNA_VIEW_K_MAX; k++) begin(__LINE__, k, 0);
+  for (; k <= 300; k++) begin(__LINE__, k, KOVRELNA_REFUSED_VIEW);
+  begin(__LINE__, 65536, KOVRELNA_REFUSED_VIEW);
+  begin(__LINE__, UINT32_MAX, KOVRELNA_REFUSED_VIEW);
+  for (k = 0; k <= KOVRELNA_VIEW_K_MAX; k++) {
+    begin(__LINE__, (UINT64_C(1) << 32) + k, KOVRELNA_REFUSED_VIEW);
+    begin(__LINE__, UINT64_MAX - k, KOVRELNA_REFUSED_VIEW);
+  }
+}
+
+static void views(void) {
+  const uint32_t eight[] = {0, 1, 2, 3, 4, 5, 6, 7}, rising[] = {0, 3, 6, 8, 9, 11, 13, 14},
+                 four[] = {0, 1, 2, 3}, five[] = {0, 1, 2, 3, 4}, apart[] = {0, 1, 3, 4, 6},
+                 hole[] = {0, 1, 2, 1000002, 1000003}, wide[] = {0, 1, 2, 1048574, 1048575},
+                 high[] = {UINT32_MAX - 1048575, UINT32_MAX - 3, UINT32_MAX - 2, UINT32_MAX - 1,
+                           UINT32_MAX};
+  const int16_t twice[] = {-4, -4, 0, 4, -4, 4, -4, 0}, ridge[] = {-7, 4, 11, 15, 27, 31, 23, 16},
+                turn[] = {0, 1, 0, -1}, flat[] = {0, 0, 0, 0, 0}, zigzag[] = {0, 3, 0, 3, 0},
+                steep[] = {0, 9, 1, 9, 0}, early[] = {0, 9, 0, 0, 0}, roof[] = {0, 1, 5, 1, 0},
+                late[] = {-20, 9, 0, 3, -6}, thirds[] = {0, 1, 1, 2, 3},
+                extreme[] = {-32768, 32767, -32768, 32767, -32768};
+  static const uint16_t of_twice[][4] = {{0, 1, 0, 0}, {0, 1, 2, 0}, {0, 1, 2, 3}, {0, 1, 3, 4},
+                                         {0, 3, 4, 5}, {0, 4, 5, 6}, {0, 4, 5, 7}};
+  const uint16_t first[] = {0}, two[] = {0, 1}, three[] = {0, 1, 2}, all[] = {0, 1, 2, 3},
+                 whole[] = {0, 1, 2, 3, 4}, not_1[] = {0, 2, 3, 4}, not_2[] = {0, 1, 3, 4},
+                 not_3[] = {0, 1, 2, 4}, ends[] = {0, 3}, next_ends[] = {0, 4}, set[] = {0, 2},
+                 set_next[] = {0, 2, 3}, better[] = {0, 1, 3}, middle[] = {0, 2, 7},
+                 of_ridge[] = {0, 4, 6, 7}, peak[] = {0, 5, 7}, peaks[] = {0, 2, 5, 7};
+  kovrelna_view view = VIEW(1, first);
+  uint32_t entry;
+  size_t n;
+
+  /* Document 02's example, sample by sample. Its error is 8, and the least with one inner sample is
+   * 4. */
+  for (n = 2; n <= COUNT(eight); n++) {
+    kovrelna_view after = with_list(view, of_twice[n - 2], n < 4 ? (uint32_t)n : 4);
+    add(__LINE__, view, trace(eight, n, twice, n), 0, 0, after);
+    view = after;
+  }
+  STRAYS(eight, twice, of_twice[6], within_ratio(7, 1), 0, 8, 1, 3, KOVRELNA_SIDE_ABOVE);
+  JUDGE(eight, twice, of_twice[6], within_ratio(8, 1), 0, 1, 0);
+  CLOSEST(eight, twice, KOVRELNA_GAP_MAX, 3, 8, 4, 1, middle);
+  /* More than twice the least error with two inner samples, and less than twice that with one. */
+  view = GROWN(rising, ridge, VIEW(1, first));
+  differ("kept", view.count, COUNT(of_ridge));
+  for (entry = 0; entry < COUNT(of_ridge); entry++)
+    differ("sample", view.samples[entry], of_ridge[entry]);
+  STRAYS(rising, ridge, of_ridge, within_ratio(8, 1), 0, 74, 9, 3, KOVRELNA_SIDE_BELOW);
+  CLOSEST(rising, ridge, KOVRELNA_GAP_MAX, 4, 8, 4, 1, peaks);
+  CLOSEST(rising, ridge, KOVRELNA_GAP_MAX, 3, 8, 62, 11, peak);
+  /* A state set by hand: its error becomes 1, and the least with one inner sample is 0. */
+  ADDED(1, set, four, turn, set_next);
+  STRAYS(four, turn, set_next, within_ratio(0, 1), 0, 1, 1, 1, KOVRELNA_SIDE_ABOVE);
+  CLOSEST(four, turn, KOVRELNA_GAP_MAX, 3, 4, 0, 1, better);
+
+  /* Any inner sample is dropped, the last until then too; of equals the earliest. */
+  ADDED(1, all, five, steep, not_2);
+  ADDED(1, all, five, early, not_3);
+  ADDED(1, all, five, zigzag, not_1);
+  ADDED(1, all, five, flat, not_1);
+  ADDED(1, all, five, roof, not_1);
+  ADDED(1, all, five, late, not_2);
+  /* The errors are 2/3, 2/3 and 1/3. */
+  ADDED(1, all, apart, thirds, not_3);
+  /* Fewer than 2 k + 1 inner samples all stay. */
+  ADDED(2, all, five, flat, whole);
+  ADDED(KOVRELNA_VIEW_K_MAX, all, five, flat, whole);
+  /* Both ends alone; no gap limit applies. */
+  add(__LINE__, VIEW(0, first), trace(five, 2, steep, 2), 0, 0, with_list(VIEW(0, first), two, 2));
+  add(__LINE__, VIEW(1, two), trace(five, 3, steep, 3), 0, 0, with_list(VIEW(1, two), three, 3));
+  ADDED(0, ends, five, steep, next_ends);
+  ADDED(0, ends, hole, flat, next_ends);
+  ADDED(1, all, hole, flat, not_1);
+  /* The longest span and the greatest errors. */
+  GROWN(wide, extreme, VIEW(0, first));
+  GROWN(wide, extreme, VIEW(1, first));
+  GROWN(high, extreme, VIEW(0, first));
+  GROWN(high, extreme, VIEW(1, first));
+}
+
+/* Traces that grow, at every k, with ties and without: from where a view is begun, and from states
+ * with something else behind their lists. */
+static void growing_views(void) {
+  enum { SAMPLES = 80 };
+  static const int ranges[] = {1, 2, 5, 65536};
+  uint32_t ticks[SAMPLES], k, random = 1;
+  int16_t values[SAMPLES];
+  const uint16_t first[] = {0};
+  size_t r, n;
+  for (r = 0; r < COUNT(ranges); r++) {
+    for (n = 0; n < SAMPLES; n++) {
+      random = 1664525 * random + 1013904223;
+      ticks[n] = n == 0 ? 7 : ticks[n - 1] + 1 + (r % 2 == 0 ? 0 : random >> 19);
+      values[n] = (int16_t)((int)(random >> 8 & 65535) % ranges[r] - ranges[r] / 2);
+    }
+    for (k = 0; k <= KOVRELNA_VIEW_K_MAX; k++) {
+      kovrelna_view view = GROWN(ticks, values, kovrelna_view_begin(k).view);
+      differ("kept", view.count, 2 * k + 2);
+      GROWN(ticks, values, VIEW(k, first));
+    }
+  }
+}
+
+/* A state that was copied, and one that was saved as bytes, go on as the state itself does; each on
+ * its own. */
+static void copied_views(void) {
+  enum { SAMPLES = 20 };
+  uint32_t ticks[SAMPLES];
+  int16_t values[SAMPLES];
+  unsigned char saved[sizeof(kovrelna_view)];
+  kovrelna_view view = kovrelna_view_begin(2).view, copy, restored, before;
+  size_t n;
+  now_name = "view_add";
+  now_line = __LINE__;
+  for (n = 0; n < SAMPLES; n++) {
+    ticks[n] = (uint32_t)(3 * n);
+    values[n] = (int16_t)(n * n * n % 31);
+  }
+  for (n = 2; n <= SAMPLES / 2; n++) kovrelna_view_add(&view, ticks, n, values, n);
+  before = copy = view;
+  memcpy(saved, &view, sizeof(view));
+  for (; n <= SAMPLES; n++)
+    differ("number", kovrelna_view_add(&view, ticks, n, values, n).number, 0);
+  differ("copy changed", memcmp(&copy, &before, sizeof(copy)) != 0, 0);
+  memcpy(&restored, saved, sizeof(restored));
+  for (n = SAMPLES / 2 + 1; n <= SAMPLES; n++) {
+    differ("number", kovrelna_view_add(&copy, ticks, n, values, n).number, 0);
+    differ("number", kovrelna_view_add(&restored, ticks, n, values, n).number, 0);
+  }
+  differ("copy differs", memcmp(&copy, &view, sizeof(copy)) != 0, 0);
+  differ("restored state differs", memcmp(&restored, &view, sizeof(restored)) != 0, 0);
+}
+
+/* Every trace beside every state: the first row in the order 1, 2, 3, 20. A refusal leaves every
+ * byte of the state. */
+static void no_views(void) {
+  enum { SAMPLES = 5, MOST = KOVRELNA_VIEW_SAMPLES_MAX };
+  static const struct {
+    uint32_t ticks[SAMPLES];
+    size_t ticks_len, values_len;
+    uint32_t number;
+    uint64_t value;
+  } traces[] = {{{0, 1, 2, 3, 4}, 5, 5, 0, 0},
+                {{0, 1, 2, 3, 1048575}, 5, 5, 0, 0},
+                {{0, 1, 2, 3, 4}, 0, 0, 1, 0},
+                {{0, 1, 2, 3, 4}, 5, 4, 1, 0},
+                {{0, 1, 2, 3, 4}, 4, 5, 1, 0},
+                {{0, 0, 1048576, 0, 4}, 5, 4, 1, 0},
+                {{0, 1, 1, 3, 3}, 5, 5, 2, 2},
+                {{0, 1, 2, 3, 3}, 5, 5, 2, 4},
+                {{0, 1048576, 1048577, 1048578, 1048578}, 5, 5, 2, 4},
+                {{0, 1, 2, 1048576, 1048577}, 5, 5, 3, 3},
+                {{0, 1, 2, 3, 1048576}, 5, 5, 3, 4}};
+  /* States for five samples: k, count, list, and whether it is a view of the first four. */
+  static const struct {
+    uint32_t k, count;
+    uint16_t list[6];
+    int is_view;
+  } states[] = {{0, 2, {0, 3}, 1},
+                {1, 2, {0, 3}, 1},
+                {1, 3, {0, 1, 3}, 1},
+                {1, 4, {0, 1, 2, 3}, 1},
+                {32, 4, {0, 1, 2, 3}, 1},
+                /* k out of range; some make 2 k + 2 a small number where 32 bits are not enough. */
+                {33, 2, {0, 3}, 0},
+                {34, 4, {0, 1, 2, 3}, 0},
+                {256, 2, {0, 3}, 0},
+                {65536, 2, {0, 3}, 0},
+                {0x7FFFFFFF, 2, {0, 3}, 0},
+                {0x80000000, 2, {0, 3}, 0},
+                {0x80000001, 4, {0, 1, 2, 3}, 0},
+                {UINT32_MAX, 2, {0, 3}, 0},
+                /* No entries, or more than there is room for. */
+                {0, 0, {0, 3}, 0},
+                {1, 0, {0, 3}, 0},
+                {32, 67, {0, 1, 2, 3}, 0},
+                {32, 68, {0, 1, 2, 3}, 0},
+                {32, 65538, {0, 3}, 0},
+                {32, 0x80000002, {0, 3}, 0},
+                {32, UINT32_MAX, {0, 1, 2, 3}, 0},
+                {UINT32_MAX, UINT32_MAX, {0, 1, 2, 3}, 0},
+                /* A first entry that is not 0, one that does not rise, one beyond. */
+                {1, 2, {1, 3}, 0},
+                {1, 1, {3}, 0},
+                {1, 3, {1, 2, 3}, 0},
+                {2, 3, {0, 0, 3}, 0},
+                {2, 3, {0, 3, 3}, 0},
+                {2, 4, {0, 2, 1, 3}, 0},
+                {2, 4, {0, 2, 2, 3}, 0},
+                {2, 4, {0, 3, 2, 3}, 0},
+                {2, 4, {0, 4, 1, 3}, 0},
+                {2, 4, {0, 65535, 1, 3}, 0},
+                {1, 2, {0, 4}, 0},
+                {1, 3, {0, 3, 4}, 0},
+                {1, 2, {0, 65535}, 0},
+                {2, 5, {0, 1, 2, 3, 4}, 0},
+                /* Stops short. */
+                {1, 1, {0}, 0},
+                {1, 2, {0, 2}, 0},
+                {1, 3, {0, 1, 2}, 0},
+                /* Too many inner samples. */
+                {0, 3, {0, 1, 3}, 0},
+                {0, 3, {0, 2, 3}, 0},
+                {0, 4, {0, 1, 2, 3}, 0}};
+  static uint32_t ticks[MOST + 2];
+  static const int16_t level[MOST + 2] = {0};
+  uint16_t all[MOST + 1];
+  const uint16_t first[] = {0};
+  kovrelna_view view;
+  uint32_t k;
+  size_t t, x;
+
+  for (x = 0; x < COUNT(states); x++) {
+    view = view_of(states[x].k, states[x].list, COUNT(states[x].list));
+    view.count = states[x].count;
+    for (t = 0; t < COUNT(traces); t++) {
+      struct trace given = trace(traces[t].ticks, traces[t].ticks_len, level, traces[t].values_len);
+      if (traces[t].number != 0)
+        NOT_ADDED(view, given, traces[t].number, traces[t].value);
+      else if (!states[x].is_view)
+        NOT_ADDED(view, given, KOVRELNA_REFUSED_VIEW, 0);
+      else
+        add(__LINE__, view, given, 0, 0, view_after(view, given));
+    }
+  }
+
+  /* At each k: 2 k inner samples, and one more; a count above the room. */
+  for (x = 0; x < COUNT(ticks); x++) ticks[x] = (uint32_t)x;
+  for (x = 0; x < COUNT(all); x++) all[x] = (uint16_t)x;
+  for (k = 0; k <= KOVRELNA_VIEW_K_MAX; k++) {
+    uint32_t room = 2 * k + 2;
+    struct trace given = trace(ticks, room + 1, level, room + 1);
+    view = view_of(k, all, room);
+    add(__LINE__, view, given, 0, 0, view_after(view, given));
+    given = trace(ticks, room + 2, level, room + 2);
+    if (room < MOST)
+      view = view_of(k, all, room + 1);
+    else
+      view.count = room + 1;
+    NOT_ADDED(view, given, KOVRELNA_REFUSED_VIEW, 0);
+    view.count = UINT32_MAX;
+    NOT_ADDED(view, given, KOVRELNA_REFUSED_VIEW, 0);
+  }
+
+  /* There is no sample before the first. A sample is added once, and none is left out. */
+  NOT_ADDED(VIEW(1, first), trace(ticks, 1, level, 1), KOVRELNA_REFUSED_VIEW, 0);
+  NOT_ADDED(view_of(1, all, 2), trace(ticks, 2, level, 2), KOVRELNA_REFUSED_VIEW, 0);
+  NOT_ADDED(view_of(1, all, 2), trace(ticks, 4, level, 4), KOVRELNA_REFUSED_VIEW, 0);
+  NOT_ADDED(kovrelna_view_begin(2).view, trace(ticks, 3, level, 3), KOVRELNA_REFUSED_VIEW, 0);
+  /* What is returned beside a refusal is no view of any trace. */
+  for (x = 1; x <= SAMPLES; x++)
+    NOT_ADDED(kovrelna_view_begin(33).view, trace(ticks, x, level, x), KOVRELNA_REFUSED_VIEW, 0);
+}
+
 static void sums(void) {
   const uint32_t four[] = {0, 1, 2, 3}, five[] = {0, 1, 2, 3, 4},
                  last[] = {UINT32_MAX - 1048575, UINT32_MAX};
@@ -1908,6 +2283,16 @@ static void layouts(void) {
   differ("q", offsetof(kovrelna_judged, q), 24);
   differ("sample", offsetof(kovrelna_judged, sample), 32);
   differ("side", offsetof(kovrelna_judged, side), 40);
+  now_name = "layout of a view";
+  differ("size", sizeof(kovrelna_view), 140);
+  differ("k", offsetof(kovrelna_view, k), 0);
+  differ("count", offsetof(kovrelna_view, count), 4);
+  differ("samples", offsetof(kovrelna_view, samples), 8);
+  now_name = "layout of a view that is begun";
+  differ("size", sizeof(kovrelna_begun), 160);
+  differ("number", offsetof(kovrelna_begun, number), 0);
+  differ("value", offsetof(kovrelna_begun, value), 8);
+  differ("view", offsetof(kovrelna_begun, view), 16);
   now_name = "layout of a summary";
   differ("size", sizeof(kovrelna_summary), 48);
   differ("samples", offsetof(kovrelna_summary, samples), 0);
@@ -2151,7 +2536,8 @@ static uint32_t place_of(uint32_t number) {
                                             : 2 * number;
 }
 
-/* Each set of a call's lists is empty in turn: the first of their refusals answers. */
+/* Each set of a call's lists is empty in turn, its states aside: the first of their refusals
+ * answers. */
 static void empty_lists(void) {
   size_t which, set, k;
   for (which = 0; which < COUNT(calls); which++) {
@@ -2161,7 +2547,7 @@ static void empty_lists(void) {
       struct list lists[LISTS];
       for (k = 0; k < call->lists; k++) {
         const struct parameter *parameter = &call->parameters[k];
-        if ((set >> k & 1) == 0 ||
+        if ((set >> k & 1) == 0 || is_state(parameter) ||
             (expected.number != 0 && place_of(parameter->number) >= place_of(expected.number)))
           continue;
         expected = answered(parameter->number, parameter->value);
@@ -2169,10 +2555,15 @@ static void empty_lists(void) {
       for (k = 0; k < call->lists; k++) {
         const struct parameter *parameter = &call->parameters[k];
         size_t len = (set >> k & 1) != 0 ? 0 : parameter->len;
-        lists[k] = parameter->content != NULL ? input(parameter->content, len, parameter->size)
-                   : expected.number != 0     ? output(len, parameter->size)
-                                              : filled(len, parameter->size, parameter->written, 0,
-                                                       parameter->count);
+        if (is_state(parameter))
+          lists[k] = state(parameter->content,
+                           expected.number != 0 ? parameter->content : parameter->written,
+                           parameter->size);
+        else
+          lists[k] = parameter->content != NULL ? input(parameter->content, len, parameter->size)
+                     : expected.number != 0     ? output(len, parameter->size)
+                                                : filled(len, parameter->size, parameter->written,
+                                                         0, parameter->count);
       }
       run(__LINE__, (int)which, lists, which == MEASURE_CALL ? ends_of(0, 2) : within_ratio(4, 6),
           which == LEAST || which == PEDESTALS ? 2 : 0, expected);
@@ -2241,6 +2632,28 @@ static void longest_scan(void) {
   scan(__LINE__, trace(ticks, SAMPLES, values, SAMPLES), &given, 1, MOST * SAMPLES - 1,
        KOVRELNA_REFUSED_ROOM, MOST * SAMPLES, NULL);
   NOT_SCANNED(TRACE(ticks, values), given.tolerances, 1, KOVRELNA_REFUSED_LENGTH, 0);
+}
+
+/* Views of a trace of 4,096 samples, the last additions as view_after says; then without a new
+ * sample, and with a sample too many. */
+static void longest_view(void) {
+  enum { SAMPLES = KOVRELNA_SAMPLES_MAX };
+  static const uint32_t ks[] = {0, 1, 8, KOVRELNA_VIEW_K_MAX};
+  static uint32_t ticks[SAMPLES + 1];
+  static int16_t values[SAMPLES + 1];
+  size_t x, n;
+  for (n = 0; n <= SAMPLES; n++) {
+    ticks[n] = (uint32_t)(255 * n);
+    values[n] = (int16_t)(n * n % 997 * (n % 512 / 256));
+  }
+  for (x = 0; x < COUNT(ks); x++) {
+    kovrelna_view view = kovrelna_view_begin(ks[x]).view;
+    for (n = 2; n < SAMPLES; n++) kovrelna_view_add(&view, ticks, n, values, n);
+    differ("last sample", view.samples[view.count - 1], SAMPLES - 2);
+    view = grown(__LINE__, trace(ticks, SAMPLES, values, SAMPLES), view);
+    NOT_ADDED(view, trace(ticks, SAMPLES, values, SAMPLES), KOVRELNA_REFUSED_VIEW, 0);
+    NOT_ADDED(view, TRACE(ticks, values), KOVRELNA_REFUSED_LENGTH, 0);
+  }
 }
 
 /* Two traces of 4,096 samples, with the two ends, every second sample and all of them kept; then
@@ -2370,8 +2783,8 @@ static void words(void) {
   now_name = "cause";
   differ("no refusal", strcmp(cause(0), "none") != 0, 0);
   differ("no refusal", strcmp(cause(UINT32_MAX), "none") != 0, 0);
-  differ("no refusal", strcmp(cause(KOVRELNA_REFUSED_COUNT + 1), "none") != 0, 0);
-  for (number = 0; number <= KOVRELNA_REFUSED_COUNT; number++)
+  differ("no refusal", strcmp(cause(KOVRELNA_REFUSED_VIEW + 1), "none") != 0, 0);
+  for (number = 0; number <= KOVRELNA_REFUSED_VIEW; number++)
     for (other = 0; other < number; other++)
       differ("the same words", strcmp(cause(number), cause(other)) == 0, 0);
   now_name = "side";
@@ -2396,6 +2809,11 @@ int main(void) {
   scans();
   no_scans();
   lists_of_tolerances();
+  begun_views();
+  views();
+  growing_views();
+  copied_views();
+  no_views();
   sums();
   no_sums();
   codes();
@@ -2408,6 +2826,7 @@ int main(void) {
   empty_lists();
   longest();
   longest_scan();
+  longest_view();
   longest_sum();
   longest_crate();
   longest_runs();
