@@ -1,5 +1,5 @@
-//! Repeatable random traces, lists, range tables, contents of records, crates, pedestal runs and traces to
-//! be added, chosen to find mistakes.
+//! Repeatable random traces, lists, states of views, range tables, contents of records, crates, pedestal runs
+//! and traces to be added, chosen to find mistakes.
 //!
 //! - [`Random`]: numbers from a seed.
 //! - [`Trace`], [`Kind`], [`trace`]: traces within the limits, of several kinds.
@@ -9,6 +9,8 @@
 //! - [`Holes`], [`with_holes`], [`gap_limit`], [`any_limited`]: traces and gap limits that matter to them.
 //! - [`kept_list`], [`obeying_list`], [`any_list`], [`damaged`]: kept lists, and lists with one or more
 //!   faults.
+//! - [`growing`], [`view_k`], [`view_state`], [`damage_view`]: traces for views, with ties and without, and
+//!   states of views and others.
 //! - [`just_below`]: the tolerance nearest below a link's error.
 //! - [`range_table`], [`damaged_table`]: range tables that are allowed, and others.
 //! - [`content`]: contents of records.
@@ -22,6 +24,7 @@
 use crate::pedestals::{Sums, FACTOR};
 use crate::record::Content;
 use crate::sums::Summand;
+use crate::views::{State, ENTRIES, K};
 use crate::{beside_holes, Fraction, DENOMINATOR, GAP, SAMPLES, SPAN, TOLERANCE};
 
 /// A generator (splitmix64): the same seed gives the same numbers.
@@ -438,6 +441,61 @@ pub fn damaged(list: &[u16], samples: usize, random: &mut Random) -> Vec<u16> {
     list
 }
 
+/// A trace that grows in a view: of any kind or shape, with equal deviations, with equally bad links, or of
+/// one value.
+pub fn growing(samples: usize, random: &mut Random) -> Trace {
+    match random.below(6) {
+        0..=2 => any_trace(samples, random),
+        3 => tied(samples, random),
+        4 => repeated(samples, random),
+        _ => {
+            let mut trace = any_trace(samples, random);
+            trace.values = vec![trace.values[0]; samples];
+            trace
+        }
+    }
+}
+
+/// A k for the view of a trace with so many samples: the least and the greatest, small ones, any, and the one
+/// that the samples just fill.
+pub fn view_k(samples: usize, random: &mut Random) -> u32 {
+    let any = random.below(u64::from(K) + 1) as u32;
+    let filled = (samples as u32 / 2).saturating_sub(1).min(K);
+    random.choose(&[0, 1, 1, 2, 2, 3, any, filled, K])
+}
+
+/// A state with a kept list of so many samples that has at most 2 k inner samples, few of them or all that
+/// there may be, and anything behind it.
+pub fn view_state(k: u32, samples: usize, random: &mut Random) -> State {
+    let mut list = kept_list(samples, random);
+    let most = 2 * k as usize + 2;
+    while list.len() > most {
+        list.remove(random.within(1, list.len() as i64 - 2) as usize);
+    }
+    let entries = [(); ENTRIES].map(|_| random.bits() as u16);
+    let count = 0;
+    State { k, count, entries }.with_list(&list)
+}
+
+/// Changes k, the count or one of the first entries, so that this may be no view any more.
+pub fn damage_view(state: &mut State, random: &mut Random) {
+    let at = random.below(u64::from(state.count).clamp(1, 66)) as usize;
+    let any = random.bits() as u32;
+    match random.below(9) {
+        0 => state.k = random.choose(&[K + 1, K + 2, 1 << 31, u32::MAX, any]),
+        // Too few for the list, if it has inner samples.
+        1 => state.k = random.choose(&[0, state.count.saturating_sub(3) / 2]),
+        2 => state.count = random.choose(&[0, 67, 68, 1 << 16, u32::MAX, any]),
+        // The same count, if it is cut to 16 bits or to 31.
+        3 => state.count |= random.choose(&[1 << 16, 1 << 31]),
+        4 => state.count = state.count.wrapping_add(random.choose(&[1, u32::MAX])),
+        5 => state.entries[at] = state.entries[at].wrapping_add(random.choose(&[1, u16::MAX])),
+        6 => state.entries[at] = state.entries[at.saturating_sub(1)],
+        7 => state.entries.swap(at, at.saturating_sub(1)),
+        _ => state.entries[at] = random.choose(&[0, 4_095, 4_096, u16::MAX]),
+    }
+}
+
 /// For p/q above 0 in lowest terms, q at most 1,048,575: the r/s below it with p s - r q = 1 and s
 /// as great as a tolerance allows. No fraction with that s lies between.
 pub fn just_below(Fraction { p, q }: Fraction) -> Fraction {
@@ -824,6 +882,7 @@ mod tests {
     use crate::pedestals::{shift_over, spread_over};
     use crate::record::table_fault;
     use crate::sums::{bound, sum};
+    use crate::views::{add, begin};
     use crate::{
         above_line, link_error, link_valid, list_error, list_obeys, list_refusal, trace_refusal,
     };
@@ -928,6 +987,59 @@ mod tests {
         }
         let seen = steps.iter().chain(&limits);
         assert!(seen.min() > Some(&100), "{steps:?} {limits:?}");
+    }
+
+    /// States that are views of so many samples, full ones and others, at every k; damaged ones that are
+    /// none, and some that still are.
+    #[test]
+    fn states_of_every_sort() {
+        let random = &mut Random::new(20);
+        let (mut full, mut damaged) = ([0; 2], [0; 2]);
+        let mut ks = [0; K as usize + 1];
+        for _ in 0..20_000 {
+            let samples = random.within(1, 80) as usize;
+            let k = view_k(samples, random);
+            let mut state = view_state(k, samples, random);
+            assert!(state.view_of(samples).is_some(), "{samples} {state:?}");
+            full[usize::from(state.count == 2 * k + 2)] += 1;
+            ks[k as usize] += 1;
+            damage_view(&mut state, random);
+            damaged[usize::from(state.view_of(samples).is_some())] += 1;
+        }
+        let seen = full.iter().chain(&damaged).chain(&ks);
+        assert!(seen.clone().min() > Some(&50), "{seen:?}");
+    }
+
+    /// Traces in which a view drops its first inner sample, its last and others, and those in which one that
+    /// is dropped has an equal and in which it has none.
+    #[test]
+    fn growing_traces_of_every_sort() {
+        let random = &mut Random::new(21);
+        let (mut places, mut equals) = ([0; 3], [0; 2]);
+        for _ in 0..1_000 {
+            let samples = random.within(8, 30) as usize;
+            let Trace { ticks, values } = growing(samples, random);
+            assert_eq!(trace_refusal(&ticks, &values), None, "{samples}");
+            let mut state = begin(2).unwrap();
+            for n in 2..=samples {
+                let before = state.list().unwrap().to_vec();
+                state = add(&state, &ticks[..n], &values[..n]).unwrap();
+                let list = [&before[..], &[n as u16 - 1]].concat();
+                let after = state.list().unwrap();
+                let Some(dropped) = list.iter().position(|sample| !after.contains(sample)) else {
+                    continue;
+                };
+                let error = |at: usize| {
+                    let (i, j) = (list[at - 1].into(), list[at + 1].into());
+                    link_error(&ticks, &values, i, j)
+                };
+                let equal = (1..=5).any(|at| at != dropped && error(at) == error(dropped));
+                equals[usize::from(equal)] += 1;
+                places[usize::from(dropped > 1) + usize::from(dropped == 5)] += 1;
+            }
+        }
+        let seen = places.iter().chain(&equals);
+        assert!(seen.clone().min() > Some(&1_000), "{seen:?}");
     }
 
     #[test]

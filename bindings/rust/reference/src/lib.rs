@@ -20,9 +20,10 @@
 //! - [`report`]: the report on a crate.
 //! - [`pedestals`]: two pedestal runs of a crate, compared.
 //! - [`scans`]: the scan of a trace at several tolerances.
+//! - [`views`]: the live view of a trace that grows.
 //! - [`sums`]: two traces with kept lists, added.
-//! - [`generate`]: repeatable random traces, lists, range tables, contents of records, crates, pedestal
-//!   runs and traces to be added.
+//! - [`generate`]: repeatable random traces, lists, states of views, range tables, contents of records,
+//!   crates, pedestal runs and traces to be added.
 
 pub mod generate;
 pub mod pedestals;
@@ -30,6 +31,7 @@ pub mod record;
 pub mod report;
 pub mod scans;
 pub mod sums;
+pub mod views;
 
 use std::cmp::Reverse;
 
