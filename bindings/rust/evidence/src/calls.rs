@@ -15,6 +15,8 @@ pub enum Call {
     Minimum,
     Least,
     Scan,
+    ViewBegin,
+    ViewAdd,
     Sum,
     Expand,
     ExpandWith,
@@ -26,7 +28,7 @@ pub enum Call {
 }
 
 /// Every call.
-pub const CALLS: [Call; 16] = [
+pub const CALLS: [Call; 18] = [
     Call::Hold,
     Call::Measure,
     Call::Judge,
@@ -35,6 +37,8 @@ pub const CALLS: [Call; 16] = [
     Call::Minimum,
     Call::Least,
     Call::Scan,
+    Call::ViewBegin,
+    Call::ViewAdd,
     Call::Sum,
     Call::Expand,
     Call::ExpandWith,
@@ -46,7 +50,7 @@ pub const CALLS: [Call; 16] = [
 ];
 
 /// How many rows the table has.
-pub const ROWS: usize = 19;
+pub const ROWS: usize = 20;
 
 /// How often a call was compared: first with an answer, then with each row of the table.
 pub type Counts = [u64; ROWS + 1];
@@ -62,6 +66,8 @@ impl Call {
             Call::Minimum => "minimum",
             Call::Least => "least",
             Call::Scan => "scan",
+            Call::ViewBegin => "view_begin",
+            Call::ViewAdd => "view_add",
             Call::Sum => "sum",
             Call::Expand => "expand",
             Call::ExpandWith => "expand_with",
@@ -83,6 +89,8 @@ impl Call {
             Call::Walk | Call::Gallop | Call::Minimum => &[1, 2, 3, 4, 15, 10],
             Call::Least => &[1, 2, 3, 15, 5, 16, 10],
             Call::Scan => &[1, 2, 3, 19, 4, 15, 10],
+            Call::ViewBegin => &[20],
+            Call::ViewAdd => &[1, 2, 3, 20],
             Call::Sum => &[1, 2, 3, 1, 2, 3, 6, 6, 17, 18, 10],
             Call::Expand => &[1, 10],
             Call::ExpandWith => &[1, 12, 10],

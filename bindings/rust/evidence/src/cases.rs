@@ -4,12 +4,13 @@
 //! - [`FAMILIES`], [`any`]: every sort, and one drawn from them.
 //! - [`held_tolerances`], [`links_measured`], [`judge_list`], [`codes`], [`codes_with_tables`],
 //!   [`round_trip`], [`random_commands`], [`comparison`], [`random_faults`], [`crates`],
-//!   [`pedestal_runs`], [`traces_scanned`], [`traces_summed`]: sorts that the tests run by themselves too.
+//!   [`pedestal_runs`], [`traces_scanned`], [`traces_viewed`], [`traces_summed`]: sorts that the tests run by
+//!   themselves too.
 //! - [`codes_and_room`]: codes, and the entries of their output.
 
 use crate::compare::{
     exactly, expand, expand_with, form, hold, judge, least, measure, noise, pedestals, ratio, read,
-    reduce, report, same, scan, write,
+    reduce, report, same, scan, view_add, view_begin, write,
 };
 use crate::measures::{self, judged};
 use crate::reductions::{
@@ -17,12 +18,13 @@ use crate::reductions::{
 };
 use crate::scans::{after_sample, scanned};
 use crate::sums::added;
+use crate::views::{grow, grown, within_twice};
 use kovrelna::Tolerance::{self, Counts};
 use kovrelna::GAP_MAX;
 use kovrelna_reference::generate::{
     any_limited, any_list, any_trace, channels, content, crate_of, damage_crate, damage_summand,
-    damage_trace, damaged, damaged_table, gap_limit, just_below, overflow, range_table, runs,
-    summands, tied, Random, Runs, Trace,
+    damage_trace, damage_view, damaged, damaged_table, gap_limit, growing, just_below, overflow,
+    range_table, runs, summands, tied, view_k, view_state, Random, Runs, Trace,
 };
 use kovrelna_reference::record::{encode, end, first, long, short, tolerance, Content};
 use kovrelna_reference::{
@@ -38,7 +40,7 @@ pub struct Family {
 }
 
 /// Every sort.
-pub const FAMILIES: [Family; 26] = [
+pub const FAMILIES: [Family; 28] = [
     Family {
         name: "tolerances",
         weight: 40,
@@ -102,6 +104,16 @@ pub const FAMILIES: [Family; 26] = [
         name: "longest traces scanned",
         weight: 1,
         case: longest_scanned,
+    },
+    Family {
+        name: "traces viewed",
+        weight: 100,
+        case: |random| traces_viewed(40, random),
+    },
+    Family {
+        name: "longest traces viewed",
+        weight: 1,
+        case: longest_viewed,
     },
     Family {
         name: "traces summed",
@@ -506,8 +518,8 @@ pub fn comparison(random: &mut Random) {
     same(&record, &encode(&other)).unwrap();
 }
 
-/// A trace, a list, tolerances, a gap limit and an output with none, one or two faults, and two samples that
-/// may be none of the trace, for every call that takes a trace.
+/// A trace, a list, tolerances, a gap limit and an output with none, one or two faults, two samples that may
+/// be none of the trace, and a state that may be no view of it, for every call that takes a trace.
 pub fn random_faults(random: &mut Random) {
     let samples = random.within(1, 12) as usize;
     let (Trace { mut ticks, values }, mut gap) = any_limited(samples, random);
@@ -549,6 +561,12 @@ pub fn random_faults(random: &mut Random) {
         .skip(at)
         .for_each(|entry| *entry = tolerance);
     let _ = scan(&ticks, &values, &tolerances, gap, count * room);
+    let k = view_k(samples, random);
+    let mut state = view_state(k, random.choose(&[samples - 1, samples]).max(1), random);
+    if random.below(2) == 0 {
+        damage_view(&mut state, random);
+    }
+    let _ = view_add(&state, &ticks, &values);
 }
 
 /// A crate of so many channels at most, of traces of up to so many samples, with none, one or two faults
@@ -632,6 +650,43 @@ fn longest_scanned(random: &mut Random) {
         gap,
         count * samples,
     );
+}
+
+/// A view that is begun, with a k in range or not, and grows with a trace of up to so many samples: its error
+/// after a sample, and at the end. Then a state set by hand, to which a sample is added; half of them may
+/// have up to three faults that the call refuses: in the trace or in the state.
+pub fn traces_viewed(most: i64, random: &mut Random) {
+    let any = random.within(2, most) as usize;
+    let samples = random.choose(&[any, any, any, most as usize]);
+    let mut trace = growing(samples, random);
+    let k = view_k(samples, random);
+    let any = random.bits();
+    let _ = view_begin(random.choose(&[any, any >> 58, 32, 33, 1 << 32]));
+    let at = random.within(2, samples as i64) as usize;
+    let state = grown(&trace, k, |so_far, state| {
+        if so_far.ticks.len() == at {
+            within_twice(so_far, state);
+        }
+    });
+    within_twice(&trace, &state);
+    let mut state = view_state(k, samples - 1, random);
+    let faulty = random.below(2);
+    for _ in 0..faulty * random.below(4) {
+        match random.below(3) {
+            0 => damage_trace(&mut trace, random),
+            _ => damage_view(&mut state, random),
+        }
+    }
+    let _ = view_add(&state, &trace.ticks, &trace.values);
+}
+
+/// The last samples of the longest traces, added to a state set by hand.
+fn longest_viewed(random: &mut Random) {
+    let any = random.within(1_000, 4_096) as usize;
+    let samples = random.choose(&[any, 4_095, 4_096]);
+    let trace = growing(samples, random);
+    let state = view_state(view_k(samples, random), samples - 4, random);
+    grow(&trace, &state, |_, _| ());
 }
 
 /// Two traces of up to so many samples with kept lists, added. Half of them may have up to three faults that

@@ -4,7 +4,7 @@
 
 use crate::calls::Call;
 use kovrelna::{
-    Limits, Ratio, ReducedTrace, Refusal, Run, Summary, Tolerance, Totals, Verdict, GAP_MAX,
+    Limits, Ratio, ReducedTrace, Refusal, Run, Summary, Tolerance, Totals, Verdict, View, GAP_MAX,
 };
 use kovrelna_reference::generate::Channels;
 use kovrelna_reference::pedestals::{self, Pedestals};
@@ -12,6 +12,7 @@ use kovrelna_reference::record::{self, Content};
 use kovrelna_reference::report::{self, Report};
 use kovrelna_reference::scans;
 use kovrelna_reference::sums::{self, Sum, Summand};
+use kovrelna_reference::views::{self, State};
 use kovrelna_reference::{Form, Fraction, Invalid, Least, Measure, Method, Reduced, Row, Side};
 use std::hint::black_box;
 
@@ -327,6 +328,60 @@ pub fn scan(
             ticks.as_expected() && values.as_expected() && out.as_expected(),
             "a list is wrong, or another element was changed: {:?}\n{}",
             out.slice(),
+            input()
+        );
+    }
+    expected
+}
+
+/// The library's word for a state.
+fn view(State { k, count, entries }: &State) -> View {
+    View {
+        k: *k,
+        count: *count,
+        samples: *entries,
+    }
+}
+
+/// Calls `View::begin`, compares with the reference, and returns the state or the refusal's row.
+pub fn view_begin(k: u64) -> Result<State, Row> {
+    let expected = views::begin(k);
+    Call::ViewBegin.count(&expected);
+    let known = expected.as_ref().map(view).map_err(|row| *row);
+    assert_eq!(View::begin(k).map_err(row), known, "view_begin {k}");
+    expected
+}
+
+/// Calls `View::add` on a state between two kinds of guard elements, compares with the reference, sees that
+/// the whole state is as the reference's, or as it was beside a refusal, and that no other element changed,
+/// and returns the state or the refusal's row.
+pub fn view_add(state: &State, ticks: &[u32], values: &[i16]) -> Result<State, Row> {
+    let expected = views::add(state, ticks, values);
+    Call::ViewAdd.count(&expected);
+    for guards in GUARDS {
+        let ticks = Guarded::new(ticks, guards.0);
+        let values = Guarded::new(values, guards.1);
+        let guard = View {
+            k: guards.0,
+            count: guards.0,
+            samples: [guards.2; views::ENTRIES],
+        };
+        let mut lent = Guarded::new(&[view(state)], guard);
+        let (t, v) = (ticks.slice(), values.slice());
+        let answer = lent.slice_mut()[0].add(t, v).map_err(row);
+        let input = || format!("view_add to {state:?} of ticks, values: {t:?} {v:?}");
+        let known = match &expected {
+            Ok(after) => {
+                lent.expect(0, &[view(after)]);
+                Ok(())
+            }
+            Err(row) => Err(*row),
+        };
+        assert_eq!(answer, known, "{}", input());
+        assert!(
+            ticks.as_expected() && values.as_expected() && lent.as_expected(),
+            "the state is wrong, or another element was changed: {:?}\n{}",
+            lent.slice(),
             input()
         );
     }

@@ -6,6 +6,7 @@
 //! - [`measures`]: what holds of the measures of links, and of judge's no.
 //! - [`reductions`]: what holds of the lists of the reductions.
 //! - [`scans`]: what holds of scans.
+//! - [`views`]: what holds of views.
 //! - [`sums`]: what holds of sums.
 //! - [`cases`]: random cases of every sort.
 //! - [`run`]: many cases from one seed.
@@ -19,3 +20,4 @@ pub mod reductions;
 pub mod run;
 pub mod scans;
 pub mod sums;
+pub mod views;
