@@ -8,6 +8,7 @@
 //! - `reduce`: walk, gallop and minimum on random and adversarial traces.
 //! - `least`: least errors on random and adversarial traces.
 //! - `scans`: scans at several tolerances.
+//! - `views`: views of traces that grow.
 //! - `sums`: traces with kept lists, added.
 //! - `gaps`: gap limits, on traces with holes in every place.
 //! - `codes`: range codes, with their own values and with those of a table.
@@ -29,6 +30,7 @@ mod refusals;
 mod report;
 mod scans;
 mod sums;
+mod views;
 
 use kovrelna_reference::generate::Trace;
 use kovrelna_reference::{Fraction, Invalid, Measure, Side};

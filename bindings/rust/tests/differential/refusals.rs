@@ -7,11 +7,12 @@ use kovrelna_evidence::calls::CALLS;
 use kovrelna_evidence::cases::random_faults;
 use kovrelna_evidence::compare::{
     expand, expand_with, hold, judge, least, measure, noise, pedestals, ratio, read, reduce,
-    report, same, scan, sum, write,
+    report, same, scan, sum, view_add, view_begin, write,
 };
 use kovrelna_reference::generate::{crate_of, Channels, Random, Trace};
 use kovrelna_reference::record::{end, first, short, tolerance};
 use kovrelna_reference::sums::Summand;
+use kovrelna_reference::views::{self, State, ENTRIES};
 use kovrelna_reference::{Method, Row};
 
 /// What calls are lent; each takes the fields that concern it.
@@ -28,6 +29,9 @@ struct Input {
     /// The tolerances of a scan, and the entries of its output.
     tolerances: Vec<Tolerance>,
     scan_room: usize,
+    /// The k from which a view is begun, and the state to which a sample is added.
+    k: u64,
+    view: State,
     /// Two traces to be added.
     summands: [Summand; 2],
     codes: Vec<u8>,
@@ -48,8 +52,9 @@ struct Input {
 }
 
 /// Eight samples, codes or channels, and outputs with exactly enough room: no call refuses it. The least
-/// gap limit leaves no hole. There are three tolerances to scan at. The channels of the two runs have three
-/// samples each, and the ticks of the two traces to be added rise by two.
+/// gap limit leaves no hole. There are three tolerances to scan at. The state is a full view of the first
+/// seven samples. The channels of the two runs have three samples each, and the ticks of the two traces to be
+/// added rise by two.
 fn accepted() -> Input {
     let run = Channels {
         ticks: (0..24).collect(),
@@ -76,6 +81,8 @@ fn accepted() -> Input {
         allowance: 2,
         tolerances: vec![ratio(0, 1); 3],
         scan_room: 24,
+        k: 32,
+        view: view(1, &[0, 2, 3, 6]),
         summands: [summand.clone(), summand],
         codes: vec![9; 8],
         table: (-100..156).collect(),
@@ -89,6 +96,16 @@ fn accepted() -> Input {
         size: 22,
         place: 0,
     }
+}
+
+/// A state with this list, and something else in each entry behind it.
+fn view(k: u32, list: &[u16]) -> State {
+    let mut entries = [0; ENTRIES];
+    for (k, entry) in entries.iter_mut().enumerate() {
+        *entry = 0x8000 | k as u16;
+    }
+    let count = 0;
+    State { k, count, entries }.with_list(list)
 }
 
 /// The row with which the call refuses, which is the reference's too; nothing that was lent is changed
@@ -121,6 +138,8 @@ fn refused(call: Call, input: &Input) -> Option<Row> {
             } = input;
             scan(ticks, values, tolerances, *gap, input.scan_room).err()
         }
+        ViewBegin => view_begin(input.k).err(),
+        ViewAdd => view_add(&input.view, ticks, values).err(),
         Sum => {
             let [first, second] = &input.summands;
             sum(first, second, input.rooms).err()
@@ -147,7 +166,9 @@ fn refused(call: Call, input: &Input) -> Option<Row> {
 
 /// The calls that take a trace, one of any number of samples from 1 to 4,096, a tolerance, a gap limit, a
 /// list, codes; those with an output of an entry for each sample, code or channel, and with two of them.
-const TRACES: &[Call] = &[Measure, Judge, Walk, Gallop, Minimum, Least, Scan, Write];
+const TRACES: &[Call] = &[
+    Measure, Judge, Walk, Gallop, Minimum, Least, Scan, ViewAdd, Write,
+];
 const LONG_TRACES: &[Call] = &[Judge, Walk, Gallop, Minimum, Scan, Write];
 const TOLERANCES: &[Call] = &[Hold, Judge, Walk, Gallop, Minimum, Write, Report, Pedestals];
 const GAPS: &[Call] = &[Judge, Walk, Gallop, Minimum, Least, Scan, Write, Report];
@@ -181,6 +202,8 @@ const FAULTS: &[Fault] = &[
             .iter_mut()
             .for_each(|tick| *tick += 1_048_576)
     }),
+    (&[ViewBegin], (20, 0), |input| input.k = 33),
+    (&[ViewAdd], (20, 0), |input| input.view.entries[1] = 3),
     (&[Scan], (19, 0), |input| {
         input.tolerances.resize(17, ratio(0, 1))
     }),
@@ -312,6 +335,8 @@ fn limits() {
         lengths(),
         tables(),
         ticks(),
+        ks(),
+        states(),
         counts(),
         tolerances(),
         gaps(),
@@ -371,6 +396,10 @@ fn lengths() -> Vec<Entry> {
                 list: list.clone(),
                 rooms: (samples, samples),
                 scan_room: 3 * samples,
+                view: match samples {
+                    ..=2 => view(1, &[0]),
+                    _ => view(1, &[0, samples as u16 - 2]),
+                },
                 size: 100,
                 ..accepted()
             };
@@ -390,6 +419,9 @@ fn lengths() -> Vec<Entry> {
             // One sample is no link.
             let no_link = (samples == 1).then_some((6, 1));
             entries.push((&[Measure], input.clone(), row.or(no_link)));
+            // There is no sample before it, and no view.
+            let no_view = (samples == 1).then_some((20, 0));
+            entries.push((&[ViewAdd], input.clone(), row.or(no_view)));
             if !allowed {
                 // Later rows fail too.
                 let input = Input {
@@ -401,11 +433,12 @@ fn lengths() -> Vec<Entry> {
                     tolerances: Vec::new(),
                     rooms: (0, 0),
                     scan_room: 0,
+                    view: view(33, &[]),
                     size: 0,
                     ..input
                 };
                 entries.push((LONG_TRACES, input.clone(), row));
-                entries.push((&[Measure], input, row));
+                entries.push((&[Measure, ViewAdd], input, row));
                 let mut summand = summand;
                 summand.trace.ticks.fill(5);
                 summand.list.clear();
@@ -507,6 +540,7 @@ fn ticks() -> Vec<Entry> {
             link: (0, 3),
             list: vec![0, 3],
             gap: GAP_MAX,
+            view: view(0, &[0, 2]),
             size: 100,
             ..accepted()
         };
@@ -540,6 +574,109 @@ fn ticks() -> Vec<Entry> {
                 entries.push((&[Sum], input, rows));
             }
         }
+    }
+    entries
+}
+
+/// Every k of a view, and others.
+fn ks() -> Vec<Entry> {
+    let allowed = (0..=32).map(|k| (k, None));
+    let refused = [33, 34, 64, 255, 256, 65_536, 1 << 31, u32::MAX.into()];
+    let cut = [1 << 32, 1 << 32 | 32, 1 << 63, u64::MAX - 1, u64::MAX];
+    let refused = refused.iter().chain(&cut).map(|&k| (k, Some((20, 0))));
+    let entry = |(k, row)| -> Entry { (&[ViewBegin], Input { k, ..accepted() }, row) };
+    allowed.chain(refused).map(entry).collect()
+}
+
+/// States beside a trace of six samples, of which the first five are viewed.
+fn states() -> Vec<Entry> {
+    let cases: [(u32, &[u16], bool); 40] = [
+        (0, &[0, 4], true),
+        (1, &[0, 4], true),
+        (1, &[0, 2, 4], true),
+        (1, &[0, 1, 3, 4], true),
+        (2, &[0, 1, 2, 3, 4], true),
+        (32, &[0, 1, 2, 3, 4], true),
+        // k out of range; 2 k + 2 may be small if it is cut to 32 bits.
+        (33, &[0, 4], false),
+        (34, &[0, 1, 2, 3, 4], false),
+        (1 << 16, &[0, 4], false),
+        ((1 << 31) - 1, &[0, 4], false),
+        (1 << 31, &[0, 4], false),
+        ((1 << 31) + 1, &[0, 4], false),
+        ((1 << 31) + 2, &[0, 1, 2, 3, 4], false),
+        (u32::MAX, &[0, 4], false),
+        // Empty.
+        (0, &[], false),
+        (32, &[], false),
+        // A first entry that is not 0.
+        (1, &[1, 4], false),
+        (1, &[4], false),
+        (1, &[5], false),
+        (1, &[u16::MAX, 4], false),
+        // Equal neighbours.
+        (2, &[0, 0, 4], false),
+        (2, &[0, 2, 2, 4], false),
+        (2, &[0, 2, 4, 4], false),
+        // Falling.
+        (2, &[0, 3, 2, 4], false),
+        (2, &[0, 4, 0], false),
+        (2, &[0, 4, 3, 4], false),
+        // Beyond the samples before the new one.
+        (1, &[0, 5], false),
+        (1, &[0, 4, 5], false),
+        (2, &[0, 5, 4], false),
+        (1, &[0, 6], false),
+        (1, &[0, 4_096], false),
+        (1, &[0, u16::MAX], false),
+        // Stops short.
+        (1, &[0], false),
+        (1, &[0, 3], false),
+        (1, &[0, 1, 2, 3], false),
+        // Too many inner samples.
+        (0, &[0, 1, 4], false),
+        (0, &[0, 3, 4], false),
+        (0, &[0, 1, 2, 3, 4], false),
+        (1, &[0, 1, 2, 3, 4], false),
+        (0, &[0, 2, 3, 4], false),
+    ];
+    let mut entries: Vec<Entry> = Vec::new();
+    let mut add = |view: &State, samples: usize, is_view: bool| {
+        let row = (!is_view).then_some((20, 0));
+        let input = Input {
+            ticks: (0..samples as u32).collect(),
+            values: vec![0; samples],
+            view: view.clone(),
+            ..accepted()
+        };
+        entries.push((&[ViewAdd], input, row));
+    };
+    for (k, list, is_view) in cases {
+        add(&view(k, list), 6, is_view);
+        // One sample more or fewer is another trace.
+        if is_view {
+            add(&view(k, list), 5, false);
+            add(&view(k, list), 7, false);
+        }
+    }
+    // Counts above the room, or that are the list's if they are cut to 16 bits or to 31.
+    let list = view(32, &[0, 4]);
+    for count in [67, 68, 1 << 16, 1 << 16 | 2, 1 << 31 | 2, u32::MAX] {
+        let list = list.clone();
+        add(&State { count, ..list }, 6, false);
+    }
+    // At each k as many inner samples as there may be, and one more, as far as there is room.
+    let all: Vec<u16> = (0..ENTRIES as u16).collect();
+    for k in 0..=views::K {
+        let most = 2 * k as usize + 2;
+        let full = view(k, &all[..most]);
+        add(&full, most + 1, true);
+        let count = full.count + 1;
+        let more = match all.get(..=most) {
+            Some(more) => full.with_list(more),
+            None => State { count, ..full },
+        };
+        add(&more, most + 2, false);
     }
     entries
 }
@@ -1386,6 +1523,7 @@ fn numbers() {
         (Refusal::Length, 1, 0),
         (Refusal::Tick(21), 2, 21),
         (Refusal::Span(31), 3, 31),
+        (Refusal::View, 20, 0),
         (Refusal::Count, 19, 0),
         (Refusal::Tolerance, 4, 0),
         (Refusal::ToleranceAt(0), 4, 0),
@@ -1418,6 +1556,8 @@ fn numbers() {
         );
     }
     for (refusal, part) in [
+        (Refusal::View, "k of a view is above 32"),
+        (Refusal::View, "its state is no view of the earlier samples"),
         (Refusal::Count, "no tolerances, or more than 16"),
         (Refusal::ToleranceAt(3), "the tolerance at position 3"),
         (Refusal::Gap, "the gap limit is below 1 or above 1,048,575"),
