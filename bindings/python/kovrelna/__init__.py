@@ -7,6 +7,7 @@
 - `walk`, `Galloped`, `gallop`, `minimum`: kept lists with every link valid.
 - `Least`, `least`: the least error that so many samples allow.
 - `scan`: what `walk` keeps at each of several tolerances, in one pass.
+- `View`: a view of a trace that grows, sample by sample.
 - `Sum`, `sum`: two traces with the same ticks added, and their kept lists joined.
 - `Summary`, `Report`, `report`: a row for each channel of a crate, and totals.
 - `Run`, `Pedestals`, `pedestals`: which channels have moved or are noisy since a run before.
@@ -63,6 +64,7 @@ kovrelna.Refusal: refused as 6: no kept list: it ends with 1, not with the last 
 from __future__ import annotations
 
 import builtins
+import ctypes
 import itertools
 import operator
 from dataclasses import dataclass
@@ -94,6 +96,7 @@ __all__ = [
     "Sum",
     "Summary",
     "Verdict",
+    "View",
     "check",
     "expand",
     "expand_with",
@@ -124,11 +127,11 @@ _CHANNELS = 64
 
 class Refusal(ValueError):
     """A call declined. It checks the rows that concern it in rising number, only 14 and then 11
-    before all others, 12 right after 1, 19 right before 4, 15 right after 4 (in `least` right after
-    3) and 16 right after 5; `pedestals` checks 1, 2, 3 and 13 after 4, channel by channel, and `sum`
-    checks 1, 2, 3 of trace 1 before those of trace 2, and 10 last. It answers with the first that
-    fits; a refused call leaves every list as it was. `number` and `value` are the row's; `words` say
-    what is wrong with what was given.
+    before all others, 12 right after 1, 20 right after 3, 19 right before 4, 15 right after 4 (in
+    `least` right after 3) and 16 right after 5; `pedestals` checks 1, 2, 3 and 13 after 4, channel by
+    channel, and `sum` checks 1, 2, 3 of trace 1 before those of trace 2, and 10 last. It answers with
+    the first that fits; a refused call leaves every list and view as it was. `number` and `value` are
+    the row's; `words` say what is wrong with what was given.
 
     | Number | Cause | Value |
     |---|---|---|
@@ -155,6 +158,7 @@ value is not above the one before |
 traces does not have |
     | 18 | a sum is below -32,768 or above 32,767 | its sample |
     | 19 | there are no tolerances, or more than 16 | 0 |
+    | 20 | k of a view is above 32, or its state is no view of the earlier samples | 0 |
 
     In `pedestals` the value of 1, 2 and 3 is the channel. A bad entry is a first one that is not 0,
     one that is not above the entry before it, or one beyond the trace. In `measure` the value of 6
@@ -526,6 +530,98 @@ write Ratio(1, 10) or Fraction(1, 10)
         answer = _library.scan(*trace, lent, _number(gap, 32), *loan.output("out", room, ENTRY))
         _check(answer, loan, most=_SAMPLES, tolerances=given, gap=gap)
     return parts(room, ENTRY, samples, answer.kept[:count], out is None)
+
+
+class View:
+    """A live view, which keeps a few samples of a trace while it grows: with k from 0 to 32, both
+    ends and at most 2 k inner samples, those between the ends. It is begun from k alone, as the view
+    of the first sample, and each new sample is added to it. Refusal: 20 if k is below 0 or above 32.
+
+    A view can be copied and pickled, and the copy goes on as the view itself does; if what is restored
+    is no view, the next addition refuses it. Two views are equal if their k and their samples are. Of
+    additions to one view that run at the same time on several threads, the one that ends last counts.
+
+    >>> ticks, values = range(8), [-4, -4, 0, 4, -4, 4, -4, 0]
+    >>> view = View(1)
+    >>> view.samples
+    [0]
+    >>> for n in range(2, 9):
+    ...     view.add(ticks[:n], values[:n])
+    >>> view
+    View(k=1, samples=[0, 4, 5, 7])
+    >>> view.add(ticks, values)
+    Traceback (most recent call last):
+        ...
+    kovrelna.Refusal: refused as 20: no view of the earlier samples: it ends with sample 7, and the \
+new sample, the last that is lent, is 7, not 8
+    """
+
+    def __init__(self, k: SupportsIndex) -> None:
+        number = operator.index(k)
+        # One that does not fit the library's is lent as the largest, which is not allowed either.
+        answer = _library.view_begin(number if 0 <= number < 2**64 else 2**64 - 1)
+        _check(answer, Loan(), k=number)
+        self._state = _library.View.from_buffer_copy(answer.view)
+
+    @property
+    def k(self) -> int:
+        """Half the most inner samples that are kept."""
+        return int(self._state.k)
+
+    @property
+    def samples(self) -> List[int]:
+        """The kept list, as a new list."""
+        return list(self._state.samples[: self._state.count])
+
+    def add(self, ticks: Lent, values: Lent) -> None:
+        """Adds a new sample to the view of the samples before it. The trace has all of these, with
+        the new sample last, so that the first addition is lent two samples.
+
+        The new sample is put at the end of the list. If that makes 2 k + 1 inner samples, the one
+        whose neighbours in the list have the link with the least error is dropped, the earliest
+        among equals: so the new sample never is, and the one before it, the last until then, may be.
+        No gap limit applies.
+
+        For a view that was begun on the first sample and changed only by additions, with k and the
+        earlier samples unaltered, the list's error, that of its worst link, is at most twice that of
+        every kept list of the trace with at most k inner samples; so it is at most twice the error
+        of `least` with the allowance k + 2 and no gap limit, for as many samples as that takes. For
+        a state set by hand there is no such bound.
+
+        An addition checks every tick that it is lent and, where it drops a sample, looks at each
+        sample at most twice: its time grows in proportion to the number of samples lent. So a whole
+        trace of n samples, added one by one, takes time in proportion to n squared. Plain lists are
+        copied at each addition besides.
+
+        Refusals: 1, 2, 3 of the trace with the new sample; 20 if the state is no view of the samples
+        before the new one, such as where a sample is added twice or left out. A refused addition
+        leaves the view as it was.
+        """
+        # A copy, which nothing else sees while it changes.
+        state = _library.View.from_buffer_copy(self._state)
+        with Loan() as loan:
+            trace = loan.input("ticks", ticks, TICK) + loan.input("values", values, VALUE)
+            answer = _library.view_add(state, *trace)
+            _check(answer, loan, most=_SAMPLES, view=state)
+        self._state = state
+
+    def __repr__(self) -> str:
+        return f"View(k={self.k}, samples={self.samples})"
+
+    def __eq__(self, other: object) -> bool:
+        if not isinstance(other, View):
+            return NotImplemented
+        counts = self._state.count, other._state.count
+        return (self.k, counts[0], self.samples) == (other.k, counts[1], other.samples)
+
+    def __getstate__(self) -> bytes:
+        return bytes(self._state)
+
+    def __setstate__(self, state: bytes) -> None:
+        size = ctypes.sizeof(_library.View)
+        if len(state) != size:
+            raise ValueError(f"the state of a view has {size} bytes, not {len(state)}")
+        self._state = _library.View.from_buffer_copy(state)
 
 
 class Sum(NamedTuple):

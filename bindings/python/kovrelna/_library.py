@@ -5,7 +5,7 @@ Assumes that the library found is the one of that header.
 
 import ctypes
 import os
-from ctypes import Structure, c_double, c_size_t, c_uint16, c_uint32, c_uint64, c_void_p
+from ctypes import POINTER, Structure, c_double, c_size_t, c_uint16, c_uint32, c_uint64, c_void_p
 from typing import Any, Type
 
 NAME = "libkovrelna.so.0"
@@ -33,6 +33,16 @@ class Tolerances(Structure):
     _fields_ = [("count", c_uint64), ("list", Tolerance * TOLERANCES)]
 
 
+# The most samples that a view keeps.
+VIEW_SAMPLES = 66
+
+
+class View(Structure):
+    """The state of a view: its kept list is the first `count` samples."""
+
+    _fields_ = [("k", c_uint32), ("count", c_uint32), ("samples", c_uint16 * VIEW_SAMPLES)]
+
+
 class Answer(Structure):
     _fields_ = [("number", c_uint32), ("value", c_uint64)]
 
@@ -43,6 +53,10 @@ class Galloped(Structure):
 
 class Scanned(Structure):
     _fields_ = [("number", c_uint32), ("value", c_uint64), ("kept", c_uint64 * TOLERANCES)]
+
+
+class Begun(Structure):
+    _fields_ = [("number", c_uint32), ("value", c_uint64), ("view", View)]
 
 
 class Measured(Structure):
@@ -153,6 +167,8 @@ gallop = _declare("gallop", Galloped, *_LIST, *_LIST, Limits, *_LIST)
 minimum = _declare("minimum", Answer, *_LIST, *_LIST, Limits, *_LIST)
 least = _declare("least", Fractional, *_LIST, *_LIST, c_uint32, c_uint64, *_LIST)
 scan = _declare("scan", Scanned, *_LIST, *_LIST, Tolerances, c_uint32, *_LIST)
+view_begin = _declare("view_begin", Begun, c_uint64)
+view_add = _declare("view_add", Answer, POINTER(View), *_LIST, *_LIST)
 sum = _declare("sum", Answer, *(8 * _LIST))
 report = _declare("report", Totals, *_CRATE, Limits, *_LIST)
 pedestals = _declare("pedestals", Compared, *_CRATE, *_CRATE, Tolerance, c_uint64, *_LIST, *_LIST)

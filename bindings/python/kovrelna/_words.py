@@ -24,12 +24,14 @@ def words(
     link: Optional[Tuple[int, int]] = None,
     measure: Optional[Tuple[Fraction, int, str]] = None,
     pair: bool = False,
+    k: SupportsIndex = 0,
+    view: Optional[_library.View] = None,
 ) -> str:
     """The refusal with this number and value of a call that was lent these lists, of samples or
     codes at most so many, and this tolerance or these, gap limit or allowance; an output counts from
     the place on. A call with a noise factor was lent two runs, one with a pair two traces and a list of
     each. A link is two samples that are asked for; the measure is that of an invalid link, as
-    `judge` gives it."""
+    `judge` gives it. A view is begun from k; a sample is added to its state."""
     if number == 4 and tolerances is not None:
         return f"tolerances[{value}] is not allowed: {_tolerance.fault(tolerances[value])}"
     if number == 4:
@@ -41,6 +43,8 @@ def words(
     if number == 19:
         most = _library.TOLERANCES
         return _many("tolerances", most) if tolerances else "no tolerances"
+    if number == 20:
+        return _unviewed(loan, view) if view else _k(k)
     if factor is not None:
         return _runs(number, value, loan)
     if pair and number != 10:
@@ -226,7 +230,7 @@ def _is_kept(entries: memoryview, last: int) -> bool:
     return all(map(operator.lt, entries, entries[1:]))
 
 
-def _entry(entries: memoryview, last: int, position: int) -> str:
+def _entry(entries: Sequence[int], last: int, position: int) -> str:
     """The rule that the list breaks at this position."""
     if len(entries) == 0:
         return "it is empty"
@@ -238,6 +242,26 @@ def _entry(entries: memoryview, last: int, position: int) -> str:
     if entry > last:
         return f"entry {position} is {entry}, beyond the last sample, {last}"
     return f"entry {position} is {entry}, not above the entry before it, {entries[position - 1]}"
+
+
+def _k(k: SupportsIndex) -> str:
+    return f"k of a view must be from 0 to 32, not {_tolerance.shown(k)}"
+
+
+def _unviewed(loan: Loan, view: _library.View) -> str:
+    """What keeps the state from being a view of the samples before the last."""
+    new, kept = _last(loan), view.samples[: view.count]
+    risen = [kept[at] > kept[at - 1] if at else kept[at] == 0 for at in range(len(kept))]
+    if view.k > 32:
+        return _k(view.k)
+    if view.count > len(kept):
+        return f"no view: it has {view.count} samples, and at most {len(kept)} are kept"
+    if not kept or not all(risen):
+        return f"no view: {_entry(kept, ENTRY.most, risen.index(False) if kept else 0)}"
+    if kept[-1] != new - 1:
+        lent = f"the new sample, the last that is lent, is {new}, not {kept[-1] + 1}"
+        return f"no view of the earlier samples: it ends with sample {kept[-1]}, and {lent}"
+    return f"no view: at most {2 * view.k} inner samples are kept, not {len(kept) - 2}"
 
 
 def _end(loan: Loan, i: int, j: int) -> str:

@@ -1,11 +1,13 @@
-"""The slow reference: document 01 and wishes 1, 3, 4, 6, 7, 8 and 10 of document 02 once more, with
-fractions, clear before fast. It knows nothing of the library that is compared with it.
+"""The slow reference: document 01 and wishes 1, 3, 4, 6, 7, 8, 10 and 11 of document 02 once more,
+with fractions, clear before fast. It knows nothing of the library that is compared with it.
 
 - `Refused`: a row of the table of refusals.
 - `held`: a tolerance. Its forms are ("ratio", p, q), ("counts", x) and ("noise", noise, multiple).
 - `measure`, `judge`, `walk`, `gallop`, `minimum`, `least`, `report`, `pedestals`, `expand`,
   `expand_with`, `write`, `read`, `same`: the calls.
 - `scan`, `closed`: the call; what it has kept after a sample.
+- `view_begin`, `view_add`: the calls of a view, whose state is k and its list; `least_error`: the
+  least error with at most so many inner samples.
 - `summed`: the call `sum`.
 - `valid`: what `judge` asks of a list.
 - `shift`, `noise`: what `pedestals` compares of a channel.
@@ -255,6 +257,38 @@ def closed(kept, j):
     """Walk's stops that are fixed once sample j has been taken in, closed with sample j: a stop is
     fixed by the sample after it."""
     return [k for k in kept if k < j] + [j]
+
+
+def view_begin(k):
+    """The list of a new view. Row 20."""
+    if not 0 <= k <= 32:
+        raise Refused(20, 0)
+    return [0]
+
+
+def view_add(k, kept, ticks, values):
+    """The list once the last sample has been added to it. Rows 1 to 3, then 20."""
+    check_trace(ticks, values)
+    new = len(ticks) - 1
+    try:
+        check_list(kept, new)
+    except Refused:
+        raise Refused(20, 0)
+    if k > 32 or not kept or len(kept[1:-1]) > 2 * k:
+        raise Refused(20, 0)
+    kept = [*kept, new]
+    inner = kept[1:-1]
+    if len(inner) > 2 * k:
+        triples = zip(kept, inner, kept[2:])
+        errors = [(link_error(ticks, values, i, j), sample) for i, sample, j in triples]
+        kept.remove(min(errors)[1])
+    return kept
+
+
+def least_error(ticks, values, inner):
+    """Over all kept lists with at most so many inner samples."""
+    lists = kept_lists(len(ticks), inner + 2)
+    return min(list_error(ticks, values, kept) for kept in lists)
 
 
 def summed(ticks1, values1, ticks2, values2, list1, list2, rooms):

@@ -1,10 +1,11 @@
 """The Python module as a user calls it: document 01's figures, every refusal of every call, buffers
-that are lent and not copied, and random traces, limits, scans, pairs, runs, range tables and records
-beside the slow reference. Arrays of numpy are tried where numpy is present; a stand-in for it always
-is.
+that are lent and not copied, and random traces, limits, scans, views, pairs, runs, range tables and
+records beside the slow reference. Arrays of numpy are tried where numpy is present; a stand-in for it
+always is.
 """
 
 import array
+import copy
 import ctypes
 import doctest
 import inspect
@@ -15,6 +16,7 @@ import os
 import pickle
 import random
 import shutil
+import struct
 import subprocess
 import sys
 import tempfile
@@ -27,7 +29,7 @@ from unittest import mock
 
 import kovrelna
 import reference
-from kovrelna import GAP_MAX, Counts, Measure, Noise, Ratio, Refusal, Run, Verdict
+from kovrelna import GAP_MAX, Counts, Measure, Noise, Ratio, Refusal, Run, Verdict, View
 
 try:
     import numpy
@@ -43,6 +45,12 @@ REDUCTIONS = (kovrelna.walk, kovrelna.gallop, kovrelna.minimum)
 PARTS = [0, 1, 2, 10, 11, 12]
 NO_GAPS = [0, 2**20, 2**32 - 1]
 NO_GAPS += [-1, 2**32, 2**32 + 7, 7 - 2**32, 2**64, 2**64 + 7, 7 - 2**64]
+# Values at ticks 0 to 7 whose view at k = 1 has twice the least error, and its list after each.
+TWICE = [-4, -4, 0, 4, -4, 4, -4, 0]
+OF_TWICE = [[0], [0, 1], [0, 1, 2], [0, 1, 2, 3], [0, 1, 3, 4], [0, 3, 4, 5]]
+OF_TWICE += [[0, 4, 5, 6], [0, 4, 5, 7]]
+# k of no view, of 64 bits and of more.
+NO_KS = [33, 34, 2**31, 2**32, 2**32 + 1, 2**64 - 1, -1, -(2**32), 2**64, 2**64 + 1, 1 - 2**64]
 # Two traces with the same ticks and a list of each, as `sum` takes them; their sums and the joined
 # list.
 PAIR = EVEN, [-6, -6, 0, 6, -6], EVEN, [3, 4, 2, 4, 3], [0, 1, 3, 4], [0, 4]
@@ -67,6 +75,21 @@ def kept_by(call, *arguments, **limits):
 def scan_of(*arguments, **limits):
     """The kept lists, as plain lists."""
     return list(map(list, kovrelna.scan(*arguments, **limits)))
+
+
+def view_of(k, samples, count=None):
+    """A view whose state is set by hand; the entries behind the list differ."""
+    entries = [*samples, *range(40000, 40066)][:66]
+    view = View(0)
+    view.__setstate__(struct.pack("=II66H", k, len(samples) if count is None else count, *entries))
+    return view
+
+
+def grown(view, ticks, values):
+    """The view, to which the samples of the trace are added from the one after its last on."""
+    for n in range(view.samples[-1] + 2, len(ticks) + 1):
+        view.add(ticks[:n], values[:n])
+    return view
 
 
 def sum_of(*pair):
@@ -307,6 +330,53 @@ class Figures(Case):
             self.assertEqual([kept.tolist() for kept in found], [[0, 2, 4], [0, 4], [0, 1, 3, 4]])
             out[5] = 77
             self.assertEqual([kept[0] for kept in found], [0, 77, 0])
+
+    def test_views(self):
+        view = View(1)
+        for n, kept in enumerate(OF_TWICE, 1):
+            if n > 1:
+                self.assertIsNone(view.add(range(n), TWICE[:n]))
+            self.assertEqual((view.k, view.samples), (1, kept))
+            self.assertEqual({type(number) for number in (view.k, *view.samples)}, {int})
+        self.assertEqual(reference.list_error(range(8), TWICE, view.samples), 8)
+        self.assertEqual(kovrelna.least(range(8), TWICE, 3).error, 4)
+        # More than twice the least error with two inner samples, and less than twice that with one.
+        ticks, ridge = [0, 3, 6, 8, 9, 11, 13, 14], [-7, 4, 11, 15, 27, 31, 23, 16]
+        view = grown(View(1), ticks, ridge)
+        self.assertEqual(view.samples, [0, 4, 6, 7])
+        self.assertEqual(reference.list_error(ticks, ridge, view.samples), Fraction(74, 9))
+        self.assertEqual(kovrelna.least(ticks, ridge, 3).error, Fraction(62, 11))
+        self.assertEqual(kovrelna.least(ticks, ridge, 4).error, 4)
+        # A state set by hand has no bound.
+        view = grown(view_of(1, [0, 2]), range(4), [0, 1, 0, -1])
+        self.assertEqual(view.samples, [0, 2, 3])
+        self.assertEqual(reference.list_error(range(4), [0, 1, 0, -1], [0, 2, 3]), 1)
+        self.assertEqual(kovrelna.least(range(4), [0, 1, 0, -1], 3).error, 0)
+
+    def test_which_sample_is_dropped(self):
+        every, wide = [0, 1, 2, 3], [0, 1, 2, 1048574, 1048575]
+        extreme = [-32768, 32767, -32768, 32767, -32768]
+        for ticks, values, kept in [
+            (EVEN, [0, 9, 1, 9, 0], [0, 1, 3, 4]),
+            (EVEN, [0, 9, 0, 0, 0], [0, 1, 2, 4]),
+            # Of equals the earliest.
+            (EVEN, ZIGZAG, [0, 2, 3, 4]),
+            (EVEN, [0] * 5, [0, 2, 3, 4]),
+            (EVEN, [0, 1, 5, 1, 0], [0, 2, 3, 4]),
+            (EVEN, [-20, 9, 0, 3, -6], [0, 1, 3, 4]),
+            # The errors are 2/3, 2/3 and 1/3.
+            ([0, 1, 3, 4, 6], [0, 1, 1, 2, 3], [0, 1, 2, 4]),
+            # No gap limit applies; the greatest products.
+            ([0, 1, 2, 1000002, 1000003], [0] * 5, [0, 2, 3, 4]),
+            (wide, extreme, reference.view_add(1, every, wide, extreme)),
+        ]:
+            view = view_of(1, every)
+            view.add(ticks, values)
+            self.assertEqual(view, view_of(1, kept), (ticks, values))
+            # None is dropped before there are 2 k + 1 inner samples; k = 0 keeps both ends.
+            for k in (2, 32):
+                self.assertEqual(grown(view_of(k, every), ticks, values).samples, every + [4])
+            self.assertEqual(grown(View(0), ticks, values).samples, [0, 4])
 
     def test_sums(self):
         short = range(4), [0, 0, 1, 1], range(4), [0, -1, 0, 1], [0, 3], [0, 1, 3]
@@ -556,7 +626,114 @@ class Tolerances(Case):
                 kovrelna.hold(tolerance)
 
 
+class Views(Case):
+    """A view as an object."""
+
+    def test_begun(self):
+        for k in (*range(33), True):
+            view = View(k)
+            self.assertEqual((view.k, view.samples), (k, [0]))
+            self.assertEqual(view.__getstate__(), struct.pack("=II66H", k, 1, *[0] * 66))
+        self.assertEqual(View(k=3).k, 3)
+        for k in NO_KS:
+            self.refused(20, 0, View, k)
+        for k in (1.0, "1", None, Fraction(1), [1]):
+            with self.assertRaises(TypeError):
+                View(k)
+
+    def test_the_list_is_a_copy(self):
+        view = grown(View(1), range(8), TWICE)
+        view.samples.append(9)
+        view.samples[0] = 9
+        self.assertEqual(view.samples, OF_TWICE[-1])
+        for name in ("k", "samples"):
+            with self.assertRaises(AttributeError):
+                setattr(view, name, 1)
+
+    def test_copies(self):
+        """Each goes on as the view itself does, and on its own."""
+        kinds = [copy.copy, copy.deepcopy]
+        for protocol in range(pickle.HIGHEST_PROTOCOL + 1):
+            kinds.append(lambda view, protocol=protocol: pickle.loads(pickle.dumps(view, protocol)))
+        ticks, values = range(40), [k * k * k % 31 for k in range(40)]
+        for k, n in itertools.product((0, 1, 2, 7), (1, 2, 5, 20)):
+            whole = grown(View(k), ticks, values)
+            for kind in kinds:
+                view = grown(View(k), ticks[:n], values[:n])
+                before = view.samples
+                other = kind(view)
+                self.assertIsInstance(other, View)
+                self.assertEqual(other, view)
+                self.assertEqual(grown(other, ticks, values), whole)
+                self.assertEqual(view.samples, before)
+                self.assertEqual(grown(view, ticks, values), whole)
+
+    def test_equality(self):
+        view = grown(View(1), range(8), TWICE)
+        # What lies behind the list means nothing.
+        self.assertEqual(view, view_of(1, [0, 4, 5, 7]))
+        self.assertNotEqual(view.__getstate__(), view_of(1, [0, 4, 5, 7]).__getstate__())
+        others = view_of(2, [0, 4, 5, 7]), view_of(1, [0, 4, 6, 7]), view_of(1, [0, 4, 5])
+        counts = view_of(1, range(66), 67), view_of(1, range(66), 68)
+        for one, other in itertools.combinations((view, *others, *counts), 2):
+            self.assertNotEqual(one, other)
+        for other in ([0, 4, 5, 7], (1, [0, 4, 5, 7]), None):
+            self.assertNotEqual(view, other)
+        with self.assertRaises(TypeError):
+            hash(view)
+
+    def test_words(self):
+        self.assertEqual(repr(View(32)), "View(k=32, samples=[0])")
+        self.assertEqual(repr(grown(View(1), range(8), TWICE)), "View(k=1, samples=[0, 4, 5, 7])")
+        self.assertEqual(repr(view_of(40, [])), "View(k=40, samples=[])")
+
+    def test_any_state(self):
+        """Whatever bytes are restored: the next addition refuses what is no view, and leaves it."""
+        chosen = random.Random(2)
+        for _ in range(2000):
+            state = bytearray(view_of(chosen.choice([0, 1, 32]), [0, 1, 2]).__getstate__())
+            for _ in range(chosen.choice([1, 2, 140])):
+                at = chosen.choice([chosen.randrange(14), chosen.randrange(140)])
+                state[at] = chosen.choice([0, 1, 67, 255, chosen.randrange(256)])
+            view = View(0)
+            view.__setstate__(bytes(state))
+            k, count = struct.unpack_from("=II", state)
+            self.assertEqual((view.k, len(view.samples)), (k, min(count, 66)))
+            expected = answer(reference.view_add, k, view.samples, range(4), [0] * 4)
+            found = answer(view.add, range(4), [0] * 4)
+            if count > 66 or expected[0] == "refused":
+                self.assertEqual(found, ("refused", (20, 0)))
+                self.assertEqual(view.__getstate__(), state)
+            else:
+                self.assertEqual((found, view.samples), (None, expected))
+
+    def test_no_state(self):
+        view = grown(View(1), range(8), TWICE)
+        for length in (0, 139, 141, 280):
+            words = f"^the state of a view has 140 bytes, not {length}$"
+            with self.assertRaisesRegex(ValueError, words):
+                view.__setstate__(bytes(length))
+        for state in (None, 7, "x" * 140, [0] * 140):
+            with self.assertRaises(TypeError):
+                view.__setstate__(state)
+        self.assertEqual(view.samples, OF_TWICE[-1])
+
+
 class Refusals(Case):
+    def not_added(self, number, value, view, ticks, values):
+        """Refused: the view stays as it was, and the library leaves every byte of its state."""
+        before, lent = view.__getstate__(), []
+        real = kovrelna._library.view_add
+
+        def recorded(state, *trace):
+            lent.append(state)
+            return real(state, *trace)
+
+        with mock.patch.object(kovrelna._library, "view_add", recorded):
+            self.refused(number, value, view.add, ticks, values)
+        self.assertEqual([bytes(state) for state in lent], [before])
+        self.assertEqual(view.__getstate__(), before)
+
     def not_scanned(self, number, value, *given, **limits):
         """Refused by `scan` with a new output, and with lent ones, which stay as they were."""
         self.refused(number, value, kovrelna.scan, *given, **limits)
@@ -613,6 +790,8 @@ class Refusals(Case):
                 self.refused(*row, kovrelna.measure, ticks, values, i, j)
             for count in (1, 0, 17):
                 self.not_scanned(*row, ticks, values, [tolerance] * count, gap=gap)
+            for view in (view_of(1, [0, 3]), View(1), view_of(33, []), view_of(1, [0], 2**32 - 1)):
+                self.not_added(*row, view, ticks, values)
             for lists in ([[0, 4], [0, 4]], [[], [1]], [[0, 65535], []]):
                 self.not_summed(*row, ticks, values, EVEN, self.flat, *lists)
                 self.not_summed(*row, EVEN, self.flat, ticks, values, *lists)
@@ -655,6 +834,38 @@ class Refusals(Case):
         endless = itertools.repeat(0)
         self.not_scanned(19, 0, EVEN, self.flat, endless)
         self.assertEqual(scan_of(EVEN, self.flat, [0] * 16), [[0, 4]] * 16)
+
+    def test_views(self):
+        """20 after 1, 2 and 3, for each state that is no view of the earlier samples."""
+        views = [(0, [0, 3]), (1, [0, 3]), (1, [0, 1, 3]), (1, [0, 1, 2, 3]), (32, [0, 1, 2, 3])]
+        # k out of range; some make 2 k + 2 a small number where 32 bits are not enough.
+        others = [(k, [0, 3]) for k in (33, 34, 2**31 - 1, 2**31, 2**31 + 1, 2**32 - 1)]
+        # Empty; a first entry that is not 0; one that does not rise; one beyond.
+        others += [(1, []), (1, [1, 3]), (1, [3]), (2, [0, 0, 3]), (2, [0, 3, 3]), (2, [0, 2, 1, 3])]
+        others += [(2, [0, 4, 3]), (1, [0, 4]), (1, [0, 3, 4]), (1, [0, 65535]), (1, [0, 4096])]
+        # Stops short; too many inner samples.
+        others += [(1, [0]), (1, [0, 2]), (1, [0, 1, 2]), (0, [0, 1, 3]), (0, [0, 1, 2, 3])]
+        for k, kept in others:
+            self.not_added(20, 0, view_of(k, kept), EVEN, self.flat)
+        for count in (67, 68, 2**16, 2**16 + 2, 2**31 + 2, 2**32 - 1):
+            self.not_added(20, 0, view_of(32, [0, 3], count), EVEN, self.flat)
+        for k, kept in views:
+            view = view_of(k, kept)
+            # A sample is added once, and none is left out.
+            for n in (1, 2, 3, 4, 6, 7):
+                self.not_added(20, 0, view, range(n), [0] * n)
+            view.add(EVEN, self.flat)
+            self.not_added(20, 0, view, EVEN, self.flat)
+        # At each k as many inner samples as there may be, and one more.
+        for k in range(33):
+            room = 2 * k + 2
+            full = view_of(k, range(room))
+            full.add(range(room + 1), [0] * (room + 1))
+            self.assertEqual(full, view_of(k, [0, *range(2, room + 1)]))
+            more = view_of(k, range(min(room + 1, 66)), room + 1)
+            self.not_added(20, 0, more, range(room + 2), [0] * (room + 2))
+        for k in range(33):
+            self.not_added(20, 0, View(k), [7], [7])
 
     def test_gaps(self):
         for gap in NO_GAPS:
@@ -1039,6 +1250,39 @@ class Words(Case):
         words = "the tick of sample 1 is not above the one before: 5 after 5"
         self.says(2, words, kovrelna.scan, [5, 5], [0, 0], [])
 
+    def test_views(self):
+        for k in NO_KS:
+            self.says(20, f"k of a view must be from 0 to 32, not {k}", View, k)
+        beyond = "no view: it has {} samples, and at most 66 are kept".format
+        for view, words in [
+            (view_of(33, []), "k of a view must be from 0 to 32, not 33"),
+            (view_of(2**32 - 1, [0, 3]), "k of a view must be from 0 to 32, not 4294967295"),
+            (view_of(32, range(66), 67), beyond(67)),
+            (view_of(32, [1], 2**32 - 1), beyond(2**32 - 1)),
+            (view_of(1, []), "no view: it is empty"),
+            (view_of(1, [1, 3]), "no view: entry 0 is 1, and the first must be 0"),
+            (view_of(1, [0, 3, 3]), "no view: entry 2 is 3, not above the entry before it, 3"),
+            (view_of(2, [0, 9, 3]), "no view: entry 2 is 3, not above the entry before it, 9"),
+            (view_of(0, [0, 1, 3]), "no view: at most 0 inner samples are kept, not 1"),
+            (view_of(0, [0, 1, 2, 3]), "no view: at most 0 inner samples are kept, not 2"),
+        ]:
+            self.says(20, words, view.add, EVEN, self.flat)
+        lent = "the new sample, the last that is lent, is"
+        for kept, n, numbers in [
+            ([0, 3], 4, "3, and {} 3, not 4"),
+            ([0, 3], 6, "3, and {} 5, not 4"),
+            ([0], 1, "0, and {} 0, not 1"),
+            ([0, 65535], 5, "65535, and {} 4, not 65536"),
+        ]:
+            words = f"no view of the earlier samples: it ends with sample {numbers.format(lent)}"
+            self.says(20, words, view_of(1, kept).add, range(n), [0] * n)
+        words = "too many samples: at most 4,096 are allowed"
+        self.says(1, words, View(1).add, range(10**30), [])
+        words = "not as many values as ticks: 2 ticks and 1 values"
+        self.says(1, words, view_of(33, []).add, [5, 5], [0])
+        words = "the tick of sample 1 is not above the one before: 5 after 5"
+        self.says(2, words, view_of(33, []).add, [5, 5], [0, 0])
+
     def test_crates(self):
         self.says(11, "no channels", kovrelna.report, EVEN, self.flat, [], 1)
         words = "too many channels: at most 64 are allowed"
@@ -1149,6 +1393,7 @@ class Words(Case):
             ("the noise factor must be", kovrelna.pedestals, (TODAY, BEFORE, 1, 10**5000)),
             ("i must be a sample of", kovrelna.measure, (EVEN, self.flat, -(10**5000), 1)),
             ("j must be a sample of", kovrelna.measure, (EVEN, self.flat, 0, 10**5000)),
+            ("k of a view must be from", View, (-(10**5000),)),
         ]:
             with self.assertRaisesRegex(Refusal, words):
                 call(*arguments)
@@ -1299,6 +1544,11 @@ class Longest(Case):
             self.assertEqual(kept_by(call, ticks, flat, 0, gap=256), [0, 4095])
         lists = [range(4096)] * 15 + [[0, 4095]]
         self.assertEqual(scan_of(ticks, values, [*range(15), 10000]), list(map(list, lists)))
+        for k in (0, 8, 32):
+            view = grown(View(k), memoryview(ticks), memoryview(flat))
+            self.assertEqual(view.samples, [0, *range(4095 - 2 * k, 4096)])
+            self.refused(20, 0, view.add, ticks, flat)
+            self.refused(1, 0, view.add, range(4097), [0] * 4097)
         ends, every = array.array("H", [0, 4095]), array.array("H", range(4096))
         for list1, list2 in itertools.product((ends, every), repeat=2):
             found = kovrelna.sum(ticks, values, ticks, values, list1, list2)
@@ -1461,6 +1711,53 @@ class Buffers(Case):
         ]:
             with self.assertRaisesRegex(TypeError, words):
                 kovrelna.scan(EVEN, WAVE, tolerances)
+
+    def test_views(self):
+        view = view_of(0, [0, 1])
+        lent = self.lent("view_add", view.add, self.ticks, self.values)
+        self.assertEqual(lent, [self.ticks.buffer_info(), self.values.buffer_info()])
+        self.assertEqual(view.samples, [0, 2])
+        words = (ctypes.c_uint32 * 3)(0, 1, 3)
+        for ticks in (memoryview(self.ticks), memoryview(self.ticks).toreadonly(), words, [0, 1, 3]):
+            view = view_of(0, [0, 1])
+            view.add(ticks, (0, True, 1))
+            self.assertEqual(view.samples, [0, 2])
+        ticks, values, before = self.ticks[:], self.values[:], view.__getstate__()
+        for given, error in [
+            ((ticks, values), Refusal),
+            ((array.array("i", ticks), values), TypeError),
+            ((ticks, array.array("H", values)), TypeError),
+            ((ticks, None), TypeError),
+            ((ticks, [0, 1, 32768]), OverflowError),
+            ((ticks,), TypeError),
+        ]:
+            with self.assertRaises(error):
+                view.add(*given)
+            self.assertEqual(view.__getstate__(), before)
+        for part in (ticks, values):
+            part.append(7)
+        view.add(ticks, values)
+        self.assertEqual(view.samples, [0, 3])
+
+    def test_views_on_threads(self):
+        """Several threads add the same samples to one view: each sample is added, and the others are
+        refused or come to the same."""
+        ticks = array.array("I", range(400))
+        values = array.array("h", [k * k % 777 for k in range(400)])
+        expected = grown(View(8), ticks, values)
+        view = View(8)
+
+        def work():
+            while view.samples[-1] < 399:
+                n = view.samples[-1] + 2
+                answer(view.add, ticks[:n], values[:n])
+
+        threads = [threading.Thread(target=work) for _ in range(4)]
+        for thread in threads:
+            thread.start()
+        for thread in threads:
+            thread.join()
+        self.assertEqual(view, expected)
 
     def test_pairs(self):
         codes = "IhIhHH"
@@ -1894,6 +2191,19 @@ class Numpy(NumpyArrays, Case):
         with self.assertRaisesRegex(TypeError, "^tolerances must be a list of tolerances"):
             kovrelna.scan(ticks, values, numpy.array(2.0))
 
+    def test_views(self):
+        ticks, values = numpy.arange(8, dtype=numpy.uint32), numpy.array(TWICE, numpy.int16)
+        view = grown(View(numpy.int64(1)), ticks, values)
+        self.assertEqual(view, grown(View(1), range(8), TWICE))
+        self.assertEqual({type(number) for number in (view.k, *view.samples)}, {int})
+        lent = Buffers.lent(self, "view_add", view_of(1, [0, 2]).add, ticks[:4], values[:4])
+        self.assertEqual(lent, [(ticks.ctypes.data, 4), (values.ctypes.data, 4)])
+        self.refused(20, 0, View, numpy.int64(-1))
+        with self.assertRaisesRegex(TypeError, r"; write values.astype\(numpy.int16\)"):
+            view.add(ticks, values + 0.5)
+        with self.assertRaisesRegex(TypeError, r"; write numpy.ascontiguousarray\(ticks\)$"):
+            view.add(ticks[::2], values[::2])
+
     def test_pairs(self):
         kinds = numpy.uint32, numpy.int16, numpy.uint32, numpy.int16, numpy.uint16, numpy.uint16
         pair = list(map(numpy.array, PAIR, kinds))
@@ -1975,7 +2285,7 @@ def answer(call, *arguments, **limits):
 
 
 class Reference(Case):
-    """Random traces, limits, scans, pairs, runs, range tables and records beside the slow
+    """Random traces, limits, scans, views, pairs, runs, range tables and records beside the slow
     reference."""
 
     def setUp(self):
@@ -2198,6 +2508,61 @@ class Reference(Case):
         self.assertTrue({1, 2, 3, 19, 15, 10} < seen and {1, 16} < counts, (seen, counts))
         positions = {row[1] for row in seen if isinstance(row, tuple)}
         self.assertTrue({0, 1, 2, 3} < positions, positions)
+
+    def test_views(self):
+        """Whole traces, and the bound after each sample; then a state set by hand, sometimes with
+        faults."""
+        seen, near = set(), set()
+        for _ in range(500):
+            samples = self.random.choice([2, 5, 8, 9])
+            steps = [self.random.choice([1, 1, 2, 3, 100000]) for _ in range(samples - 1)]
+            ticks = list(itertools.accumulate(steps, initial=self.random.choice([0, 2**32 - 900000])))
+            most = self.random.choice([0, 1, 3, 9, 32767])
+            values = [self.random.randint(-most, most) for _ in ticks]
+            k = self.random.choice([0, 1, 1, 2, 2, 3, 32])
+            view, kept = View(k), reference.view_begin(k)
+            for n in range(2, samples + 1):
+                trace = ticks[:n], values[:n]
+                view.add(*trace)
+                kept = reference.view_add(k, kept, *trace)
+                self.assertEqual((view.k, view.samples), (k, kept), trace)
+                error = reference.list_error(*trace, kept)
+                least = reference.least_error(*trace, k)
+                self.assertLessEqual(error, 2 * least, (k, trace))
+                near.add((error > least) - (error < least))
+        for _ in range(3000):
+            ticks, values = self.trace()
+            k, kept = self.random.choice([0, 1, 2, 3, 32, 33]), self.kept(max(len(ticks) - 1, 1))
+            view = view_of(k, kept)
+            before = view.__getstate__()
+            expected = answer(reference.view_add, k, kept, ticks, values)
+            found = answer(view.add, ticks, values)
+            given = k, kept, ticks, values
+            if expected[0] == "refused":
+                self.assertEqual((found, view.__getstate__()), (expected, before), given)
+                seen.add(expected[1])
+                continue
+            self.assertEqual((found, view.samples), (None, expected), given)
+            # Entries behind the list stay.
+            behind = 8 + 2 * max(len(kept), len(expected))
+            self.assertEqual(view.__getstate__()[behind:], before[behind:], given)
+            seen.add(0)
+        self.assertTrue({0, (1, 0), (2, 1), (2, 2), (3, 2), (3, 3), (20, 0)} < seen, seen)
+        self.assertEqual(near, {-1, 0, 1})
+
+    def test_long_views(self):
+        """At every k, over more samples than the view keeps, in ties too."""
+        for k in range(33):
+            samples = 2 * k + 12
+            most = self.random.choice([1, 5, 32767])
+            values = [self.random.randint(-most, most) for _ in range(samples)]
+            view, kept = View(k), reference.view_begin(k)
+            for n in range(2, samples + 1):
+                view.add(range(n), values[:n])
+                kept = reference.view_add(k, kept, range(n), values[:n])
+                self.assertEqual(view.samples, kept, (k, values[:n]))
+            least = kovrelna.least(range(samples), values, k + 2).error
+            self.assertLessEqual(reference.list_error(range(samples), values, kept), 2 * least)
 
     def pair(self):
         """Two traces and a list of each, sometimes with faults, or with ticks that differ."""

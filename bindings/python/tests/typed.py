@@ -31,6 +31,11 @@ kovrelna.least(ticks, values, 2).error.denominator
 kovrelna.least(ticks, values, 2, gap=True).kept.tolist()
 kovrelna.scan(ticks, values, [1, 0.5, Fraction(1, 10), Ratio(1, 10)])[0].tolist()
 kovrelna.scan(Array(), Array(), (Counts(n) for n in ticks), Array(), gap=7).index(0)
+view = kovrelna.View(True)
+view.add(ticks, values)
+view.add(Array(), array.array("h"))
+view.samples[0].bit_length() + view.k.bit_length()
+kovrelna.View(k=1) == view
 kovrelna.sum(ticks, values, ticks, values, kept, kept).sums.tolist()
 kovrelna.sum(Array(), Array(), array.array("I"), b"", (0, 2), memoryview(b"")).joined[0]
 kovrelna.sum(ticks, values, ticks, values, kept, kept, Array(), array.array("H")).joined[0]
@@ -79,6 +84,15 @@ kovrelna.scan(ticks, values, ["1/10"])  # type: ignore[list-item]
 kovrelna.scan(ticks, values, [1], [0, 0, 0])  # type: ignore[arg-type]
 kovrelna.scan(ticks, values, [1], gap=None)  # type: ignore[arg-type]
 kovrelna.scan(ticks, values, [1]).kept  # type: ignore[attr-defined]
+kovrelna.View()  # type: ignore[call-arg]
+kovrelna.View(1.0)  # type: ignore[arg-type]
+kovrelna.View(1, [0])  # type: ignore[call-arg]
+view.k = 2  # type: ignore[misc]
+view.samples = [0]  # type: ignore[misc]
+view.add(ticks)  # type: ignore[call-arg]
+view.add(ticks, None)  # type: ignore[arg-type]
+view.add(ticks, values, gap=7)  # type: ignore[call-arg]
+view.add(ticks, values).samples  # type: ignore[func-returns-value]
 kovrelna.sum(ticks, values, ticks, values, kept)  # type: ignore[call-arg]
 kovrelna.sum(ticks, values, ticks, values, kept, None)  # type: ignore[arg-type]
 kovrelna.sum(ticks, values, ticks, values, kept, kept, gap=7)  # type: ignore[call-arg]
