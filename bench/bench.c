@@ -6,12 +6,14 @@
  * bench kept: prints the kept numbers.
  * bench summary: prints each call's microseconds and its ratio to C on the pulse trace at tolerance
  *   7.5, with walk's list; for measure with the link from the first sample to the last; for sum with
- *   another trace and walk's list of it; for scan at 16 tolerances from 0.5 to 8; for least with
- *   allowance 20; for report and pedestals on crates of pulse traces.
+ *   another trace and walk's list of it; for scan at 16 tolerances from 0.5 to 8; for view_add with
+ *   the last sample at k = 32, and with all of them; for least with allowance 20; for report and
+ *   pedestals on crates of pulse traces.
  * bench trace, bench part: prints that trace, and the part of it for least.
  * bench once KIND FUNCTION [NUMBER]: calls one function once, so that instructions can be counted;
  *   report and pedestals with so many samples a channel, 4,096 unless given; scan and its peers with
- *   the set of tolerances of this number, 0 unless given. */
+ *   the set of tolerances of this number, 0 unless given; view_add and its peer at this k, 32 unless
+ *   given, where the names with run add all samples. */
 #define _POSIX_C_SOURCE 199309L
 #include "kovrelna.h"
 #include "peers.h"
@@ -696,6 +698,99 @@ static void print_scans(void) {
   }
 }
 
+/* ---- Views ---- */
+
+/* The k of the views. */
+static const uint32_t KS[] = {8, 32};
+
+/* Adds sample n - 1 to the view. */
+static void library_add(kovrelna_view *view, size_t kind, size_t n) {
+  if (kovrelna_view_add(view, ticks[kind], n, values[kind], n).number != 0)
+    fail("the library refused a sample");
+}
+
+static void plain_add(kovrelna_view *view, size_t kind, size_t n) {
+  if (view_add_c(view->k, &view->count, view->samples, ticks[kind], values[kind], n).number != 0)
+    fail("the peer refused a sample");
+}
+
+enum { VIEW_ADD, VIEW_ADD_C, VIEWERS };
+
+/* Each with the name under which it adds all samples. */
+static const struct {
+  const char *name, *run;
+  void (*add)(kovrelna_view *, size_t, size_t);
+} VIEWER[VIEWERS] = {{"kovrelna_view_add", "kovrelna_view_run", library_add},
+                     {"view_add_c", "view_run_c", plain_add}};
+
+/* The view of the first n samples, each added. */
+static kovrelna_view viewed(int x, size_t kind, uint32_t k, size_t n) {
+  kovrelna_view view = kovrelna_view_begin(k).view;
+  size_t m;
+  for (m = 2; m <= n; m++) VIEWER[x].add(&view, kind, m);
+  return view;
+}
+
+/* Adds the last sample; all others are added by the other one. */
+static void add_last(int x, size_t kind, uint32_t k) {
+  kovrelna_view view = viewed(1 - x, kind, k, SAMPLES - 1);
+  VIEWER[x].add(&view, kind, SAMPLES);
+}
+
+/* Of the addition of the last sample microseconds, of that of all samples milliseconds; and their
+ * ratios to C. */
+typedef struct view_row {
+  double last[VIEWERS], all[VIEWERS], last_ratio, all_ratio;
+} view_row;
+
+static view_row measure_view(size_t kind, uint32_t k) {
+  static double last[VIEWERS][REPETITIONS], all[VIEWERS][REPETITIONS];
+  const kovrelna_view before = viewed(VIEW_ADD_C, kind, k, SAMPLES - 1);
+  kovrelna_view after[VIEWERS], whole[VIEWERS];
+  view_row row;
+  int repetition, x, c;
+  for (repetition = 0; repetition < REPETITIONS; repetition++) {
+    for (x = 0; x < VIEWERS; x++) {
+      double start = now();
+      for (c = 0; c < CALLS; c++) {
+        after[x] = before;
+        VIEWER[x].add(&after[x], kind, SAMPLES);
+      }
+      last[x][repetition] = 1e-3 * (now() - start) / CALLS;
+      if (repetition >= SLOW_REPETITIONS) continue;
+      start = now();
+      whole[x] = viewed(x, kind, k, SAMPLES);
+      all[x][repetition] = 1e-6 * (now() - start);
+    }
+  }
+  if (memcmp(&after[0], &after[1], sizeof(after[0])) != 0 ||
+      memcmp(&whole[0], &whole[1], sizeof(whole[0])) != 0 ||
+      memcmp(&after[0], &whole[0], sizeof(after[0])) != 0)
+    fail("view_add and its peer differ");
+  for (x = 0; x < VIEWERS; x++) {
+    row.last[x] = median_of(last[x], NULL, REPETITIONS);
+    row.all[x] = median_of(all[x], NULL, SLOW_REPETITIONS);
+  }
+  row.last_ratio = median_of(last[VIEW_ADD], last[VIEW_ADD_C], REPETITIONS);
+  row.all_ratio = median_of(all[VIEW_ADD], all[VIEW_ADD_C], SLOW_REPETITIONS);
+  return row;
+}
+
+static void print_views(void) {
+  size_t kind, x;
+  printf("\nview_add of the last of %d samples, microseconds; of each in turn, milliseconds in all.\n"
+         "               k  kovrelna       C   ratio  kovrelna       C   ratio\n",
+         SAMPLES);
+  for (kind = 0; kind < COUNT(KINDS); kind++) {
+    for (x = 0; x < COUNT(KS); x++) {
+      view_row row = measure_view(kind, KS[x]);
+      printf("%-8s %7lu %9.2f %7.2f %7.2f %9.2f %7.2f %7.2f\n", KINDS[kind].name,
+             (unsigned long)KS[x], row.last[VIEW_ADD], row.last[VIEW_ADD_C], row.last_ratio,
+             row.all[VIEW_ADD], row.all[VIEW_ADD_C], row.all_ratio);
+    }
+  }
+}
+
 /* ---- Least ---- */
 
 enum { FEW = 256, LEAST_REPETITIONS = 9 };
@@ -1087,6 +1182,7 @@ static void print_summary(void) {
   static kept_record r;
   scan_set set = make_set(STEPS[0]);
   scan_row scan;
+  view_row view;
   least_row least;
   int x;
   measure(&rows[0], 0, TOLERANCES[1]);
@@ -1095,6 +1191,9 @@ static void print_summary(void) {
                median(&rows[0], x, x + 1));
   scan = measure_scan(0, &set);
   print_line(SCANNER[SCAN].name, scan.times[SCAN], scan.ratios[SCAN_C]);
+  view = measure_view(0, KOVRELNA_VIEW_K_MAX);
+  print_line(VIEWER[VIEW_ADD].name, view.last[VIEW_ADD], view.last_ratio);
+  print_line(VIEWER[VIEW_ADD].run, 1e3 * view.all[VIEW_ADD], view.all_ratio);
   least = measure_least(0, 20);
   print_line(LEASTER[LEAST].name, 1e3 * least.times[LEAST], least.ratio);
   print_crates(CRATE_CALL[REPORT].name, REPORT, SAMPLES);
@@ -1125,6 +1224,7 @@ int main(int argc, char **argv) {
     static kept_record record;
     size_t samples = argc == 5 ? (size_t)atoi(argv[4]) : SAMPLES;
     size_t number = argc == 5 ? (size_t)atoi(argv[4]) : 0;
+    uint32_t k = argc == 5 ? (uint32_t)atoi(argv[4]) : KOVRELNA_VIEW_K_MAX;
     scan_set set = make_set(STEPS[number % COUNT(STEPS)]);
     for (kind = 0; kind < COUNT(KINDS); kind++) {
       if (strcmp(argv[2], KINDS[kind].name) != 0) continue;
@@ -1137,6 +1237,10 @@ int main(int argc, char **argv) {
       }
       for (x = 0; x < SCANNERS; x++)
         if (strcmp(argv[3], SCANNER[x].name) == 0) SCANNER[x].call(kind, &set, &scan_found[x]);
+      for (x = 0; x < VIEWERS; x++) {
+        if (strcmp(argv[3], VIEWER[x].name) == 0) add_last(x, kind, k);
+        if (strcmp(argv[3], VIEWER[x].run) == 0) viewed(x, kind, k, SAMPLES);
+      }
       for (x = 0; x < LEASTS; x++)
         if (strcmp(argv[3], LEASTER[x].name) == 0) call_least(x, kind, 20);
       make_crates(kind, samples);
@@ -1155,6 +1259,7 @@ int main(int argc, char **argv) {
       measure(&rows[kind * COUNT(TOLERANCES) + t], kind, TOLERANCES[t]);
   print_times();
   print_scans();
+  print_views();
   print_least();
   print_reports();
   print_pedestals();

@@ -7,8 +7,8 @@ if ! command -v valgrind >/dev/null; then
 fi
 kinds="pulse noise ramp zigzag spike dropout"
 
-# table SAMPLES CALL..: calls of so many samples in all; where `each` is set, so many a channel, or the
-# set of tolerances of scan.
+# table SAMPLES CALL..: calls of so many samples in all; where `each` is set, so many a channel, the set
+# of tolerances of scan, or k of a view.
 table() {
   samples=$1
   shift
@@ -20,9 +20,13 @@ table() {
     [ "$call" != expand ] || functions="$functions expand_table_c"
     [ "$call" != scan ] || functions="$functions kovrelna_walks"
     for function in $functions; do
-      # What is counted of the separate calls is the call itself.
-      counted=$function
-      [ "$function" != kovrelna_walks ] || counted=kovrelna_walk
+      # What is counted of several calls is the call itself.
+      case $function in
+        kovrelna_walks) counted=kovrelna_walk ;;
+        kovrelna_view_run) counted=kovrelna_view_add ;;
+        view_run_c) counted=view_add_c ;;
+        *) counted=$function ;;
+      esac
       printf '%-20s' "$function"
       for kind in $kinds; do
         valgrind --tool=callgrind --callgrind-out-file=/dev/null --toggle-collect="$counted" \
@@ -48,6 +52,11 @@ echo
 echo "The same, from 2.50 to 40"
 each=1
 table 65536 scan
+for each in 8 32; do
+  echo
+  echo "Instructions a sample lent, view_add of the last of 4096 samples, k = $each"
+  table 4096 view_add
+done
 each=""
 echo
 echo "Instructions a sample, whole call, 256 samples, allowance 20"
@@ -60,6 +69,11 @@ echo "The same, 64 channels of 2 samples"
 kinds=pulse each=2
 table 128 report
 kinds="pulse noise"
+for each in 8 32; do
+  echo
+  echo "Instructions a sample lent, view_add of all of 4096 samples, one by one, k = $each"
+  table $((4096 * 4097 / 2 - 1)) view_run
+done
 for each in 4096 256 16; do
   echo
   echo "Instructions a sample, whole call, two runs of 64 channels of $each samples, tolerance 7.50"

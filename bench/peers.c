@@ -3,6 +3,7 @@
 #include <string.h>
 
 enum { SAMPLES = 4096, SPAN = 1048575, CHANNELS = 64, CODES = 256, FACTOR = 16, TOLERANCES = 16 };
+enum { VIEW_K = 32 };
 
 /* Samples that are searched for a hole at once, by vector instructions. */
 enum { BLOCK = 64 };
@@ -634,6 +635,44 @@ static int is_list(const uint16_t *list, size_t kept, size_t n) {
   for (k = 1; k < kept; k++)
     if (list[k] <= list[k - 1]) return 0;
   return 1;
+}
+
+/* The error of a link, not in lowest terms. */
+static inline fraction error_of(const uint32_t *ticks, const int16_t *values, size_t i, size_t j) {
+  int64_t tick = ticks[i], value = values[i], run = ticks[j] - tick, change = values[j] - value;
+  fraction error = {0, run};
+  size_t k;
+  for (k = i + 1; k < j; k++) {
+    int64_t distance = (values[k] - value) * run - change * (ticks[k] - tick);
+    if (distance < 0) distance = -distance;
+    if (distance > error.p) error.p = distance;
+  }
+  return error;
+}
+
+answered view_add_c(uint32_t k, uint32_t *restrict count, uint16_t *restrict samples,
+                    const uint32_t *ticks, const int16_t *values, size_t n) {
+  answered trace = trace_refusal(ticks, n);
+  size_t kept = *count, dropped = 1, x;
+  fraction least;
+  if (trace.number != 0) return trace;
+  if (k > VIEW_K || kept > 2 * k + 2 || !is_list(samples, kept, n - 1)) return answer_of(20, 0);
+  if (kept < 2 * k + 2) {
+    samples[kept] = (uint16_t)(n - 1);
+    *count = (uint32_t)kept + 1;
+    return answer_of(0, 0);
+  }
+  least = error_of(ticks, values, samples[0], kept > 2 ? samples[2] : n - 1);
+  for (x = 2; x < kept; x++) {
+    fraction error =
+        error_of(ticks, values, samples[x - 1], x + 1 < kept ? samples[x + 1] : n - 1);
+    if (at_most(least, error)) continue;
+    least = error;
+    dropped = x;
+  }
+  memmove(&samples[dropped], &samples[dropped + 1], (kept - 1 - dropped) * sizeof(uint16_t));
+  samples[kept - 1] = (uint16_t)(n - 1);
+  return answer_of(0, 0);
 }
 
 /* For a link of more than one step: one of one step is always valid. */

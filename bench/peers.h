@@ -113,6 +113,12 @@ answered scan_c(const uint32_t *ticks, const int16_t *values, size_t n, const ra
                 size_t count, uint32_t gap, uint16_t *restrict out, size_t room,
                 size_t *restrict kept);
 
+/* Adds sample n - 1 to the view with this k and this kept list, of the samples before it: checks the
+ * ticks and the list, and if that makes one inner sample too many, drops the first whose neighbours'
+ * link has the least error. There is room for 66 samples. The value is 0. */
+answered view_add_c(uint32_t k, uint32_t *restrict count, uint16_t *restrict samples,
+                    const uint32_t *ticks, const int16_t *values, size_t n);
+
 /* A trace of n samples with a kept list of it. */
 typedef struct reduced_trace {
   const uint32_t *ticks;

@@ -4,6 +4,7 @@ Run from the repository's root: python.py BENCH, where BENCH is the program of b
 is taken. From Python the same calls are made with arrays of module array, and make their outputs.
 """
 
+import copy
 import statistics
 import subprocess
 import sys
@@ -59,6 +60,14 @@ def shown(number):
     return f"{number:.3g} {unit}"
 
 
+def view_add(view, had, ticks, values):
+    """A copy of the view of so many samples, to which the others are added one by one."""
+    view = copy.copy(view)
+    for n in range(had + 1, len(ticks) + 1):
+        view.add(ticks[:n], values[:n])
+    return view
+
+
 def main():
     ticks, values = whole = trace("trace")
     part = trace("part")
@@ -72,6 +81,10 @@ def main():
     samples = f"{len(ticks):,} samples, tolerance 7.5"
     tolerances = [k / 2 for k in range(1, 17)]
     scanned = f"{len(ticks):,} samples, {len(tolerances)} tolerances from 0.5 to 8"
+    lent = [memoryview(numbers) for numbers in whole]
+    begun = kovrelna.View(32)
+    all_but_last = view_add(begun, 1, *(numbers[:-1] for numbers in lent))
+    viewed = f"of {len(ticks):,} samples, k = 32"
     listed = f"a list of {len(kept)} of {len(ticks):,} samples"
     # The trace from another sample on, as in bench.c.
     others = values[61:] + values[:61]
@@ -83,6 +96,8 @@ def main():
         "gallop": (samples, kovrelna.gallop, *whole, 7.5),
         "minimum": (samples, kovrelna.minimum, *whole, 7.5),
         "scan": (scanned, kovrelna.scan, *whole, tolerances),
+        "view_add": (f"the last {viewed}", view_add, all_but_last, last, *lent),
+        "view_run": (f"each {viewed}", view_add, begun, 1, *lent),
         "least": (f"{len(part[0])} samples, allowance 20", kovrelna.least, *part, 20),
         "report": (f"{CHANNELS} channels of {samples}", kovrelna.report, *crate(*whole, 4096), 7.5),
         "pedestals": (f"{runs} of {samples}, factor 2", kovrelna.pedestals, *long, 7.5, 2),
