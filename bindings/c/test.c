@@ -1836,6 +1836,7 @@ static void no_views(void) {
                 {1, 0, {0, 3}, 0},
                 {32, 67, {0, 1, 2, 3}, 0},
                 {32, 68, {0, 1, 2, 3}, 0},
+                {32, 258, {0, 3}, 0},
                 {32, 65538, {0, 3}, 0},
                 {32, 0x80000002, {0, 3}, 0},
                 {32, UINT32_MAX, {0, 1, 2, 3}, 0},
@@ -1865,7 +1866,8 @@ static void no_views(void) {
                 {0, 4, {0, 1, 2, 3}, 0}};
   static uint32_t ticks[MOST + 2];
   static const int16_t level[MOST + 2] = {0};
-  uint16_t all[MOST + 1];
+  static const uint32_t beyond_room[] = {MOST + 1, MOST + 2, 256 + MOST, 65536 + MOST, UINT32_MAX};
+  uint16_t all[MOST];
   const uint16_t first[] = {0};
   kovrelna_view view;
   uint32_t k;
@@ -1885,22 +1887,23 @@ static void no_views(void) {
     }
   }
 
-  /* At each k: 2 k inner samples, and one more; a count above the room. */
+  /* At each k: 2 k inner samples, and one more. */
   for (x = 0; x < COUNT(ticks); x++) ticks[x] = (uint32_t)x;
   for (x = 0; x < COUNT(all); x++) all[x] = (uint16_t)x;
   for (k = 0; k <= KOVRELNA_VIEW_K_MAX; k++) {
-    uint32_t room = 2 * k + 2;
-    struct trace given = trace(ticks, room + 1, level, room + 1);
-    view = view_of(k, all, room);
+    uint32_t most = 2 * k + 2;
+    struct trace given = trace(ticks, most + 1, level, most + 1);
+    view = view_of(k, all, most);
     add(__LINE__, view, given, 0, 0, view_after(view, given));
-    given = trace(ticks, room + 2, level, room + 2);
-    if (room < MOST)
-      view = view_of(k, all, room + 1);
-    else
-      view.count = room + 1;
-    NOT_ADDED(view, given, KOVRELNA_REFUSED_VIEW, 0);
-    view.count = UINT32_MAX;
-    NOT_ADDED(view, given, KOVRELNA_REFUSED_VIEW, 0);
+    if (most == MOST) break;
+    given = trace(ticks, most + 2, level, most + 2);
+    NOT_ADDED(view_of(k, all, most + 1), given, KOVRELNA_REFUSED_VIEW, 0);
+  }
+  /* All entries are a view, and the count is above them. */
+  for (x = 0; x < COUNT(beyond_room); x++) {
+    view.count = beyond_room[x];
+    NOT_ADDED(view, trace(ticks, MOST + 1, level, MOST + 1), KOVRELNA_REFUSED_VIEW, 0);
+    NOT_ADDED(view, trace(ticks, MOST + 2, level, MOST + 2), KOVRELNA_REFUSED_VIEW, 0);
   }
 
   /* There is no sample before the first. A sample is added once, and none is left out. */

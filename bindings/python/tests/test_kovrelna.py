@@ -847,8 +847,12 @@ class Refusals(Case):
         others += [(1, [0]), (1, [0, 2]), (1, [0, 1, 2]), (0, [0, 1, 3]), (0, [0, 1, 2, 3])]
         for k, kept in others:
             self.not_added(20, 0, view_of(k, kept), EVEN, self.flat)
-        for count in (67, 68, 2**16, 2**16 + 2, 2**31 + 2, 2**32 - 1):
-            self.not_added(20, 0, view_of(32, [0, 3], count), EVEN, self.flat)
+        # A count above the room, or one that is the list's if it is cut to fewer bits.
+        for kept in ([0, 3], range(66)):
+            for more in (67 - len(kept), 68 - len(kept), 2**8, 2**16, 2**31, -len(kept) - 1):
+                view = view_of(32, kept, (len(kept) + more) % 2**32)
+                for n in (kept[-1] + 2, kept[-1] + 3):
+                    self.not_added(20, 0, view, range(n), [0] * n)
         for k, kept in views:
             view = view_of(k, kept)
             # A sample is added once, and none is left out.
@@ -862,8 +866,9 @@ class Refusals(Case):
             full = view_of(k, range(room))
             full.add(range(room + 1), [0] * (room + 1))
             self.assertEqual(full, view_of(k, [0, *range(2, room + 1)]))
-            more = view_of(k, range(min(room + 1, 66)), room + 1)
-            self.not_added(20, 0, more, range(room + 2), [0] * (room + 2))
+            if room < 66:
+                more = view_of(k, range(room + 1))
+                self.not_added(20, 0, more, range(room + 2), [0] * (room + 2))
         for k in range(33):
             self.not_added(20, 0, View(k), [7], [7])
 

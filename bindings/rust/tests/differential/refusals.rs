@@ -659,24 +659,38 @@ fn states() -> Vec<Entry> {
             add(&view(k, list), 7, false);
         }
     }
-    // Counts above the room, or that are the list's if they are cut to 16 bits or to 31.
-    let list = view(32, &[0, 4]);
-    for count in [67, 68, 1 << 16, 1 << 16 | 2, 1 << 31 | 2, u32::MAX] {
-        let list = list.clone();
-        add(&State { count, ..list }, 6, false);
-    }
     // At each k as many inner samples as there may be, and one more, as far as there is room.
     let all: Vec<u16> = (0..ENTRIES as u16).collect();
     for k in 0..=views::K {
         let most = 2 * k as usize + 2;
-        let full = view(k, &all[..most]);
-        add(&full, most + 1, true);
-        let count = full.count + 1;
-        let more = match all.get(..=most) {
-            Some(more) => full.with_list(more),
-            None => State { count, ..full },
-        };
-        add(&more, most + 2, false);
+        add(&view(k, &all[..most]), most + 1, true);
+        if let Some(more) = all.get(..=most) {
+            add(&view(k, more), most + 2, false);
+        }
+    }
+    // Counts above the room, or that are the list's if they are cut to 8 bits, to 16 or to 31.
+    for list in [&[0, 4][..], &all] {
+        let kept = list.len() as u32;
+        for count in [
+            67,
+            68,
+            1 << 8 | kept,
+            1 << 16 | kept,
+            1 << 31 | kept,
+            u32::MAX,
+        ] {
+            let state = view(32, list);
+            let samples = usize::from(list[list.len() - 1]) + 2;
+            add(
+                &State {
+                    count,
+                    ..state.clone()
+                },
+                samples,
+                false,
+            );
+            add(&State { count, ..state }, samples + 1, false);
+        }
     }
     entries
 }
