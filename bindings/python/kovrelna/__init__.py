@@ -538,8 +538,9 @@ class View:
     of the first sample, and each new sample is added to it. Refusal: 20 if k is below 0 or above 32.
 
     A view can be copied and pickled, and the copy goes on as the view itself does; if what is restored
-    is no view, the next addition refuses it. Two views are equal if their k and their samples are. Of
-    additions to one view that run at the same time on several threads, the one that ends last counts.
+    is no view, the next addition refuses it. Two views are equal if their k and their samples are.
+    Where additions to one view run at the same time on several threads, only the last that succeeds
+    counts.
 
     >>> ticks, values = range(8), [-4, -4, 0, 4, -4, 4, -4, 0]
     >>> view = View(1)

@@ -479,7 +479,7 @@ pub fn view_state(k: u32, samples: usize, random: &mut Random) -> State {
 
 /// Changes k, the count or one of the first entries, so that this may be no view any more.
 pub fn damage_view(state: &mut State, random: &mut Random) {
-    let at = random.below(u64::from(state.count).clamp(1, 66)) as usize;
+    let at = random.below(u64::from(state.count).clamp(1, ENTRIES as u64)) as usize;
     let any = random.bits() as u32;
     match random.below(9) {
         0 => state.k = random.choose(&[K + 1, K + 2, 1 << 31, u32::MAX, any]),

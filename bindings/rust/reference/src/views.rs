@@ -1,8 +1,6 @@
 //! The live view of a trace that grows: document 02, "Live view".
 
-use crate::{
-    least_of, least_of_all, link_error, list_refusal, trace_refusal, Fraction, Row, SAMPLES,
-};
+use crate::{least_of, least_of_all, link_error, list_refusal, trace_refusal, Fraction, Row};
 
 /// The greatest k.
 pub const K: u32 = 32;
@@ -81,8 +79,7 @@ pub fn add(state: &State, ticks: &[u32], values: &[i16]) -> Result<State, Row> {
 
 /// The least error of all kept lists with at most so many inner samples. Tries each.
 pub fn least_error(ticks: &[u32], values: &[i16], inner: usize) -> Fraction {
-    let allowance = inner.min(SAMPLES) + 2;
-    least_of_all(ticks, values, None, allowance).expect("the ends are a kept list")
+    least_of_all(ticks, values, None, inner + 2).expect("the ends are a kept list")
 }
 
 #[cfg(test)]
