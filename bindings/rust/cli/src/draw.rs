@@ -21,10 +21,7 @@ pub fn draw(arguments: &[OsString]) -> Result<Status, Failure> {
         return output::print(help::DRAW);
     }
     let input = line.input()?;
-    let mut source = Source::open(input)?;
-    let beginning = source.up_to(records::BEGINNING)?;
-    let is_record = records::begins(&beginning);
-    let source = source.put_back(beginning);
+    let (is_record, source) = records::begins(Source::open(input)?)?;
     let place = source.name.clone();
     let (counts, mut picture) = match is_record {
         true => picture_of_record(&line, source)?,

@@ -51,26 +51,56 @@ pub fn save(
     Ok(buffer)
 }
 
-/// How many bytes `begins` looks at.
-pub const BEGINNING: usize = 10;
+/// How many bytes tell a record from text.
+const BEGINNING: usize = 10;
 
-/// Whether a record begins like this, and no text: the first command, with the high bytes of p and q,
-/// which are at most 0F, and the second command.
-pub fn begins(bytes: &[u8]) -> bool {
-    matches!(bytes, [0x54, 0..=0x0f, _, _, _, _, 0..=0x0f, _, _, 0x41])
+/// Whether a record begins here, and no text; and the source from here on. After a byte that no record has
+/// in its place none is waited for.
+pub fn begins(mut source: Source) -> Result<(bool, Source), Failure> {
+    let mut bytes = Vec::new();
+    while bytes.len() < BEGINNING && may_begin(&bytes) {
+        match source.up_to(1)?[..] {
+            [byte] => bytes.push(byte),
+            _ => break,
+        }
+    }
+    let is_record = bytes.len() == BEGINNING && may_begin(&bytes);
+    Ok((is_record, source.put_back(bytes)))
+}
+
+/// Whether a record may begin like this: with the first command, with the high bytes of p and q, which are
+/// at most 0F, and with the second command.
+fn may_begin(bytes: &[u8]) -> bool {
+    let may_be_at = |(place, &byte): (usize, &u8)| match place {
+        0 => byte == 0x54,
+        1 | 6 => byte <= 0x0f,
+        9 => byte == 0x41,
+        _ => true,
+    };
+    bytes.iter().enumerate().all(may_be_at)
 }
 
 #[cfg(test)]
 mod tests {
     use super::*;
     use kovrelna::Tolerance;
+    use std::io::Read;
+
+    /// Whether a record begins; nothing is taken from the source.
+    fn is_record(bytes: &[u8]) -> bool {
+        let (is_record, mut source) = begins(Source::of("in", bytes)).unwrap();
+        let mut all = Vec::new();
+        source.read_to_end(&mut all).unwrap();
+        assert_eq!(all, bytes);
+        is_record
+    }
 
     #[test]
     fn there_and_back() {
         let tolerance = Tolerance::Ratio { p: 4, q: 6 };
         let bytes = save(&[0, 1, 3], &[0, 1, 1], &[0, 2], tolerance).unwrap();
         assert_eq!(bytes.len(), 22);
-        assert!(begins(&bytes[..BEGINNING]));
+        assert!(is_record(&bytes));
         let record = load(Source::of("in", &bytes)).unwrap();
         assert_eq!((record.ticks, record.values), (vec![0, 3], vec![0, 1]));
         assert_eq!((record.tolerance, record.bytes), (Ratio { p: 2, q: 3 }, 22));
@@ -104,7 +134,8 @@ mod tests {
             q: 1_048_575,
         };
         let bytes = save(&[0], &[0], &[0], greatest).unwrap();
-        assert!(begins(&bytes[..BEGINNING]));
+        assert!(is_record(&bytes));
+        assert!(!is_record(&bytes[..BEGINNING - 1]));
         for text in [
             "",
             "T",
@@ -113,8 +144,7 @@ mod tests {
             "T\0i\0c\0k\0,\0",
             "0,1",
         ] {
-            let beginning = text.bytes().take(BEGINNING).collect::<Vec<_>>();
-            assert!(!begins(&beginning), "{text}");
+            assert!(!is_record(text.as_bytes()), "{text}");
         }
     }
 }

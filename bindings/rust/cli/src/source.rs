@@ -40,9 +40,15 @@ impl Source {
     /// These bytes.
     #[cfg(test)]
     pub fn of(name: &str, bytes: &[u8]) -> Source {
+        Source::from(name, io::Cursor::new(bytes.to_vec()))
+    }
+
+    /// What this reads.
+    #[cfg(test)]
+    pub fn from(name: &str, reader: impl Read + 'static) -> Source {
         Source {
             name: name.into(),
-            reader: Box::new(io::Cursor::new(bytes.to_vec())),
+            reader: Box::new(reader),
         }
     }
 

@@ -38,12 +38,9 @@ impl Text {
     /// Reads a trace. It may break any rule of a trace, which the library is to say; of a trace that
     /// is too long only the beginning is read.
     pub fn read(source: Source) -> Result<Text, Failure> {
-        let mut text = Text::named(&source.name);
-        text.tolerance = rows(source, |fields, line| {
-            text.push(sample(fields)?, line);
-            Ok(text.ticks.len() < ENOUGH)
-        })?;
-        Ok(text)
+        let mut growing = Growing::open(source)?;
+        while growing.text.ticks.len() < ENOUGH && growing.grow()? {}
+        Ok(growing.text)
     }
 
     /// Reads the channels of a crate, which are numbered in a third column and come in the order of
@@ -53,12 +50,15 @@ impl Text {
     pub fn channels(source: Source, most: usize) -> Result<Vec<(u32, Text)>, Failure> {
         let name = source.name.clone();
         let mut channels: BTreeMap<u32, Text> = BTreeMap::new();
+        let mut rows = Rows::open(source)?;
         let mut numbered = None;
-        let tolerance = rows(source, |fields, line| {
-            let numbered = *numbered.get_or_insert(fields.len() == 3);
-            let (channel, sample) = match numbered {
-                true => sample_of_channel(fields)?,
-                false => (0, sample(fields)?),
+        loop {
+            let row = rows.next(|fields| match *numbered.get_or_insert(fields.len() == 3) {
+                true => sample_of_channel(fields),
+                false => Ok((0, sample(fields)?)),
+            })?;
+            let Some(((channel, sample), line)) = row else {
+                break;
             };
             let text = channels
                 .entry(channel)
@@ -67,13 +67,15 @@ impl Text {
             if !is_enough {
                 text.push(sample, line);
             }
-            Ok((numbered || !is_enough) && channels.len() <= most)
-        })?;
+            if is_enough && numbered == Some(false) || channels.len() > most {
+                break;
+            }
+        }
         if channels.is_empty() {
             channels.insert(0, Text::named(&name));
         }
         let noted = |(channel, mut text): (u32, Text)| {
-            text.tolerance = tolerance.clone();
+            text.tolerance = rows.tolerance.clone();
             (channel, text)
         };
         Ok(channels.into_iter().map(noted).collect())
@@ -103,15 +105,21 @@ impl Text {
         }
     }
 
-    /// Refuses samples that are kept at a tolerance already: what is asked is about all samples.
+    /// The trace, unless its samples are kept at a tolerance already: what is asked is about all samples.
     pub fn original(self) -> Result<Text, Failure> {
+        self.must_be_original()?;
+        Ok(self)
+    }
+
+    /// Fails if the samples are kept at a tolerance already.
+    pub fn must_be_original(&self) -> Result<(), Failure> {
         match &self.tolerance {
             Some((ratio, _)) => {
                 let cause = "the answer would not be about the original trace";
                 let cause = format!("samples are reduced already at {ratio}: {cause}");
                 Err(self.at_tolerance(&cause))
             }
-            None => Ok(self),
+            None => Ok(()),
         }
     }
 
@@ -176,6 +184,32 @@ impl Text {
     }
 }
 
+/// A trace that is read sample by sample.
+pub struct Growing {
+    /// The samples so far.
+    pub text: Text,
+    rows: Rows,
+}
+
+impl Growing {
+    pub fn open(source: Source) -> Result<Growing, Failure> {
+        Ok(Growing {
+            text: Text::named(&source.name),
+            rows: Rows::open(source)?,
+        })
+    }
+
+    /// Reads the next sample, as soon as its line is there. Whether there is one.
+    pub fn grow(&mut self) -> Result<bool, Failure> {
+        let row = self.rows.next(sample)?;
+        self.text.tolerance.clone_from(&self.rows.tolerance);
+        if let Some((sample, line)) = row {
+            self.text.push(sample, line);
+        }
+        Ok(row.is_some())
+    }
+}
+
 /// A list of samples as it was read.
 #[derive(Debug)]
 pub struct List {
@@ -208,10 +242,10 @@ impl List {
         while let Some(line) = lines.next()? {
             let (data, _) = line.split_once('#').unwrap_or((line, ""));
             let more = entries(data);
-            let wrong = |cause: &str| Failure::at_line(&list.name, lines.number, cause);
-            list.entries.extend(more.map_err(|cause| wrong(&cause))?);
+            let more = more.map_err(|cause| lines.wrong(&cause))?;
+            list.entries.extend(more);
             if list.entries.len() > usize::from(u16::MAX) + 1 {
-                return Err(wrong("the list is too long"));
+                return Err(lines.wrong("the list is too long"));
             }
             list.lines.resize(list.entries.len(), lines.number);
         }
@@ -240,49 +274,66 @@ fn entries(line: &str) -> Result<Vec<u16>, String> {
         .collect()
 }
 
-/// Reads lines with samples: `take` is given the fields of each line and its number, and says whether
-/// more are wanted. Returns what stands after `# tolerance`, if there is such a line, and its number.
-fn rows(
-    mut source: Source,
-    mut take: impl FnMut(&[&str], usize) -> Result<bool, String>,
-) -> Result<Option<(String, usize)>, Failure> {
-    let name = source.name.clone();
-    let beginning = source.up_to(records::BEGINNING)?;
-    if records::begins(&beginning) {
-        return Err(Failure::at(name, "a record, where a trace is wanted"));
+/// The lines of a source that have a sample.
+struct Rows {
+    lines: Lines,
+    is_headed: bool,
+    is_begun: bool,
+    /// What stands after `# tolerance`, and in which line, once it was read.
+    tolerance: Option<(String, usize)>,
+}
+
+impl Rows {
+    fn open(source: Source) -> Result<Rows, Failure> {
+        let (is_record, source) = records::begins(source)?;
+        if is_record {
+            let cause = "a record, where a trace is wanted";
+            return Err(Failure::at(source.name, cause));
+        }
+        Ok(Rows {
+            lines: Lines::new(source),
+            is_headed: false,
+            is_begun: false,
+            tolerance: None,
+        })
     }
-    let mut lines = Lines::new(source.put_back(beginning));
-    let (mut begun, mut headed, mut tolerance) = (false, false, None);
-    loop {
-        let number = lines.number + 1;
-        let Some(line) = lines.next()? else {
-            break;
-        };
-        let wrong = |cause: &str| Failure::at_line(&name, number, cause);
-        let (data, comment) = line.split_once('#').unwrap_or((line, ""));
-        if data.trim().is_empty() {
-            let ratio = comment.trim().strip_prefix("tolerance ").map(str::trim);
-            if let Some(ratio) = ratio.filter(|rest| is_ratio(rest)) {
-                if tolerance.is_some() || begun {
-                    let cause =
-                        "a second record begins here, or its tolerance comes after its samples";
-                    return Err(wrong(cause));
+
+    /// What `parse` makes of the fields of the next line, and the line's number, as soon as the line is
+    /// there.
+    fn next<T>(
+        &mut self,
+        parse: impl FnOnce(&[&str]) -> Result<T, String>,
+    ) -> Result<Option<(T, usize)>, Failure> {
+        loop {
+            let number = self.lines.number + 1;
+            let Some(line) = self.lines.next()? else {
+                return Ok(None);
+            };
+            let (data, comment) = line.split_once('#').unwrap_or((line, ""));
+            if data.trim().is_empty() {
+                let ratio = comment.trim().strip_prefix("tolerance ").map(str::trim);
+                if let Some(ratio) = ratio.filter(|rest| is_ratio(rest)) {
+                    if self.tolerance.is_some() || self.is_begun {
+                        let cause =
+                            "a second record begins here, or its tolerance comes after its samples";
+                        return Err(self.lines.wrong(cause));
+                    }
+                    self.tolerance = Some((ratio.to_string(), number));
                 }
-                tolerance = Some((ratio.to_string(), number));
+                continue;
             }
-            continue;
-        }
-        let fields = fields(data);
-        if !headed && !begun && fields.iter().all(|field| is_word(field)) {
-            headed = true;
-            continue;
-        }
-        begun = true;
-        if !take(&fields, number).map_err(|cause| wrong(&cause))? {
-            break;
+            let fields = fields(data);
+            if !self.is_headed && !self.is_begun && fields.iter().all(|field| is_word(field)) {
+                self.is_headed = true;
+                continue;
+            }
+            self.is_begun = true;
+            return match parse(&fields) {
+                Ok(parsed) => Ok(Some((parsed, number))),
+                Err(cause) => Err(self.lines.wrong(&cause)),
+            };
         }
     }
-    Ok(tolerance)
 }
 
 /// The lines of a source as text; what is not UTF-8 in them is replaced.
@@ -292,6 +343,7 @@ struct Lines {
     line: String,
     /// The number of the line that was read last, counted from 1.
     number: usize,
+    is_ended: bool,
 }
 
 impl Lines {
@@ -301,11 +353,15 @@ impl Lines {
             reader: BufReader::new(source),
             line: String::new(),
             number: 0,
+            is_ended: false,
         }
     }
 
     /// The next line without its end.
     fn next(&mut self) -> Result<Option<&str>, Failure> {
+        if self.is_ended {
+            return Ok(None);
+        }
         let mut bytes = Vec::new();
         let mut limited = self.reader.by_ref().take(LINE as u64 + 1);
         if let Err(error) = limited.read_until(b'\n', &mut bytes) {
@@ -315,9 +371,10 @@ impl Lines {
             return Ok(None);
         }
         self.number += 1;
-        if bytes.len() > LINE && bytes.last() != Some(&b'\n') {
-            let cause = "the line is over 65,535 bytes long";
-            return Err(Failure::at_line(&self.name, self.number, cause));
+        // A terminal whose input has ended would be read from again.
+        self.is_ended = bytes.last() != Some(&b'\n');
+        if bytes.len() > LINE && self.is_ended {
+            return Err(self.wrong("the line is over 65,535 bytes long"));
         }
         self.line = String::from_utf8_lossy(&bytes).into_owned();
         let line = self.line.trim_end_matches(['\n', '\r']);
@@ -325,6 +382,11 @@ impl Lines {
             1 => line.trim_start_matches('\u{feff}'),
             _ => line,
         }))
+    }
+
+    /// At the line that was read last.
+    fn wrong(&self, cause: &str) -> Failure {
+        Failure::at_line(&self.name, self.number, cause)
     }
 }
 
@@ -423,6 +485,8 @@ pub fn whole<T: TryFrom<i128> + Display>(
 #[cfg(test)]
 mod tests {
     use super::*;
+    use std::collections::VecDeque;
+    use std::io;
 
     fn read(bytes: &[u8]) -> Result<Text, String> {
         match Text::read(Source::of("in", bytes)) {
@@ -494,6 +558,52 @@ mod tests {
         ] {
             let told = read(text.as_bytes()).unwrap_err();
             assert!(told.starts_with(&format!("in:{line}: a second")), "{told}");
+        }
+    }
+
+    /// Gives these parts one by one, an empty one as an end, and then fails.
+    struct Parts(VecDeque<&'static [u8]>);
+
+    impl Read for Parts {
+        fn read(&mut self, buffer: &mut [u8]) -> io::Result<usize> {
+            let Some(part) = self.0.front_mut() else {
+                return Err(io::Error::other("nothing more is there"));
+            };
+            let count = part.read(buffer)?;
+            if part.is_empty() {
+                self.0.pop_front();
+            }
+            Ok(count)
+        }
+    }
+
+    /// A sample is read as soon as its line is there.
+    #[test]
+    fn growing() {
+        let growing = |parts: &[&'static str]| {
+            let parts = parts.iter().map(|part| part.as_bytes()).collect();
+            Growing::open(Source::from("in", Parts(parts))).unwrap()
+        };
+        for parts in [
+            &["0 5\n"][..],
+            &["0", " 5\r\n"],
+            &["# c\n", "\n", "Tick\n", "0,5\n"],
+            &["T\tV\n0\t5\n"],
+        ] {
+            let mut growing = growing(parts);
+            assert_eq!(growing.grow(), Ok(true), "{parts:?}");
+            assert_eq!(
+                (&growing.text.ticks[..], &growing.text.values[..]),
+                (&[0][..], &[5][..])
+            );
+            let more = Failure::at("in", "nothing more is there");
+            assert_eq!(growing.grow(), Err(more), "{parts:?}");
+        }
+        // After an end, of a line too, nothing is read.
+        for parts in [&["0 5\n", ""], &["0 5", ""]] {
+            let mut growing = growing(parts);
+            assert_eq!([growing.grow(), growing.grow()], [Ok(true), Ok(false)]);
+            assert_eq!(growing.text.ticks, [0]);
         }
     }
 
