@@ -10,7 +10,7 @@ use crate::stray::{crosses, lies};
 use crate::text::{self, List, Text};
 use crate::{
     budget, check, draw, help, measure, near, output, pedestals, probes, report, same, scan, sum,
-    summary,
+    summary, watch,
 };
 use kovrelna::{Least, Ratio, Refusal, Side, Tolerance, Verdict, GAP_MAX};
 use std::ffi::{OsStr, OsString};
@@ -31,6 +31,7 @@ pub fn find(name: &str) -> Option<Command> {
         "near" => near::near,
         "probes" => probes::probes,
         "scan" => scan::scan,
+        "watch" => watch::watch,
         "sum" => sum::sum,
         "summary" => summary::summary,
         "report" => report::report,

@@ -1,11 +1,12 @@
-//! Signals that end the tool: the file that it is making is removed first, and the tool then ends as the
-//! signal ends it. Signals that are ignored, as by nohup, stay ignored. The numbers are those of Linux.
+//! Signals that end the tool: the file that it is making is removed first, the line that it is drawing is
+//! ended, and the tool then ends as the signal ends it. Signals that are ignored, as by nohup, stay ignored.
+//! The numbers are those of Linux.
 
-use std::ffi::{c_char, c_int, CString};
+use std::ffi::{c_char, c_int, c_void, CString};
 use std::os::unix::ffi::OsStrExt;
 use std::path::Path;
 use std::ptr;
-use std::sync::atomic::{AtomicPtr, Ordering};
+use std::sync::atomic::{AtomicBool, AtomicPtr, Ordering};
 
 /// Hang-up, interrupt, quit, termination, and the limits of processor time and of a file's size.
 const ENDING: [c_int; 6] = [1, 2, 3, 15, 24, 25];
@@ -26,6 +27,7 @@ extern "C" {
     fn signal(number: c_int, action: usize) -> usize;
     fn raise(number: c_int) -> c_int;
     fn unlink(path: *const c_char) -> c_int;
+    fn write(descriptor: c_int, bytes: *const c_void, count: usize) -> isize;
     fn sigemptyset(signals: *mut Signals) -> c_int;
     fn sigaddset(signals: *mut Signals, number: c_int) -> c_int;
     fn sigprocmask(how: c_int, signals: *const Signals, before: *mut Signals) -> c_int;
@@ -34,14 +36,20 @@ extern "C" {
 /// The path of the file to be removed, if there is one. It changes only while signals are put off.
 static FILE: AtomicPtr<c_char> = AtomicPtr::new(ptr::null_mut());
 
+/// Whether standard output is in a line that is to be ended.
+static LINE: AtomicBool = AtomicBool::new(false);
+
 /// Only what a handler of signals may do.
 extern "C" fn end(number: c_int) {
     let file = FILE.swap(ptr::null_mut(), Ordering::SeqCst);
-    // SAFETY: the path is a C string, and is not freed, as the tool ends. The signal is put off until
-    // this returns.
+    // SAFETY: the path is a C string, and is not freed, as the tool ends. One byte is written. The signal
+    // is put off until this returns.
     unsafe {
         if !file.is_null() {
             unlink(file);
+        }
+        if LINE.swap(false, Ordering::SeqCst) {
+            write(1, b"\n".as_ptr().cast(), 1);
         }
         signal(number, DEFAULT);
         raise(number);
@@ -71,14 +79,7 @@ pub fn remove_first(path: &Path) {
     let path = CString::new(path.as_os_str().as_bytes()).unwrap_or_default();
     keep();
     FILE.store(path.into_raw(), Ordering::SeqCst);
-    for number in ENDING {
-        // SAFETY: the handler does only what it may.
-        unsafe {
-            if signal(number, end as *const () as usize) == IGNORED {
-                signal(number, IGNORED);
-            }
-        }
-    }
+    handle();
 }
 
 /// From now on no file is removed. Signals are put off.
@@ -87,5 +88,30 @@ pub fn keep() {
     if !file.is_null() {
         // SAFETY: the path was made by `remove_first`, and nobody else has it.
         drop(unsafe { CString::from_raw(file) });
+    }
+}
+
+/// From now on the line that standard output is in is ended where a signal ends the tool. Signals are put
+/// off.
+pub fn end_line_first() {
+    if !LINE.swap(true, Ordering::SeqCst) {
+        handle();
+    }
+}
+
+/// From now on no line is ended. Whether one was to be. Signals are put off.
+pub fn leave_line() -> bool {
+    LINE.swap(false, Ordering::SeqCst)
+}
+
+/// From now on signals that are not ignored are handled.
+fn handle() {
+    for number in ENDING {
+        // SAFETY: the handler does only what it may.
+        unsafe {
+            if signal(number, end as *const () as usize) == IGNORED {
+                signal(number, IGNORED);
+            }
+        }
     }
 }

@@ -19,6 +19,7 @@ Usage: kovrelna COMMAND [OPTION..] [FILE..]
   near      say how near the lists of walk and gallop are to the shortest
   probes    say how many probes gallop takes
   scan      say how many samples walk keeps at each of several tolerances
+  watch     show a trace while it grows, by a few of its samples
   sum       add two traces, and join what is kept of them
   summary   print a line for each record, and a total
   report    print the sheet of a crate: a line for each channel, and totals
@@ -261,6 +262,37 @@ denominator so great is allowed, there is no bound, and the picture says so. It
 has each tolerance once, and an axis whose numbers are far apart is
 logarithmic. INPUT is the original trace: samples with a line `# tolerance p/q`
 are refused.
+
+Exit status: 0 done, 2 error.
+";
+
+pub const WATCH: &str = "\
+Watches a trace grow: reads its samples as they come, each as soon as its line
+is there, and shows a view of all samples so far. The view keeps the first, the
+last and at most 2 K between them. Its error is at most twice the least error
+of lists with at most K samples between both ends; no gap limit applies.
+
+Usage: kovrelna watch [-k K] [INPUT]
+
+  -k, --inner K   from 0 to 32; default: 8
+
+On a terminal one line is redrawn: how many samples are kept of how many, the
+least and the greatest value of these, the last value, and a plot of the lines
+between them, from the first tick to the last and from the least value to the
+greatest, as wide as the terminal. Where that is narrow, the first two numbers
+and the plot; where the locale has no UTF-8, the plot is of .:-=+*#@, from low
+to high.
+
+Elsewhere a line is printed after each sample: how many there are so far, and
+those that are kept, counted from 0, as `kovrelna judge --list` takes them:
+
+  5 0,2,4
+
+INPUT is read to its end; for a file that is still written, `tail -n +1 -f FILE
+| kovrelna watch`. A signal, as by Ctrl-C, ends it as it ends other programs,
+with the terminal in order. Where a line is no sample, a tick does not rise or
+the samples are too many, it ends, and what was shown before stays. INPUT is
+the original trace: samples with a line `# tolerance p/q` are refused.
 
 Exit status: 0 done, 2 error.
 ";

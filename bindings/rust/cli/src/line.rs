@@ -26,6 +26,7 @@ pub const TO: Known = Known::valued("to", None);
 pub const BUDGET: Known = Known::flag("budget", Some('b'));
 pub const CSV: Known = Known::flag("csv", None);
 pub const NOISE: Known = Known::valued("noise", Some('k'));
+pub const INNER: Known = Known::valued("inner", Some('k'));
 pub const DRAW: Known = Known::flag("draw", None);
 
 /// A command line of a command.

@@ -13,12 +13,14 @@
 //! - `records`: records as files.
 //! - `output`: standard output, and files that are replaced whole.
 //! - `temporary`: a new file beside the one that it replaces.
+//! - `terminal`: a line of the terminal that is redrawn.
 //! - `ending`: signals that end the tool.
 //! - `chart`: what pictures share.
 //! - `svg`: pictures of a trace.
 //! - `curve`: curves of straight lines in them.
 //! - `levels`: pictures of two pedestal runs.
 //! - `kept`: pictures of kept numbers by tolerance.
+//! - `plot`: plots in one line of text.
 //! - `line`: what the commands share.
 //! - `holes`: holes of a trace.
 //! - `stray`: why a link is invalid, in words.
@@ -27,8 +29,8 @@
 //! - `rounded`: numbers that are rounded in print.
 //! - `budget`: what an error budget may say.
 //! - `commands`: one function for each command.
-//! - `check`, `draw`, `measure`, `near`, `pedestals`, `probes`, `report`, `same`, `scan`, `sum`, `summary`:
-//!   commands with a file of their own.
+//! - `check`, `draw`, `measure`, `near`, `pedestals`, `probes`, `report`, `same`, `scan`, `sum`, `summary`,
+//!   `watch`: commands with a file of their own.
 //!
 //! Which samples are kept, whether a list is within a tolerance and where it strays, what a tolerance is
 //! held as, what is in a record, what two traces add up to and which channels have moved or are noisy:
@@ -58,6 +60,7 @@ mod near;
 mod number;
 mod output;
 mod pedestals;
+mod plot;
 mod probes;
 mod records;
 mod report;
@@ -72,8 +75,10 @@ mod summary;
 mod svg;
 mod table;
 mod temporary;
+mod terminal;
 mod text;
 mod tolerance;
+mod watch;
 
 use failure::{Failure, Status};
 use name::{joined, placed, shown};

@@ -15,6 +15,7 @@
 //! - `scan`: scans at several tolerances.
 //! - `signals`: runs that are ended while they write a file.
 //! - `sum`: two traces added.
+//! - `watch`: views of traces that grow.
 
 mod budget;
 mod check;
@@ -31,6 +32,7 @@ mod same;
 mod scan;
 mod signals;
 mod sum;
+mod watch;
 
 use kovrelna_reference::generate::Trace;
 use std::ffi::OsStr;
@@ -398,6 +400,7 @@ fn the_other_kind() {
         &["measure", "0", "1"],
         &["least", "-a2"],
         &["scan", "-t1"],
+        &["watch"],
         &["sum", "-t1", "-", "missing"],
     ] {
         fails(
@@ -441,6 +444,7 @@ fn noise() {
             &["pedestals", "-t1", "-k1", "-", path(&pulse)],
             &["pedestals", "-t1", "-k1", path(&pulse), "-"],
             &["scan", "-t1", "-t2"],
+            &["watch"],
             &["sum", "-t1", "-", path(&pulse)],
             &["sum", "-t1", path(&pulse), "-"],
         ] {
@@ -531,6 +535,7 @@ fn help() {
         "near",
         "probes",
         "scan",
+        "watch",
         "sum",
         "summary",
         "report",
@@ -576,6 +581,7 @@ fn full_output() {
         &["scan", "-t1"],
         &["scan", "-t1", "--csv"],
         &["scan", "-t1", "--draw"],
+        &["watch"],
         &["sum", "-t1", pulse, pulse],
         &["--help"],
         &["record", "-t1", "-o", "/dev/full"],

@@ -52,15 +52,9 @@ impl Waiting {
         Waiting { child, error }
     }
 
-    fn send(&self, signal: &str) {
-        let script = format!("kill -{signal} {}", self.child.id());
-        let sent = Command::new("sh").args(["-c", &script]).status();
-        assert!(sent.unwrap().success());
-    }
-
     /// How it ends; it tells nothing more.
     fn end(mut self, signal: &str) -> ExitStatus {
-        self.send(signal);
+        send(&self.child, signal);
         let status = self.child.wait().unwrap();
         let mut line = String::new();
         self.error.read_line(&mut line).unwrap();
@@ -76,8 +70,15 @@ impl Drop for Waiting {
     }
 }
 
+/// Sends this signal to a run.
+pub fn send(run: &Child, signal: &str) {
+    let script = format!("kill -{signal} {}", run.id());
+    let sent = Command::new("sh").args(["-c", &script]).status();
+    assert!(sent.unwrap().success());
+}
+
 /// Whether this signal is ignored here, and so by what is run: as in the background of a script.
-fn is_ignored(number: u32) -> bool {
+pub fn is_ignored(number: u32) -> bool {
     let status = fs::read_to_string("/proc/self/status").unwrap();
     let mask = status.lines().find_map(|line| line.strip_prefix("SigIgn:"));
     let mask = u64::from_str_radix(mask.unwrap().trim(), 16).unwrap();
@@ -133,8 +134,8 @@ fn ended_by_a_limit() {
 fn ignored_signals() {
     let (library, folder) = library_and_folder("ignored_signals");
     let run = Waiting::start(&library, &folder, "trap '' HUP INT");
-    run.send("HUP");
-    run.send("INT");
+    send(&run.child, "HUP");
+    send(&run.child, "INT");
     assert_eq!(run.end("TERM").signal(), Some(15));
     assert_eq!(names(&folder), [""; 0]);
 }
