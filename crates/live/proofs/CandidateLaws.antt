@@ -16,6 +16,7 @@ use Rattle.ratio.specs.declared.Ratio.{Ratio}
 use Rattle.ratio.proofs.Laws.{lowest-equal}
 use Rattle.kept.specs.Kept.{KeptList}
 use Rattle.kept.proofs.KeptLaws.{kept-inside}
+use Rattle.kept.proofs.SelectedLists.{rises-later}
 use Rattle.trace.specs.Trace.{tick}
 use Rattle.trace.specs.Link.{farthest, linkError, Linked}
 use Rattle.trace.proofs.Ticks.{later}
@@ -23,8 +24,8 @@ use Rattle.trace.proofs.Errors.{link-error-pos}
 use Rattle.measures.specs.declared.Stray.{Stray}
 use Rattle.measures.specs.Measure.{deviationOf, strayOf}
 use Rattle.views.specs.View.{cost, cheapest}
-use Rattle.views.proofs.CheapestLaws.{cheapest-more, cheapest-below, cheapest-equal}
-use Rattle.views.proofs.ViewLaws.{snoc-kept, kept-apart}
+use Rattle.views.proofs.CheapestLaws.{cheapest-below, cheapest-equal}
+use Rattle.views.proofs.ViewLaws.{snoc-kept}
 use Rattle.live.specs.declared.candidates.Best.{Best}
 use Rattle.live.specs.Candidates.{withLast, deviationAt, better, Candidates}
 
@@ -58,7 +59,7 @@ module _ {ts : List ℕ} {vs : List ℤ} {samples : List ℕ} {count : ℕ} (c :
       let n : suc (suc i) < length w = omega (arith, candidates-length) in
       record {
         trace = c .trace;
-        forward = kept-apart (length ts - 1) w candidates-kept i n;
+        forward = rises-later w (candidates-kept .rises) (suc (suc i)) {i = i} (omega arith) n;
         inside = omega (arith, c .earlier, kept-inside (length ts - 1) w candidates-kept (suc (suc i)) n);
       }
 

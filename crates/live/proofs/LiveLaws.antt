@@ -1,6 +1,6 @@
 -- Laws of an addition: a state that passes the checks is ready, the state that the stores make is the one defined, and what holds of it.
 -- Assumes nothing.
-use mathlib.Core.Path.{_≡_, refl, sym, ap, _∙_}
+use mathlib.Core.Path.{_≡_, refl, sym, ap}
 use mathlib.Core.Bool.{true, false, _&&_}
 use mathlib.Core.List.{List, [], _∷_, _++_}
 use Prim.Native.Nat.{ℕ, suc, _+_, _-_, _*_, _≤_, _<_}
@@ -10,7 +10,7 @@ use native.Mathlib.Decide.{decLe}
 use borrow.Author.Tests.{leb-true, le-leb, lt-leb, eqb-true}
 use lib.Dec.{leb}
 use lib.IntN.{ℤ}
-use lib.ListN.{length, take, length-append}
+use lib.ListN.{length, length-append}
 use lib.Seq.{length-take-le, take-append-seam}
 use Rattle.lists.specs.Overwrite.{overwrite}
 use Rattle.lists.specs.First.{first}
@@ -20,7 +20,7 @@ use Rattle.refusal.specs.declared.Checked.{Checked}
 use Rattle.refusal.specs.declared.Checked.the-variants.{Fine, Refused}
 use Rattle.refusal.specs.Table.{placed}
 use Rattle.refusal.proofs.TableLaws.{row-fine, then-fine, refused-fine}
-use Rattle.kept.specs.Kept.{KeptList}
+use Rattle.kept.proofs.SelectedLists.{kept-some}
 use Rattle.trace.specs.Trace.{Trace, traceRows}
 use Rattle.trace.specs.Link.{linkError}
 use Rattle.trace.proofs.TraceLaws.{rows-trace}
@@ -101,10 +101,6 @@ module _ {ts : List ℕ} {vs : List ℤ} where
 
 -- ---- the state that the stores make
 
-kept-some : (last : ℕ) (l : List ℕ) → KeptList last l → 1 ≤ length l
-kept-some last [] k = absurd (k .spans)
-kept-some last (i ∷ s) k = omega arith
-
 module _ {ts : List ℕ} {vs : List ℤ} {v : View} (h : Ready ts vs v) (full : length (v .samples) ≡ 66) where
   ready-room : v .count ≤ length (v .samples)
   ready-room = omega (arith, h .range, h .inner)
@@ -117,7 +113,7 @@ module _ {ts : List ℕ} {vs : List ℤ} {v : View} (h : Ready ts vs v) (full : 
     trace = h .trace;
     earlier = h .earlier;
     kept = h .kept;
-    some = omega (arith, entries-length, kept-some (length ts - 2) (entries v) (h .kept));
+    some = omega (arith, entries-length, kept-some (entries v) (h .kept));
     room = ready-room;
   }
 

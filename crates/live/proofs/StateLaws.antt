@@ -4,10 +4,11 @@ use mathlib.Core.Path.{_≡_, refl, sym, ap, _∙_}
 use mathlib.Core.List.{List, [], _∷_, _++_}
 use Prim.Native.Nat.{ℕ, zero, suc, _+_, _-_, _≤_, _<_}
 use native.Mathlib.Omega.{arith}
-use lib.ListN.{length, getD, take, drop, set, length-append, take-append-drop}
-use lib.Seq.{length-take-le, take-append-le, take-take, take-suc, take-all, getD-append-add, getD-drop}
+use lib.ListN.{length, getD, take, set, length-append}
+use lib.Seq.{length-take-le, take-append-le, take-take, take-all}
 use Rattle.lists.specs.Overwrite.{overwrite}
-use Rattle.lists.proofs.OverwriteLaws.{overwrite-snoc}
+use Rattle.lists.proofs.OverwriteLaws.{overwrite-snoc, overwrite-after, overwrite-own}
+use Rattle.lists.proofs.PartLaws.{overwrite-take}
 use Rattle.views.specs.View.{without}
 use Rattle.views.proofs.ViewLaws.{without-length}
 use Rattle.live.proofs.CandidateLaws.{entry-inside, entry-new}
@@ -23,22 +24,6 @@ without-before : (d : ℕ) (l : List ℕ) → take d (without d l) ≡ take d l
 without-before zero l = refl
 without-before (suc d) [] = refl
 without-before (suc d) (x ∷ s) = ap {B = List ℕ} (λ r. x ∷ r) (without-before d s)
-
-overwrite-own : (n : ℕ) (o : List ℕ) → n ≤ length o → overwrite (take n o) o ≡ o
-overwrite-own n o h = rw (length-take-le n o h) (take-append-drop n o)
-
-overwrite-after : (l o : List ℕ) (j : ℕ) → length l ≤ j → getD (overwrite l o) j 0 ≡ getD o j 0
-overwrite-after l o j h =
-    let n = j - length l in
-    let e : j ≡ length l + n = omega arith in
-    rw e (getD-append-add l (drop (length l) o) n 0 ∙ getD-drop (length l) o n 0)
-
--- one store more
-store : (u o : List ℕ) (i v : ℕ) → i < length u → length u ≤ length o → v ≡ getD u i 0 → set (overwrite (take i u) o) i v ≡ overwrite (take (suc i) u) o
-store u o i v h fits e =
-    let n : length (take i u) ≡ i = length-take-le i u (omega arith) in
-    let s : set (overwrite (take i u) o) (length (take i u)) v ≡ overwrite (take i u ++ v ∷ []) o = overwrite-snoc (take i u) o v (omega arith) in
-    ap (λ (m : ℕ). set (overwrite (take i u) o) m v) (sym n) ∙ s ∙ rw (take-suc u i 0 h, ← e)
 
 -- a new entry last
 pub append-store : (o : List ℕ) (count new : ℕ) → count < length o → set o count new ≡ overwrite (take count o ++ new ∷ []) o
@@ -79,15 +64,15 @@ module _ (o : List ℕ) (count new d : ℕ) (inner : d < count) (room : count �
   shift-more {i} {j} {samples} s h e =
       let n : length (take i u) ≡ i = length-take-le i u (omega (arith, u-length)) in
       let f : j ≡ suc i = omega arith in
-      let v : getD samples j 0 ≡ getD u i 0 = rw (s .is) (overwrite-after (take i u) o j (omega arith) ∙ (entry-inside o count new j (omega arith) room ∙ (rw f (sym (without-after d w i (s .from)))))) in
+      let v : getD samples j 0 ≡ getD u i 0 = rw (s .is) (overwrite-after 0 (take i u) o j (omega arith) ∙ (entry-inside o count new j (omega arith) room ∙ (rw f (sym (without-after d w i (s .from)))))) in
       record {
         from = omega (arith, s .from);
         below = omega arith;
-        is = rw (v, s .is, f) (store u o i (getD u i 0) (omega (arith, u-length)) (omega (arith, u-length)) refl);
+        is = rw (v, s .is, e) (overwrite-take u o i 0 (omega (arith, u-length)) (omega (arith, u-length)));
       }
 
   pub shift-all : {i : ℕ} {samples : List ℕ} → Shifted o count new d i samples → count ≤ i + 1 → set samples i new ≡ overwrite (without d (take count o ++ new ∷ [])) o
   shift-all {i} {samples} s h =
       let e : suc i ≡ count = omega (arith, s .below) in
       let v : new ≡ getD u i 0 = entry-new o count new (suc i) e room ∙ sym (without-after d w i (s .from)) in
-      rw (s .is) (store u o i new (omega (arith, u-length)) (omega (arith, u-length)) v ∙ rw (take-all (suc i) u (omega (arith, u-length))))
+      rw (s .is) (ap (set (overwrite (take i u) o) i) v ∙ overwrite-take u o i 0 (omega (arith, u-length)) (omega (arith, u-length)) ∙ rw (take-all (i + 1) u (omega (arith, u-length))))

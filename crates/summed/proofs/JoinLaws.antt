@@ -18,7 +18,7 @@ use Rattle.lists.proofs.FirstLaws.{clear-none, clear-more}
 use Rattle.lists.proofs.OverwriteLaws.{overwrite-length, overwrite-snoc}
 use Rattle.lists.proofs.ListedLaws.{listed-length, listed-alike, listed-next}
 use Rattle.kept.specs.Kept.{LinksFrom, EachLink, final, KeptList}
-use Rattle.kept.proofs.KeptLaws.{links-map, kept-inside, kept-length}
+use Rattle.kept.proofs.KeptLaws.{links-map, kept-inside, kept-length, links-snoc, final-snoc}
 use Rattle.proposed.specs.Proposed.{entry}
 use Rattle.summed.specs.Sum.{isEntry, inEither, joinedOf, Joinable}
 use Rattle.summed.proofs.EntryLaws.{entry-is, first-entry, last-entry, Passed, passed-none, passed-inside, passed-absent, passed-more, entries-listed}
@@ -103,14 +103,6 @@ module _ {n : ℕ} {l m o out : List ℕ} {i j count next : ℕ} (g : Joining n 
 pub record NextOf (f : ℕ → Bool) (i j : ℕ) : Type 0 where
   pub after : i < j
   pub clear : Clear f (suc i) j
-
-links-snoc : (R : ℕ → ℕ → Type 0) (i : ℕ) (s : List ℕ) {k : ℕ} → LinksFrom R i s → R (final i s) k → LinksFrom R i (s ++ (k ∷ []))
-links-snoc R i [] h r = (r, tt)
-links-snoc R i (j ∷ s) h r = (h .0, links-snoc R j s (h .1) r)
-
-final-snoc : (i : ℕ) (s : List ℕ) (k : ℕ) → final i (s ++ (k ∷ [])) ≡ k
-final-snoc i [] k = refl
-final-snoc i (j ∷ s) k = final-snoc j s k
 
 -- the numbers below m that f holds of, the first of which is 0
 record Chain (f : ℕ → Bool) (m : ℕ) (l : List ℕ) : Type 0 where

@@ -12,7 +12,8 @@ use Rattle.ratio.specs.Order.{AtMost}
 use Rattle.ratio.proofs.OrderLaws.{at-most-trans}
 use Rattle.kept.specs.Kept.{LinksFrom, EachLink, final, KeptList}
 use Rattle.kept.specs.Error.{errorOf, Errors}
-use Rattle.kept.proofs.KeptLaws.{rise-le, each-zip, kept-links, kept-inside}
+use Rattle.kept.proofs.KeptLaws.{rise-le, each-zip, kept-links, kept-inside, links-snoc, final-snoc}
+use Rattle.kept.proofs.SelectedLists.{rises-later}
 use Rattle.kept.proofs.ErrorLaws.{error-within}
 use Rattle.views.specs.View.{cost, cheapest, without, thinned, viewWith, viewOf, twice, Doubles, StepsExact}
 use Rattle.views.proofs.CheapestLaws.{Positive, cheapest-below, cheapest-least, cheapest-same}
@@ -35,26 +36,6 @@ without-links R t i [] h r n = absurd (omega arith)
 without-links R t i (j ∷ []) h r n = absurd (omega arith)
 without-links R zero i (j ∷ k ∷ s) h r n = (n, r .1 .1)
 without-links R (suc t) i (j ∷ k ∷ s) h r n = (r .0, without-links R t j (k ∷ s) (omega arith) (r .1) n)
-
--- a list with one entry more
-snoc-final : (i m : ℕ) (s : List ℕ) → final i (s ++ m ∷ []) ≡ m
-snoc-final i m [] = refl
-snoc-final i m (j ∷ s) = snoc-final j m s
-
-snoc-links : (R : ℕ → ℕ → Type 0) (i m : ℕ) (s : List ℕ) → LinksFrom R i s → R (final i s) m → LinksFrom R i (s ++ m ∷ [])
-snoc-links R i m [] r n = (n, tt)
-snoc-links R i m (j ∷ s) r n = (r .0, snoc-links R j m s (r .1) n)
-
--- the entry two places on is a later sample
-two-on : (t i : ℕ) (s : List ℕ) → suc t < length s → LinksFrom _<_ i s → getD (i ∷ s) t 0 < getD s (suc t) 0
-two-on t i [] h r = absurd (omega arith)
-two-on t i (j ∷ []) h r = absurd (omega arith)
-two-on zero i (j ∷ k ∷ s) h r = omega (arith, r .0, r .1 .0)
-two-on (suc t) i (j ∷ k ∷ s) h r = two-on t j (k ∷ s) (omega arith) (r .1)
-
-pub kept-apart : (last : ℕ) (w : List ℕ) → KeptList last w → (t : ℕ) → suc (suc t) < length w → getD w t 0 < getD w (suc (suc t)) 0
-kept-apart last [] kept t l = absurd (omega arith)
-kept-apart last (i ∷ s) kept t l = two-on t i s (omega arith) (kept .rises)
 
 -- The counting argument. A list of m links and a list of at least 2m links, which starts no earlier and ends no later and after the first's start:
 -- of the second, some two links in a row lie inside one link of the first.
@@ -98,20 +79,20 @@ module _ (err : ℕ → ℕ → Ratio) where
       let l : suc t < length s = omega (arith, dropped-inner (i ∷ s) h) in
       record {
         spans = (k .spans .0, without-final t i s l ∙ k .spans .1);
-        rises = without-links _<_ t i s l (k .rises) (two-on t i s l (k .rises));
+        rises = without-links _<_ t i s l (k .rises) (rises-later (i ∷ s) (k .rises) (suc (suc t)) {i = t} (omega arith) (omega arith));
       }
 
 -- a kept list with the next sample last is one of the samples so far
 pub snoc-kept : (n : ℕ) (l : List ℕ) → KeptList n l → KeptList (suc n) (l ++ suc n ∷ [])
 snoc-kept n [] k = absurd (k .spans)
 snoc-kept n (i ∷ s) k = record {
-  spans = (k .spans .0, snoc-final i (suc n) s);
-  rises = snoc-links _<_ i (suc n) s (k .rises) (omega (arith, k .spans .1));
+  spans = (k .spans .0, final-snoc i s (suc n));
+  rises = links-snoc _<_ i s (k .rises) (omega (arith, k .spans .1));
 }
 
 snoc-each : (R : ℕ → ℕ → Type 0) (n : ℕ) (l : List ℕ) → KeptList n l → EachLink R l → R n (suc n) → EachLink R (l ++ suc n ∷ [])
 snoc-each R n [] k r m = absurd (k .spans)
-snoc-each R n (i ∷ s) k r m = snoc-links R i (suc n) s r (rw (k .spans .1) m)
+snoc-each R n (i ∷ s) k r m = links-snoc R i s r (rw (k .spans .1) m)
 
 -- What an addition keeps.
 module _ (err : ℕ → ℕ → Ratio) (k : ℕ) where
@@ -199,7 +180,7 @@ module _ {err : ℕ → ℕ → Ratio} {last : ℕ} (law : Errors err last) (exa
   new-link n w le kept long =
       let found = some-enclosed n w h le kept long hk few encloses in
       let t = found .0 in
-      let pos : Positive (cost err w) (length w - 2) = λ t l. law .positive (getD w t 0) (getD w (suc (suc t)) 0) (kept-apart (suc n) w kept t (omega arith)) (omega (arith, kept-inside (suc n) w kept (suc (suc t)) (omega arith))) in
+      let pos : Positive (cost err w) (length w - 2) = λ t l. law .positive (getD w t 0) (getD w (suc (suc t)) 0) (rises-later w (kept .rises) (suc (suc t)) {i = t} (omega arith) (omega arith)) (omega (arith, kept-inside (suc n) w kept (suc (suc t)) (omega arith))) in
       at-most-trans (cost err w (dropped err w)) (cost err w t) most (pos t (omega (arith, found .1 .0)))
       (cheapest-least (cost err w) (length w - 2) pos t (omega (arith, found .1 .0))) (found .1 .1)
 
@@ -222,7 +203,7 @@ module _ (err other : ℕ → ℕ → Ratio) (k : ℕ) where
   thinned-same last [] kept long e = refl
   thinned-same last (i ∷ s) kept long e =
       rw (cheapest-same (cost err (i ∷ s)) (cost other (i ∷ s)) (length (i ∷ s) - 2)
-      (λ t l. e (getD (i ∷ s) t 0) (getD s (suc t) 0) (two-on t i s (omega arith) (kept .rises)) (kept-inside last (i ∷ s) kept (suc (suc t)) (omega arith))))
+      (λ t l. e (getD (i ∷ s) t 0) (getD s (suc t) 0) (rises-later (i ∷ s) (kept .rises) (suc (suc t)) {i = t} (omega arith) (omega arith)) (kept-inside last (i ∷ s) kept (suc (suc t)) (omega arith))))
 
   pub with-same : (n : ℕ) (l : List ℕ) → KeptList n l → ((i j : ℕ) → i < j → j ≤ suc n → err i j ≡ other i j) → viewWith err k l (suc n) ≡ viewWith other k l (suc n)
   unfolding viewWith

@@ -1,7 +1,7 @@
 -- `engine::view::add` meets its contract: a walk of its MIR, by hand. The borrow is opened and the state copied out; the step by value is called with the copy;
 -- the state that it returns is stored, and the borrow is closed there. All that the proof knows of `added` is that it meets its contract, whose one clause `Said` names.
 -- Assumes nothing.
-use mathlib.Core.Path.{_≡_, refl, ap}
+use mathlib.Core.Path.{refl, ap}
 use Prim.Native.Nat.{ℕ}
 use mathlib.Core.List.{[], _∷_, List}
 use lib.IntN.{ℤ}
