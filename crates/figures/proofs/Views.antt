@@ -24,8 +24,8 @@ use Rattle.live.specs.Live.{fresh, begunOf, isView, stateRow, addRows, grown}
 abbrev five : List ℕ
 five = 0 ∷ 1 ∷ 2 ∷ 3 ∷ 4 ∷ []
 
-abbrev eight : List ℕ
-eight = 0 ∷ 1 ∷ 2 ∷ 3 ∷ 4 ∷ 5 ∷ 6 ∷ 7 ∷ []
+abbrev eightTicks : List ℕ
+eightTicks = 0 ∷ 1 ∷ 2 ∷ 3 ∷ 4 ∷ 5 ∷ 6 ∷ 7 ∷ []
 
 -- ---- a view is begun with the list 0, and k above 32 is refused
 
@@ -39,13 +39,13 @@ abbrev swing : List ℤ
 swing = negsuc 3 ∷ negsuc 3 ∷ pos 0 ∷ pos 4 ∷ negsuc 3 ∷ pos 4 ∷ negsuc 3 ∷ pos 0 ∷ []
 
 abbrev swingView : ℕ → List ℕ
-swingView n = viewOf (linkError eight swing) 1 n
+swingView n = viewOf (linkError eightTicks swing) 1 n
 
 swing-lists : (swingView 3 ≡ 0 ∷ 1 ∷ 2 ∷ 3 ∷ []) × (swingView 4 ≡ 0 ∷ 1 ∷ 3 ∷ 4 ∷ []) × (swingView 5 ≡ 0 ∷ 3 ∷ 4 ∷ 5 ∷ []) × (swingView 6 ≡ 0 ∷ 4 ∷ 5 ∷ 6 ∷ []) × (swingView 7 ≡ 0 ∷ 4 ∷ 5 ∷ 7 ∷ [])
 unfolding viewOf viewWith thinned cheapest linkError farthest greatest deviation gcd euclid
 swing-lists = (refl, refl, refl, refl, refl)
 
-exactly-twice : (listError eight swing (0 ∷ 4 ∷ 5 ∷ 7 ∷ []) ≡ over 8 1) × (listError eight swing (0 ∷ 2 ∷ 7 ∷ []) ≡ over 4 1) × (twice (over 4 1) ≡ over 8 1)
+exactly-twice : (listError eightTicks swing (0 ∷ 4 ∷ 5 ∷ 7 ∷ []) ≡ over 8 1) × (listError eightTicks swing (0 ∷ 2 ∷ 7 ∷ []) ≡ over 4 1) × (twice (over 4 1) ≡ over 8 1)
 unfolding errorFrom greater linkError farthest greatest deviation gcd euclid
 exactly-twice = (refl, refl, refl)
 
@@ -70,21 +70,21 @@ not-of-one-more a = omega arith
 
 -- ---- a state set by hand: k = 1, values 0 1 0 -1, the list 0 2; it is accepted and becomes 0 2 3, with what lies behind it as it was; its error is 1, that of 0 1 3 is 0
 
-abbrev dip : List ℤ
-dip = pos 0 ∷ pos 1 ∷ pos 0 ∷ negsuc 0 ∷ []
+abbrev turn : List ℤ
+turn = pos 0 ∷ pos 1 ∷ pos 0 ∷ negsuc 0 ∷ []
 
 abbrev byHand : View
 byHand = record { k = 1; count = 2; samples = 0 ∷ 2 ∷ replicate 64 9 }
 
-by-hand-fine : addRows (0 ∷ 1 ∷ 2 ∷ 3 ∷ []) dip byHand ≡ Fine
+by-hand-fine : addRows (0 ∷ 1 ∷ 2 ∷ 3 ∷ []) turn byHand ≡ Fine
 unfolding addRows stateRow isView traceRows listRow badAt first firstOf
 by-hand-fine = refl
 
-by-hand-grown : grown (0 ∷ 1 ∷ 2 ∷ 3 ∷ []) dip byHand ≡ record { k = 1; count = 3; samples = 0 ∷ 2 ∷ 3 ∷ replicate 63 9 }
+by-hand-grown : grown (0 ∷ 1 ∷ 2 ∷ 3 ∷ []) turn byHand ≡ record { k = 1; count = 3; samples = 0 ∷ 2 ∷ 3 ∷ replicate 63 9 }
 unfolding grown viewWith
 by-hand-grown = refl
 
-by-hand-errors : (listError (0 ∷ 1 ∷ 2 ∷ 3 ∷ []) dip (0 ∷ 2 ∷ 3 ∷ []) ≡ over 1 1) × (listError (0 ∷ 1 ∷ 2 ∷ 3 ∷ []) dip (0 ∷ 1 ∷ 3 ∷ []) ≡ over 0 1)
+by-hand-errors : (listError (0 ∷ 1 ∷ 2 ∷ 3 ∷ []) turn (0 ∷ 2 ∷ 3 ∷ []) ≡ over 1 1) × (listError (0 ∷ 1 ∷ 2 ∷ 3 ∷ []) turn (0 ∷ 1 ∷ 3 ∷ []) ≡ over 0 1)
 unfolding errorFrom greater linkError farthest greatest deviation gcd euclid
 by-hand-errors = (refl, refl)
 
@@ -119,31 +119,31 @@ both-ends = refl
 -- ---- the rows in their order: 1, 2 and 3, then 20
 
 -- no state of a view
-abbrev none : View
-none = fresh 0 0
+abbrev noState : View
+noState = fresh 0 0
 
 -- with k, and a list in the first entries
 abbrev holding : ℕ → ℕ → List ℕ → View
 holding k count l = record { k = k; count = count; samples = l ++ replicate 62 0 }
 
-length-first : addRows [] [] none ≡ Refused Length
+length-before-state : addRows [] [] noState ≡ Refused Length
 unfolding addRows traceRows
-length-first = refl
+length-before-state = refl
 
-tick-first : addRows (1 ∷ 1 ∷ []) (pos 0 ∷ pos 0 ∷ []) none ≡ Refused (Tick 1)
+tick-before-state : addRows (1 ∷ 1 ∷ []) (pos 0 ∷ pos 0 ∷ []) noState ≡ Refused (Tick 1)
 unfolding addRows traceRows first firstOf
-tick-first = refl
+tick-before-state = refl
 
-span-first : addRows (0 ∷ 1048576 ∷ []) (pos 0 ∷ pos 0 ∷ []) none ≡ Refused (Span 1)
+span-before-state : addRows (0 ∷ 1048576 ∷ []) (pos 0 ∷ pos 0 ∷ []) noState ≡ Refused (Span 1)
 unfolding addRows traceRows first firstOf
-span-first = refl
+span-before-state = refl
 
 -- a count of 0; one beyond the room; k above 32; more than 2k inner samples; a list that stops short, falls, or begins late; the new sample in it; no earlier sample
-states-refused : (addRows five teeth none ≡ Refused NoView) × (addRows five teeth (holding 32 67 (0 ∷ 1 ∷ 2 ∷ 3 ∷ [])) ≡ Refused NoView) × (addRows five teeth (holding 33 4 (0 ∷ 1 ∷ 2 ∷ 3 ∷ [])) ≡ Refused NoView)
+states-refused : (addRows five teeth noState ≡ Refused NoView) × (addRows five teeth (holding 32 67 (0 ∷ 1 ∷ 2 ∷ 3 ∷ [])) ≡ Refused NoView) × (addRows five teeth (holding 33 4 (0 ∷ 1 ∷ 2 ∷ 3 ∷ [])) ≡ Refused NoView)
     × (addRows five teeth (holding 0 3 (0 ∷ 1 ∷ 3 ∷ 0 ∷ [])) ≡ Refused NoView) × (addRows five teeth (holding 1 3 (0 ∷ 1 ∷ 2 ∷ 0 ∷ [])) ≡ Refused NoView) × (addRows five teeth (holding 1 4 (0 ∷ 2 ∷ 1 ∷ 3 ∷ [])) ≡ Refused NoView)
     × (addRows five teeth (holding 1 2 (1 ∷ 3 ∷ 0 ∷ 0 ∷ [])) ≡ Refused NoView) × (addRows five teeth (holding 1 3 (0 ∷ 1 ∷ 4 ∷ 0 ∷ [])) ≡ Refused NoView) × (addRows (0 ∷ []) (pos 0 ∷ []) (fresh 1 1) ≡ Refused NoView)
 unfolding addRows stateRow isView traceRows listRow badAt first firstOf
 states-refused = (refl, refl, refl, refl, refl, refl, refl, refl, refl)
 
-numbers : (numberOf NoView ≡ 20) × (returnedOf NoView ≡ 0)
-numbers = (refl, refl)
+cause : (numberOf NoView ≡ 20) × (returnedOf NoView ≡ 0)
+cause = (refl, refl)
