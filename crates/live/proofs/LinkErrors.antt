@@ -3,28 +3,25 @@
 -- Assumes nothing.
 use mathlib.Core.Path.{ap}
 use mathlib.Core.List.{List}
-use Prim.Native.Nat.{ℕ, suc, _+_, _-_, _≤_, _<_}
+use Prim.Native.Nat.{ℕ, suc, _+_, _-_}
 use native.Mathlib.Omega.{arith}
 use lib.IntN.{ℤ}
 use lib.ListN.{length}
 use Rattle.ratio.specs.declared.Ratio.{Ratio}
 use Rattle.ratio.specs.Order.{over}
 use Rattle.trace.specs.Trace.{Trace}
-use Rattle.trace.specs.Link.{linkError, Linked}
+use Rattle.trace.specs.Link.{linkError}
 use Rattle.trace.proofs.Half.{inside-within}
-use Rattle.trace.proofs.Errors.{within-link-error, step-error}
+use Rattle.trace.proofs.Errors.{linked, within-link-error, step-error}
 use Rattle.views.specs.View.{Doubles, StepsExact}
 
 module _ {ts : List ℕ} {vs : List ℤ} (t : Trace ts vs) where
-  linked : (i j : ℕ) → i < j → j ≤ length ts - 1 → Linked ts vs i j
-  linked i j l u = record { trace = t; forward = l; inside = omega arith }
-
   pub steps-exact : StepsExact (linkError ts vs) (length ts - 1)
-  steps-exact i h = ap (λ (x : Ratio). x .p) (step-error i (linked i (suc i) (omega arith) (omega arith)))
+  steps-exact i h = ap (λ (x : Ratio). x .p) (step-error i (linked t i (suc i) (omega arith) (omega arith)))
 
   pub errors-double : Doubles (linkError ts vs) (length ts - 1)
   errors-double i j l r il lr rj jl =
       let e = linkError ts vs i j in
-      let twofold = within-link-error (linked l r lr (omega arith)) (over (e .p + e .p) (e .q)) 1048575 .0
-      (inside-within (t .rising) vs il lr rj (omega arith) (within-link-error (linked i j (omega arith) jl) e 1048575 .1 (omega arith))) in
+      let twofold = within-link-error (linked t l r lr (omega arith)) (over (e .p + e .p) (e .q)) 1048575 .0
+      (inside-within (t .rising) vs il lr rj (omega arith) (within-link-error (linked t i j (omega arith) jl) e 1048575 .1 (omega arith))) in
       omega (arith, twofold)

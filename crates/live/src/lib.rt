@@ -20,8 +20,8 @@ pub struct Viewed {
     pub view: View,
 }
 
-pub mod candidates;
-pub mod states;
+mod candidates;
+mod states;
 
 // The state of these numbers with the sample 0 in every entry.
 fn fresh_view(k: u32, count: u32) -> View
