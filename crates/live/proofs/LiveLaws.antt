@@ -1,6 +1,7 @@
 -- Laws of an addition: a state that passes the checks is ready, the state that the stores make is the one defined, and what holds of it.
 -- Assumes nothing.
 use mathlib.Core.Path.{_≡_, refl, sym, ap}
+use mathlib.Core.Logic.{_↔_}
 use mathlib.Core.Bool.{true, false, _&&_}
 use mathlib.Core.List.{List, [], _∷_, _++_}
 use Prim.Native.Nat.{ℕ, suc, _+_, _-_, _*_, _≤_, _<_}
@@ -20,6 +21,7 @@ use Rattle.refusal.specs.declared.Checked.{Checked}
 use Rattle.refusal.specs.declared.Checked.the-variants.{Fine, Refused}
 use Rattle.refusal.specs.Table.{placed}
 use Rattle.refusal.proofs.TableLaws.{row-fine, then-fine, refused-fine}
+use Rattle.kept.specs.Kept.{KeptList}
 use Rattle.kept.proofs.SelectedLists.{kept-some}
 use Rattle.trace.specs.Trace.{Trace, traceRows}
 use Rattle.trace.specs.Link.{linkError}
@@ -75,29 +77,31 @@ module _ (n : ℕ) (v : View) where
   unfolding stateRow
   state-refused e = rw (← e)
 
+  -- it is not refused exactly if it is a view: k in range, at most 2k inner samples, and a kept list of the samples, of which there is one at least
+  pub state-exact : stateRow n v ≡ Fine ↔ (1 ≤ n) × (v .k ≤ 32) × (v .count ≤ 2 * v .k + 2) × KeptList (n - 1) (entries v)
+  unfolding stateRow isView
+  state-exact =
+      let a = leb (v .k) 32 in
+      let b = leb (v .count) (2 * v .k + 2) in
+      let c = passes (listRow n (entries v)) in (
+        λ e.
+            let is : (a && b && c) ≡ true = row-fine (a && b && c) NoView e in
+            let front : (a && b) ≡ true = and-first (a && b) c is in
+            let row : listRow n (entries v) ≡ Fine = passes-fine _ (and-second (a && b) c is) in
+            let some : 1 ≤ n = row-some n (entries v) row in
+            (some, leb-true _ _ (and-first a b front), leb-true _ _ (and-second a b front), row-kept some (entries v) .0 row),
+        λ h. rw (le-leb _ _ (h .1), le-leb _ _ (h .2), row-kept (h .0) (entries v) .1 (h .3)),
+      )
+
 module _ {ts : List ℕ} {vs : List ℤ} where
   pub rows-are-trace : traceRows 4096 ts vs ≡ Fine → Trace ts vs
   rows-are-trace e = rows-trace 4096 ts vs (omega arith) e .0
 
-  pub rows-ready : (v : View) → addRows ts vs v ≡ Fine → Ready ts vs v
-  unfolding addRows stateRow isView
-  rows-ready v e =
-      let n = length ts - 1 in
-      let a = leb (v .k) 32 in
-      let b = leb (v .count) (2 * v .k + 2) in
-      let both = then-fine (traceRows 4096 ts vs) (stateRow n v) e in
-      let is : isView n v ≡ true = row-fine (isView n v) NoView (both .1) in
-      let front : (a && b) ≡ true = and-first (a && b) (passes (listRow n (entries v))) is in
-      let row : listRow n (entries v) ≡ Fine = passes-fine _ (and-second (a && b) (passes (listRow n (entries v))) is) in
-      let some : 1 ≤ n = row-some n (entries v) row in
-      let m : length ts - 2 ≡ n - 1 = omega arith in
-      record {
-        trace = rows-are-trace (both .0);
-        earlier = omega arith;
-        kept = rw m (row-kept some (entries v) .0 row);
-        range = leb-true _ _ (and-first a b front);
-        inner = leb-true _ _ (and-second a b front);
-      }
+  pub rows-ready : (v : View) → traceRows 4096 ts vs ≡ Fine → stateRow (length ts - 1) v ≡ Fine → Ready ts vs v
+  rows-ready v checked view =
+      let is = state-exact (length ts - 1) v .0 view in
+      let m : length ts - 2 ≡ length ts - 1 - 1 = omega arith in
+      record { trace = rows-are-trace checked; earlier = omega (arith, is .0); kept = rw m (is .3); range = is .1; inner = is .2 }
 
 -- ---- the state that the stores make
 
@@ -140,10 +144,9 @@ module _ {ts : List ℕ} {vs : List ℤ} {v : View} (h : Ready ts vs v) (full : 
 
 -- ---- what holds of it
 
-pub grown-holds : {ts : List ℕ} {vs : List ℤ} {v r : View} → addRows ts vs v ≡ Fine → length (v .samples) ≡ 66 → r ≡ grown ts vs v → Grown ts vs v r
+pub grown-holds : {ts : List ℕ} {vs : List ℤ} {v r : View} → Ready ts vs v → addRows ts vs v ≡ Fine → length (v .samples) ≡ 66 → r ≡ grown ts vs v → Grown ts vs v r
 unfolding grown viewOf
-grown-holds {ts} {vs} {v} {r} rows full is =
-    let h = rows-ready v rows in
+grown-holds {ts} {vs} {v} {r} h rows full is =
     let err = linkError ts vs in
     let n : length ts - 1 ≡ suc (length ts - 2) = omega (arith, h .earlier) in
     let l = viewWith err (v .k) (entries v) (length ts - 1) in

@@ -9,16 +9,19 @@ use native.Mathlib.Omega.{arith}
 use lib.IntN.{ℤ}
 use lib.ListN.{length, take}
 use lib.Seq.{length-take-le}
+use Rattle.refusal.specs.declared.Checked.the-variants.{Fine}
+use Rattle.refusal.proofs.TableLaws.{then-fine}
 use Rattle.ratio.specs.Order.{AtMost}
 use Rattle.kept.specs.Kept.{KeptList}
 use Rattle.kept.proofs.ErrorLaws.{error-none}
 use Rattle.views.specs.View.{viewOf, twice}
 use Rattle.views.proofs.ViewLaws.{view-kept, view-length, view-same}
+use Rattle.trace.specs.Trace.{traceRows}
 use Rattle.trace.specs.Link.{linkError, listError}
 use Rattle.trace.proofs.UpTo.{error-up-to}
 use Rattle.live.specs.declared.View.{View}
-use Rattle.live.specs.Live.{fresh, entries, grown}
-use Rattle.live.proofs.LiveLaws.{begun-view}
+use Rattle.live.specs.Live.{fresh, entries, stateRow, addRows, grown, Grown}
+use Rattle.live.proofs.LiveLaws.{begun-view, state-exact}
 use Rattle.closest.specs.declared.Found.{Found}
 use Rattle.engine.specs.declared.Closest.the-variants.{Kept as KeptAt}
 use Rattle.engine.specs.Least.{LeastOutcome}
@@ -81,3 +84,11 @@ module _ (ts : List ℕ) (vs : List ℤ) (k : ℕ) where
       let long : length (soFar n) ≡ suc n = length-take-le (suc n) ts (omega arith) in
       let last : length (soFar n) - 1 ≡ n = omega arith in
       rw (← (l .error)) (watched-close n v h w _ (rw last at (l .kept)) (omega (arith, l .few)))
+
+-- the state that an addition leaves is none that the next one refuses
+pub next-passes : (ts : List ℕ) (vs : List ℤ) (before : View) {after : View} → Grown ts vs before after → stateRow (length ts) after ≡ Fine
+unfolding addRows grown
+next-passes ts vs before {after} g =
+    let passed = state-exact (length ts - 1) before .0 (then-fine (traceRows 4096 ts vs) (stateRow (length ts - 1) before) (g .rows) .1) in
+    let same : after .k ≡ before .k = ap (λ (x : View). x .k) (g .is) in
+    state-exact (length ts) after .1 (omega (arith, passed .0), omega (arith, passed .1), g .inner, g .kept)

@@ -11,7 +11,7 @@ use Rattle.live.proofs.is_view.Tie as tie
 
 returns : tie.Need-returns
 unfolding isView
-returns c = rw (lt-leb _ _ (c .if1 .taken))
+returns c = rw (lt-leb (c .before .before .args .view .k) 32 (omega (arith, c .if1 .taken)))
 
 mul-if2 : tie.Need-mul-if2
 mul-if2 c = search needs
@@ -21,7 +21,9 @@ add-if2 c = search needs
 
 returns-2 : tie.Need-returns-2
 unfolding isView
-returns-2 c = rw (le-leb _ _ (c .before .before .before .if1 .left), lt-leb _ _ (c .if2 .taken))
+returns-2 c =
+    let k = c .before .before .before .if1 .left in
+    rw (le-leb (c .before .before .before .before .before .args .view .k) 32 (omega (arith, k)), lt-leb _ _ (c .if2 .taken))
 
 cast-count : tie.Need-cast-count
 cast-count c = search needs
@@ -47,7 +49,7 @@ returns-3 c =
     let i = c .before .before .before .before .before in
     let v = i .before .before .before .before .before .args .view in
     let whole : v .count - 0 ≡ v .count = omega arith in
-    rw (le-leb _ _ (i .before .before .before .if1 .left), le-leb _ _ (i .if2 .left)) (rw whole at (c .is-kept .ensures))
+    rw (le-leb (v .k) 32 (omega (arith, i .before .before .before .if1 .left)), le-leb _ _ (i .if2 .left)) (rw whole at (c .is-kept .ensures))
 
 pub is-view-spec : {M : Type 1} → statement M
 is-view-spec =

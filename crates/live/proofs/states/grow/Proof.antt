@@ -24,7 +24,7 @@ appended-requires c κs = search needs
 returns : tie.Need-returns
 returns c =
     let s = c .before .before .before .before .before .before in
-    grown-all (s .pre) (full (s .args .view) (s .good .0)) (c .before .if1 .taken) (c .before .before .before .before .narrow .ensures) (c .appended .ensures)
+    grown-all (s .pre) (full (s .args .view) (s .good .0)) (omega (arith, c .before .if1 .taken)) (c .before .before .before .before .narrow .ensures) (c .appended .ensures)
 
 cast-count : tie.Need-cast-count
 cast-count c = search needs
@@ -43,7 +43,7 @@ shifted-requires c κs = search needs
 returns-2 : tie.Need-returns-2
 returns-2 c =
     let s = c .before .before .before .before .before .before .before .before .before .before in
-    grown-thinned (s .pre) (full (s .args .view) (s .good .0)) (c .before .before .before .before .before .if1 .left) (c .before .before .before .before .before .before .before .before .narrow .ensures) (c .before .cheapest-at .ensures .0)
+    grown-thinned (s .pre) (full (s .args .view) (s .good .0)) (omega (arith, c .before .before .before .before .before .if1 .left)) (c .before .before .before .before .before .before .before .before .narrow .ensures) (c .before .cheapest-at .ensures .0)
     (c .before .cheapest-at .ensures .1) (c .shifted .ensures)
 
 pub grow-spec : {M : Type 1} → statement M
