@@ -57,14 +57,16 @@ next-stop-requires : tie.Need-next-stop-requires Inv-loop μ-loop
 next-stop-requires c κs =
     let l = c .before .before .before .before in
     let t = c .before .before .before .loop-test .taken in
-    let pre = l .before .before .before .before .before .pre in
-    (record {
-      trace = pre .0;
-      bounded = pre .1;
-      inside = omega (arith, t, l .loop .inv .0);
-      counted = counted-after _ _ (steps-valid _ _ _) (l .loop .inv .0) t;
-      limit-is = links-end-is _ _ _ (omega (arith, t, l .loop .inv .0)) (c .before .before .run-from .ensures) (c .end-of .ensures);
-    }, l .before .across .ensures)
+    let pre = l .before .before .before .before .before .pre in (
+      record {
+        trace = pre .0;
+        bounded = pre .1;
+        inside = omega (arith, t, l .loop .inv .0);
+        counted = counted-after _ _ (steps-valid _ _ _) (l .loop .inv .0) t;
+        limit-is = links-end-is _ _ _ (omega (arith, t, l .loop .inv .0)) (c .before .before .run-from .ensures) (c .end-of .ensures);
+      },
+      l .before .across .ensures,
+    )
 
 -- the chosen stop is in the tables
 inside : (c : tie.After-next-stop Inv-loop μ-loop) →
