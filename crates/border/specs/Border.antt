@@ -10,11 +10,12 @@ use mathlib.Core.Bool.{cond}
 use mathlib.Core.List.{map}
 use Prim.Native.Nat.{ℕ}
 use lib.Dec.{eqb}
+use Rattle.ratio.specs.Order.{over}
 use Rattle.refusal.specs.declared.Checked.{Checked}
 use Rattle.refusal.specs.declared.Checked.the-variants.{Fine, Refused as IsRefused}
 use Rattle.refusal.specs.Table.{numberOf, returnedOf}
 use Rattle.tolerance.specs.declared.Tolerance as T
-use Rattle.tolerance.specs.declared.Tolerance.the-variants.{Ratio, Counts, Noise}
+use Rattle.tolerance.specs.declared.Tolerance.the-variants.{Ratio, Counts, Noise, Parts}
 use Rattle.limits.specs.declared.Limits as L
 use Rattle.tolerances.specs.declared.Entry.{Entry}
 use Rattle.tolerances.specs.declared.Tolerances as S
@@ -67,7 +68,8 @@ toleranceOf t =
     cond (eqb (t .form) 0) (Ratio (t .p) (t .q))
     (cond (eqb (t .form) 1) (Counts (t .x))
     (cond (eqb (t .form) 2) (Noise (record { noise = t .x; multiple = t .y }))
-    (Ratio 0 0)))
+    (cond (eqb (t .form) 3) (Parts (record { up = over (t .p) (t .q); down = over (t .below_p) (t .below_q) }))
+    (Ratio 0 0))))
 
 abbrev pub limitsOf : Limits → L.Limits
 limitsOf t = record { tolerance = toleranceOf (t .tolerance); gap = t .gap }
@@ -79,8 +81,8 @@ abbrev pub tolerancesOf : Tolerances → S.Tolerances
 tolerancesOf t = record { count = t .count; list = map entryOf (t .list) }
 
 abbrev pub heldOf : Holding → Held
-heldOf (IsHeld r) = record { number = 0; value = 0; p = r .p; q = r .q }
-heldOf (HoldRefused x) = record { number = numberOf x; value = returnedOf x; p = 0; q = 0 }
+heldOf (IsHeld x) = record { number = 0; value = 0; p = x .up .p; q = x .up .q; below_p = x .down .p; below_q = x .down .q }
+heldOf (HoldRefused x) = record { number = numberOf x; value = returnedOf x; p = 0; q = 0; below_p = 0; below_q = 0 }
 
 abbrev pub sideNumber : Side → ℕ
 sideNumber On = 0
@@ -134,8 +136,8 @@ writtenOf (Count n) = record { number = 0; value = n }
 writtenOf (NotWritten x) = record { number = numberOf x; value = returnedOf x }
 
 abbrev pub readOf : R.Answer → Content
-readOf (Samples n t) = record { number = 0; value = n; p = t .p; q = t .q }
-readOf (NotRead x) = record { number = numberOf x; value = returnedOf x; p = 0; q = 0 }
+readOf (Samples n t) = record { number = 0; value = n; p = t .up .p; q = t .up .q; below_p = t .down .p; below_q = t .down .q }
+readOf (NotRead x) = record { number = numberOf x; value = returnedOf x; p = 0; q = 0; below_p = 0; below_q = 0 }
 
 abbrev pub comparedOf : Comparison → Verdict
 comparedOf Same = record { number = 0; passed = 1; value = 0 }

@@ -1,14 +1,14 @@
 // The public calls. None has a requirement: each states its outcome for every input, and declines by the table of document 01.
 use closest::Found;
 use measures::Measure;
-use ratio::Ratio;
 use reduction::Galloped;
 use refusal::Checked;
 use refusal::Refusal;
+use tolerance::Parts;
 
-// What `hold` answers: the tolerance in lowest terms, or a refusal.
+// What `hold` answers: the parts of the tolerance in lowest terms, or a refusal.
 pub enum Holding {
-    Held(Ratio),
+    Held(Parts),
     Refused(Refusal),
 }
 

@@ -5,6 +5,7 @@
 --   limitRows                     the first of the rows 4, 15 that applies
 --   commonRows                    the first of the rows 1, 2, 3, 4, 15 that applies
 --   criterionIn, criterionOf      the criterion that a meaning under a gap limit, that limits set
+--   partsOf                       the parts of a criterion
 --   Under                         what check 15 gives: the criterion of two parts under the gap limit, or the row
 --   Sets, Allowed                 what the checks 4 and 15 give: the criterion that allowed limits set, or the row
 --   ReadyAt, Prepared             what the checks 1 to 4 and 15 give: a trace and that criterion, or the row
@@ -60,6 +61,9 @@ criterionIn g NotAllowed = limited g (over 0 1)
 
 unfoldable pub criterionOf : Limits → Criterion
 criterionOf t = criterionIn (t .gap) (meaning (t .tolerance))
+
+abbrev pub partsOf : Criterion → Parts
+partsOf c = record { up = c .up; down = c .down }
 
 abbrev pub Under : Parts → ℕ → Ready → Type 0
 Under x g (At c) = (gapRow g ≡ Fine) × (c ≡ parted g (x .up) (x .down))

@@ -4,7 +4,7 @@ use native.Mathlib.Omega.{arith}
 use Rattle.writer.specs.declared.Answer as W
 use Rattle.writer.specs.Writing.{selected}
 use Rattle.writer.specs.Writing as Writing
-use Rattle.trace.specs.Link.{ratioOf}
+use Rattle.limits.specs.Prepare.{partsOf}
 use Rattle.engine.proofs.JudgeLaws.{invalid-bound}
 use Rattle.engine.proofs.WriteLaws.{kept-at, link-declines, recorded, declined}
 use borrow.Author.Needs.{needs}
@@ -42,7 +42,7 @@ returns-2 c =
     let e = w .before .before in
     let s = e .before .before .before .before .before in
     recorded (s .pre) (s .args .buffer .now) (s .args .place) (e .before .first-invalid .ensures) (omega (arith, e .if1 .left))
-    (subst (λ (y : W.Answer). Writing.ContentWritten (selected (ratioOf (s .args .c)) (s .args .ticks .now) (s .args .values .now) (s .args .list .now)) (s .args .buffer .now) (s .args .place) y (w .write .last .1 .1 .1 .1 .0))
+    (subst (λ (y : W.Answer). Writing.ContentWritten (selected (partsOf (s .args .c)) (s .args .ticks .now) (s .args .values .now) (s .args .list .now)) (s .args .buffer .now) (s .args .place) y (w .write .last .1 .1 .1 .1 .0))
     (c .before .a .given .1) (w .write .ensures))
 
 same-length-2 : tie.Need-same-length-2
@@ -54,7 +54,7 @@ returns-3 c =
     let e = w .before .before in
     let s = e .before .before .before .before .before in
     declined (s .pre) (s .args .buffer .now) (s .args .place) (e .before .first-invalid .ensures) (omega (arith, e .if1 .left))
-    (subst (λ (y : W.Answer). Writing.ContentWritten (selected (ratioOf (s .args .c)) (s .args .ticks .now) (s .args .values .now) (s .args .list .now)) (s .args .buffer .now) (s .args .place) y (w .write .last .1 .1 .1 .1 .0))
+    (subst (λ (y : W.Answer). Writing.ContentWritten (selected (partsOf (s .args .c)) (s .args .ticks .now) (s .args .values .now) (s .args .list .now)) (s .args .buffer .now) (s .args .place) y (w .write .last .1 .1 .1 .1 .0))
     (c .before .a2 .given .1) (w .write .ensures))
 
 pub write-list-spec : {M : Type 1} → statement M
