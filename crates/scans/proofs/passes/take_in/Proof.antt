@@ -1,7 +1,6 @@
 -- `scans::passes::take_in` meets its contract: each turn leaves the other entries alone. Assumes nothing.
 use Prim.Native.Nat.{_-_}
 use native.Mathlib.Omega.{arith}
-use lib.ListN.{length}
 use Rattle.turns.specs.Held.{stepped, numbers, heldIn}
 use Rattle.scans.specs.Scan.{criterionAt}
 use Rattle.scans.proofs.PassLaws.{Looping, loop-first, loop-next, loop-done, loop-own, turning-at}
@@ -10,21 +9,21 @@ use Rattle.scans.proofs.passes.take_in.Statement.{statement}
 use Rattle.scans.proofs.passes.take_in.Tie as tie
 
 abbrev Inv-loop : tie.InvT-loop
-Inv-loop ps qs gap starts₀ bases₀ lows₀ lowruns₀ highs₀ highruns₀ places₀ before here at cut n out₀ b₀ starts bases lows lowruns highs highruns places out b =
-    Looping (length ps) n (λ a. stepped (criterionAt ps qs gap a) cut before here at (heldIn n (numbers starts₀ bases₀ lows₀ lowruns₀ highs₀ highruns₀ places₀) out₀ a)) (numbers starts₀ bases₀ lows₀ lowruns₀ highs₀ highruns₀ places₀) out₀ b (numbers starts bases lows lowruns highs highruns places) out
+Inv-loop m parts gap starts₀ levels₀ lows₀ lowruns₀ highs₀ highruns₀ places₀ before here at cut n out₀ b₀ starts levels lows lowruns highs highruns places out b =
+    Looping m n (λ a. stepped (criterionAt parts gap a) cut before here at (heldIn n (numbers starts₀ levels₀ lows₀ lowruns₀ highs₀ highruns₀ places₀) out₀ a)) (numbers starts₀ levels₀ lows₀ lowruns₀ highs₀ highruns₀ places₀) out₀ b (numbers starts levels lows lowruns highs highruns places) out
 
 abbrev μ-loop : tie.MeasureT-loop
-μ-loop ps qs gap starts₀ bases₀ lows₀ lowruns₀ highs₀ highruns₀ places₀ before here at cut n out₀ b₀ starts bases lows lowruns highs highruns places out b =
-    length ps - b
+μ-loop m parts gap starts₀ levels₀ lows₀ lowruns₀ highs₀ highruns₀ places₀ before here at cut n out₀ b₀ starts levels lows lowruns highs highruns places out b =
+    m - b
 
 loop-holds : tie.Need-loop-holds Inv-loop μ-loop
-loop-holds c = loop-first (c .before .before .before .pre .sized)
+loop-holds c = loop-first (c .before .pre .sized)
 
 criterion-at-requires : tie.Need-criterion-at-requires Inv-loop μ-loop
-criterion-at-requires c κs = (c .loop-test .taken, c .before .before .before .before .before .pre .same)
+criterion-at-requires c κs = omega (arith, c .loop-test .taken, c .before .before .before .pre .few)
 
 turn-requires : tie.Need-turn-requires Inv-loop μ-loop
-turn-requires c κs = turning-at (c .before .before .before .before .before .before .before .before .before .before .loop .inv) (c .before .before .before .before .before .before .before .before .before .before .before .before .before .before .pre) (c .before .before .before .before .before .before .before .before .before .loop-test .taken) (c .before .before .before .before .before .before .before .before .criterion-at .ensures)
+turn-requires c κs = turning-at (c .before .before .before .before .before .before .before .before .before .before .loop .inv) (c .before .before .before .before .before .before .before .before .before .before .before .before .pre) (c .before .before .before .before .before .before .before .before .before .loop-test .taken) (c .before .before .before .before .before .before .before .before .criterion-at .ensures)
 
 add-b : tie.Need-add-b Inv-loop μ-loop
 add-b c = search needs
