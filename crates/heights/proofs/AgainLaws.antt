@@ -25,7 +25,7 @@ use Rattle.trace.proofs.SelectedTrace.{selected-first, selected-last, selected-
 use Rattle.heights.specs.Heights.{Fraction, samplesAfter, everySample, lineAt, traceAt, OnTrace, Near}
 use Rattle.heights.specs.Budget.{StandsFor}
 use Rattle.heights.specs.Again.{added, ReducedAgain}
-use Rattle.heights.proofs.FractionLaws.{near-plus}
+use Rattle.heights.proofs.FractionLaws.{near-trans}
 use Rattle.heights.proofs.NearLaws.{line-near}
 use Rattle.heights.proofs.ExtremeLaws.{sample-on}
 use Rattle.heights.proofs.ValidLaws.{near-valid}
@@ -50,7 +50,7 @@ module _ {ts : List ℕ} {vs : List ℤ} {c e : Criterion} {l h : List ℕ} (fir
         to = rw (selected-last (first .trace) (first .kept)) (on .to);
       } in
       let reduced = line-near e (second .trace) (second .kept) (second .within) a d on-reduced in
-      near-plus (second .down-positive) (second .up-positive) (first .down-positive) (first .up-positive)
+      near-trans (second .down-positive) (second .up-positive) (first .down-positive) (first .up-positive)
       (subst (Near (e .down) (e .up) (lineAt ts vs (select 0 l h) a d)) (selected-line ts vs l (first .kept) a d)
       (subst (λ (x : Fraction). Near (e .down) (e .up) x (traceAt (select 0 ts l) (select (pos 0) vs l) a d)) (reduced-line ts vs l (first .kept) h positions a d) reduced))
       (line-near c (first .trace) (first .kept) (first .within) a d on)
@@ -124,9 +124,17 @@ ditch-walk : walkOf (valid (everySample 5) ditch deep) 5 ≡ 0 ∷ 2 ∷ 4 ∷ 5
 unfolding samplesAfter walkOf walkFrom stops valid obeys hole allWithin allFrom within above below deviation
 ditch-walk = refl
 
+ditch-minimum : minimumOf (valid (everySample 5) ditch deep) 5 ≡ 0 ∷ 2 ∷ 4 ∷ 5 ∷ []
+unfolding samplesAfter minimumOf nextOf linksOf linksIn bestStop stops valid obeys hole allWithin allFrom within above below deviation
+ditch-minimum = refl
+
 ditch-walk-again : walkOf (valid (0 ∷ 2 ∷ 4 ∷ 5 ∷ []) (select (pos 0) ditch (0 ∷ 2 ∷ 4 ∷ 5 ∷ [])) deep) 3 ≡ 0 ∷ 3 ∷ []
 unfolding walkOf walkFrom stops valid obeys hole allWithin allFrom within above below deviation
 ditch-walk-again = refl
+
+ditch-minimum-again : minimumOf (valid (0 ∷ 2 ∷ 4 ∷ 5 ∷ []) (select (pos 0) ditch (0 ∷ 2 ∷ 4 ∷ 5 ∷ [])) deep) 3 ≡ 0 ∷ 3 ∷ []
+unfolding minimumOf nextOf linksOf linksIn bestStop stops valid obeys hole allWithin allFrom within above below deviation
+ditch-minimum-again = refl
 
 -- sample 3 is 20/5 below the line
 ditch-below : deviation (everySample 5) ditch 0 5 3 ≡ negsuc 19

@@ -124,11 +124,11 @@ module _ {o p q : ℕ} where
 
 -- over any two
 module _ {a b : Ratio} (some : 1 ≤ a .q) (more : 1 ≤ b .q) where
-  excess-plus : {x y z : Fraction} → Excess a x y → Excess b y z → Excess (total a b) x z
-  excess-plus h k = excess-trans {o = a .p * b .q} {p = b .p * a .q} {q = a .q * b .q} (excess-wider some (omega arith) h) (excess-wider more (omega arith) k)
+  plus-trans : {x y z : Fraction} → Excess a x y → Excess b y z → Excess (total a b) x z
+  plus-trans h k = excess-trans {o = a .p * b .q} {p = b .p * a .q} {q = a .q * b .q} (excess-wider some (omega arith) h) (excess-wider more (omega arith) k)
 
-  pub excess-total : {x y z w : Fraction} → Excess a x y → Excess b z w → Excess (total a b) (summed x z) (summed y w)
-  excess-total {y = y} {z} h k = excess-plus (excess-left z (k .left) h) (excess-right y (h .right) k)
+  pub plus-summed : {x y z w : Fraction} → Excess a x y → Excess b z w → Excess (total a b) (summed x z) (summed y w)
+  plus-summed {y = y} {z} h k = plus-trans (excess-left z (k .left) h) (excess-right y (h .right) k)
 
 -- 2p/q is p/q + p/q
 pub twice : (r : Ratio) {x y : Fraction} → 1 ≤ r .q → Excess (total r r) x y → Excess (multiple r 2 1) x y
@@ -218,10 +218,10 @@ near-left z some h = record { large = excess-left z some (h .large); small = exc
 
 -- x stands for y and y for z: each side adds up
 module _ {a b c d : Ratio} (ha : 1 ≤ a .q) (hb : 1 ≤ b .q) (hc : 1 ≤ c .q) (hd : 1 ≤ d .q) where
-  pub near-plus : {x y z : Fraction} → Near a b x y → Near c d y z → Near (total c a) (total d b) x z
-  near-plus h k = record {
-    large = rw (mul-comm (c .q) (a .q), add-comm (c .p * a .q) (a .p * c .q)) (excess-plus ha hc (h .large) (k .large));
-    small = excess-plus hd hb (k .small) (h .small);
+  pub near-trans : {x y z : Fraction} → Near a b x y → Near c d y z → Near (total c a) (total d b) x z
+  near-trans h k = record {
+    large = rw (mul-comm (c .q) (a .q), add-comm (c .p * a .q) (a .p * c .q)) (plus-trans ha hc (h .large) (k .large));
+    small = plus-trans hd hb (k .small) (h .small);
   }
 
 -- p/q on either side is a distance of at most p/q

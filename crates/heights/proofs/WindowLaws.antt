@@ -17,7 +17,7 @@ use Rattle.trace.specs.Link.{valid}
 use Rattle.heights.specs.Heights.{Fraction, lineAt, traceAt, allOf, OnTrace, Excess, Near, Equals, peak, trough}
 use Rattle.heights.specs.Windows.{Line, summed, Window, sumAt, meanAt, valueSum, meanOver}
 use Rattle.heights.specs.Budget.{BaselineBudget, WindowBudget}
-use Rattle.heights.proofs.FractionLaws.{equals-summed, excess-total, excess-opposite, excess-whole, none, none-summed, order-excess, near-opposite, near-refl, near-summed, near-multiplied, near-wider}
+use Rattle.heights.proofs.FractionLaws.{equals-summed, plus-summed, excess-opposite, excess-whole, none, none-summed, order-excess, near-opposite, near-refl, near-summed, near-multiplied, near-wider}
 use Rattle.heights.proofs.Entries.{every-kept, every-entry}
 use Rattle.heights.proofs.NearLaws.{line-near}
 use Rattle.heights.proofs.AreaLaws.{area-near}
@@ -53,7 +53,7 @@ samples-sum {ts} {vs} t (suc n) k a inside h =
 
 -- u, x of the list and v, y of the trace: u is never too large and at most a too small, x at most a too large and at most b too small
 baseline-near : {a b : Ratio} {u v x y : Fraction} → 1 ≤ a .q → 1 ≤ b .q → Excess none u v → Excess a v u → Near a b x y → Near a (plus a b) (summed u x) (summed v y)
-baseline-near some more never most near = record { large = none-summed never (near .large); small = excess-total some more most (near .small) }
+baseline-near some more never most near = record { large = none-summed never (near .large); small = plus-summed some more most (near .small) }
 
 -- ---- the budget
 

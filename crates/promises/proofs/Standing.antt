@@ -3,7 +3,7 @@
 -- Assumes nothing.
 use mathlib.Core.Path.{_≡_, refl}
 use mathlib.Core.List.{List}
-use Prim.Native.Nat.{ℕ, _-_}
+use Prim.Native.Nat.{ℕ, _-_, _≤_}
 use native.Mathlib.Nat.{mul-le-mul}
 use native.Mathlib.Omega.{arith}
 use lib.IntN.{ℤ}
@@ -36,7 +36,9 @@ use Rattle.engine.proofs.WriteLaws.{common-held}
 
 module _ (ts : List ℕ) (vs : List ℤ) (t : Limits) where
   passed-stands : {l : List ℕ} → commonRows ts vs t ≡ Fine → KeptList (length ts - 1) l → AllValid (okOf ts vs t) l → StandsFor ts vs (criterionOf t) l
-  passed-stands rows k v = record { trace = common-trace ts vs t rows; positive = common-held ts vs t rows .positive; kept = k; within = v }
+  passed-stands rows k v =
+      let held = common-held ts vs t rows in
+      record { trace = common-trace ts vs t rows; up-positive = held .up .positive; down-positive = held .down .positive; kept = k; within = v }
 
   written-stands : {l o o′ : List ℕ} {n : ℕ} → outputRows ts vs t (length o) ≡ Fine → Wrote l o n o′ → KeptList (length ts - 1) l → AllValid (okOf ts vs t) l
       → StandsFor ts vs (criterionOf t) (take n o′)
@@ -60,7 +62,8 @@ module _ (ts : List ℕ) (vs : List ℤ) (t : Limits) where
 pub least-stands : (ts : List ℕ) (vs : List ℤ) (g m : ℕ) {o o′ : List ℕ} {f : Found} → LeastOutcome ts vs g m o (KeptAt f) o′ → StandsFor ts vs (limited g (f .error)) (take (f .kept) o′)
 least-stands ts vs g m {o} h = rw (wrote-read (h .wrote)) (record {
   trace = least-task ts vs g m (length o) (h .rows) .0 .trace;
-  positive = h .allowed .positive;
+  up-positive = h .allowed .positive;
+  down-positive = h .allowed .positive;
   kept = h .list .minimum .kept;
   within = h .list .minimum .valid;
 })
@@ -68,9 +71,12 @@ least-stands ts vs g m {o} h = rw (wrote-read (h .wrote)) (record {
 -- the joined list for the summed trace, at 2 (T1 + T2)
 pub sum-stands : {ts us : List ℕ} {vs ws : List ℤ} {l m : List ℕ} {o o′ : List ℤ} {p p′ : List ℕ} {n : ℕ} (a b : Ratio) (g : ℕ) → SumOutcome ts vs us ws l m o p (Kept n) o′ p′
     → StandsFor ts vs (limited g a) l → StandsFor us ws (limited g b) m → StandsFor ts (sumsOf vs ws) (limited g (twiceSum a b)) (take n p′)
-sum-stands a b g h x y = rw (wrote-read (h .joined)) (record {
-  trace = h .trace;
-  positive = omega (arith, mul-le-mul (x .positive) (y .positive));
-  kept = h .kept;
-  within = h .within a b g (x .within) (y .within);
-})
+sum-stands a b g h x y =
+    let some : 1 ≤ twiceSum a b .q = omega (arith, mul-le-mul (x .up-positive) (y .up-positive)) in
+    rw (wrote-read (h .joined)) (record {
+      trace = h .trace;
+      up-positive = some;
+      down-positive = some;
+      kept = h .kept;
+      within = h .within a b g (x .within) (y .within);
+    })
