@@ -5,14 +5,14 @@ use mathlib.Core.Path.{_≡_, refl}
 use mathlib.Core.List.{List, [], _∷_}
 use Prim.Native.Nat.{ℕ, _≤_}
 use native.Mathlib.Omega.{arith}
-use lib.IntN.{ℤ, pos, negsuc, _-ℤ_, _*ℤ_}
-use lib.Signed.{_≤ℤ_}
+use lib.IntN.{ℤ, pos, negsuc, _*ℤ_}
 use Rattle.kept.specs.Kept.{AllValid}
 use Rattle.ratio.specs.Order.{over}
 use Rattle.trace.specs.declared.Criterion.{Criterion}
 use Rattle.trace.specs.Link.{deviation, above, below, within, allFrom, hole, obeys, allWithin, valid, parted}
 use Rattle.heights.specs.Heights.{Fraction, linkAt, lineFrom, lineAt, samplesAfter, everySample, traceAt, Near, Equals, joined, peak, trough, height}
 use Rattle.heights.specs.Windows.{summed, multiplied, sumAt, meanAt, clipped, areaUnder, areaFrom, areaOf, meanOver, baselineHeight, baselineDepth}
+use Rattle.heights.specs.Budget.{ErrorBudget}
 
 abbrev five : List ℕ
 five = 0 ∷ 1 ∷ 2 ∷ 3 ∷ 4 ∷ []
@@ -99,10 +99,10 @@ swing-extremes-kept : (peak swing (0 ∷ 4 ∷ []) ≡ pos 0) × (trough swing (
 unfolding joined
 swing-extremes-kept = (refl, refl, refl)
 
--- the greatest value is more than the part below too small
-swing-exchanged : ((peak swing (everySample 4) -ℤ peak swing (0 ∷ 4 ∷ [])) *ℤ pos (tall .down .q)) ≤ℤ pos (tall .down .p) → ⊥
+-- with the parts exchanged its budget is false: the greatest value is more than 1 too small
+swing-exchanged : ErrorBudget five swing deep (0 ∷ 4 ∷ []) → ⊥
 unfolding samplesAfter joined
-swing-exchanged h = h .le
+swing-exchanged b = b .peak-near .le
 
 -- ---- values 0 3 3 3 3 0 9, list 0 5 6, parts 3 and 1: of the window 1 .. 4 the mean is 3 too small, the area 3 for each tick, and the greatest value
 -- minus the mean 3 too large
@@ -144,7 +144,7 @@ plateau-baseline-over : Equals (baselineHeight plateau (0 ∷ 5 ∷ 6 ∷ []) (m
 unfolding samplesAfter linkAt joined summed multiplied clipped areaUnder areaFrom
 plateau-baseline-over = computed (omega arith) refl refl
 
--- the mean is not at most 3 too large and at most 1 too small
+-- the parts exchanged: the mean is not at most 3 too large and at most 1 too small
 plateau-exchanged : Near (tall .up) (tall .down) (meanAt (lineAt seven plateau (0 ∷ 5 ∷ 6 ∷ [])) 1 4) (meanAt (traceAt seven plateau) 1 4) → ⊥
 unfolding samplesAfter lineFrom linkAt summed multiplied sumAt
 plateau-exchanged h = h .small .above .le
@@ -171,7 +171,8 @@ dip-baseline-over : Equals (baselineHeight dip (0 ∷ 7 ∷ []) (meanOver eight 
 unfolding samplesAfter linkAt joined summed multiplied clipped areaUnder areaFrom
 dip-baseline-over = computed (omega arith) refl refl
 
--- ---- upside down, parts 1 and 3: the mean of the window 1 .. 4 is 3 too large, and minus the least value 3 too large, and 4 too small
+-- ---- upside down, parts 1 and 3: of the window 1 .. 4 the mean is 3 too large, the area 3 for each tick, and the mean minus the least value 3 too large,
+-- and 4 too small
 
 abbrev basin : List ℤ
 basin = pos 0 ∷ negsuc 2 ∷ negsuc 2 ∷ negsuc 2 ∷ negsuc 2 ∷ pos 0 ∷ negsuc 8 ∷ []
@@ -184,12 +185,16 @@ basin-mean : Equals (meanAt (lineAt seven basin (0 ∷ 5 ∷ 6 ∷ [])) 1 4) (po
 unfolding samplesAfter lineFrom linkAt summed multiplied sumAt
 basin-mean = computed (omega arith) refl refl
 
+basin-area : Equals (areaOf seven basin (0 ∷ 5 ∷ 6 ∷ []) 1 4 1) (pos 0) × Equals (areaOf seven basin (everySample 6) 1 4 1) (negsuc 8)
+unfolding samplesAfter linkAt summed multiplied clipped areaUnder areaFrom
+basin-area = computed (omega arith) refl refl
+
 basin-depth : Equals (baselineDepth basin (0 ∷ 5 ∷ 6 ∷ []) (meanAt (lineAt seven basin (0 ∷ 5 ∷ 6 ∷ [])) 1 4)) (pos 9)
     × Equals (baselineDepth basin (everySample 6) (meanAt (traceAt seven basin) 1 4)) (pos 6)
 unfolding samplesAfter lineFrom linkAt joined summed multiplied sumAt
 basin-depth = computed (omega arith) refl refl
 
--- the mean is not at most 1 too large and at most 3 too small
+-- the parts exchanged: the mean is not at most 1 too large and at most 3 too small
 basin-exchanged : Near (deep .up) (deep .down) (meanAt (lineAt seven basin (0 ∷ 5 ∷ 6 ∷ [])) 1 4) (meanAt (traceAt seven basin) 1 4) → ⊥
 unfolding samplesAfter lineFrom linkAt summed multiplied sumAt
 basin-exchanged h = h .large .above .le
@@ -206,7 +211,7 @@ hump-depth : Equals (baselineDepth hump (0 ∷ 7 ∷ []) (meanAt (lineAt eight h
 unfolding samplesAfter lineFrom linkAt joined summed multiplied sumAt
 hump-depth = computed (omega arith) refl refl
 
--- the least value is more than the part above too large
-hump-exchanged : ((trough hump (0 ∷ 7 ∷ []) -ℤ trough hump (everySample 7)) *ℤ pos (deep .up .q)) ≤ℤ pos (deep .up .p) → ⊥
+-- with the parts exchanged its budget is false: the least value is more than 1 too large
+hump-exchanged : ErrorBudget eight hump tall (0 ∷ 7 ∷ []) → ⊥
 unfolding samplesAfter joined
-hump-exchanged h = h .le
+hump-exchanged b = b .trough-near .le
