@@ -13,32 +13,22 @@ use Rattle.refusal.specs.declared.Checked.{Checked}
 use Rattle.refusal.specs.declared.Checked.the-variants.{Fine, Refused}
 use Rattle.refusal.proofs.TableLaws.{then-fine}
 use Rattle.limits.specs.declared.Limits.{Limits}
-use Rattle.tolerance.specs.declared.Meaning.{Meaning}
-use Rattle.tolerance.specs.declared.Meaning.the-variants.{Exact, NotAllowed}
-use Rattle.tolerance.specs.Meaning.{meaning, HeldParts}
-use Rattle.tolerance.proofs.Meanings.{exact-held}
+use Rattle.tolerance.specs.Meaning.{HeldParts}
 use Rattle.trace.specs.declared.Criterion.{Criterion}
 use Rattle.trace.specs.Trace.{traceRows}
 use Rattle.proposed.specs.Proposed.{listRow, firstInvalid}
 use Rattle.proposed.proofs.ProposedLaws.{row-kept}
 use Rattle.format.specs.Format.{encode}
 use Rattle.writer.specs.Writing.{Kept, selected, writeRow, WrittenAt, WriteDeclined}
-use Rattle.limits.specs.Prepare.{toleranceRow, commonRows, criterionIn, criterionOf, partsOf, ReadyAt}
+use Rattle.limits.specs.Prepare.{commonRows, criterionOf, partsOf, ReadyAt}
+use Rattle.limits.proofs.PrepareLaws.{limits-held}
 use Rattle.engine.specs.Judge.{judgeRows}
 use Rattle.engine.specs.Write.{contentOf, writeRows, Recorded, ListReady}
 
 -- an allowed tolerance is held in lowest terms
-row-held : (t : Limits) → toleranceRow (meaning (t .tolerance)) ≡ Fine → HeldParts (partsOf (criterionOf t))
-unfolding criterionOf
-row-held t e = go (meaning (t .tolerance)) refl e
-  where
-    go : (m : Meaning) → meaning (t .tolerance) ≡ m → toleranceRow m ≡ Fine → HeldParts (partsOf (criterionIn (t .gap) m))
-    go (Exact x) q e = exact-held (t .tolerance) x q
-    go NotAllowed q e = let z : _≡_ {A = ℕ} 0 1 = cc in absurd (omega arith)
-
 pub common-held : (ts : List ℕ) (vs : List ℤ) (t : Limits) → commonRows ts vs t ≡ Fine → HeldParts (partsOf (criterionOf t))
 unfolding commonRows
-common-held ts vs t e = row-held t (then-fine (toleranceRow (meaning (t .tolerance))) _ (then-fine (traceRows 4096 ts vs) _ e .1) .0)
+common-held ts vs t e = limits-held t (then-fine (traceRows 4096 ts vs) _ e .1)
 
 module _ (ts : List ℕ) (vs : List ℤ) (l : List ℕ) (t : Limits) (m place : ℕ) where
   pub common-refuses : {x : Refusal} → commonRows ts vs t ≡ Refused x → writeRows ts vs l t m place ≡ Refused x

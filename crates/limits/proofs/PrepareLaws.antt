@@ -1,6 +1,6 @@
 -- Laws of the checks 1 to 4 and 15.
 -- Assumes nothing.
-use mathlib.Core.Path.{_≡_}
+use mathlib.Core.Path.{_≡_, refl}
 use mathlib.Core.List.{List}
 use Prim.Native.Nat.{ℕ, _≤_, _<_}
 use native.Mathlib.Omega.{arith}
@@ -14,9 +14,10 @@ use Rattle.refusal.specs.declared.Checked.the-variants.{Fine, Refused}
 use Rattle.refusal.specs.Table.{NotAllowedTolerance}
 use Rattle.refusal.proofs.TableLaws.{then-fine}
 use Rattle.limits.specs.declared.Limits.{Limits}
+use Rattle.tolerance.specs.declared.Meaning.{Meaning}
 use Rattle.tolerance.specs.declared.Meaning.the-variants.{Exact, NotAllowed}
 use Rattle.tolerance.specs.declared.Parts.{Parts}
-use Rattle.tolerance.specs.Meaning.{meaning, Held}
+use Rattle.tolerance.specs.Meaning.{meaning, Held, HeldParts}
 use Rattle.tolerance.proofs.Meanings.{exact-held}
 use Rattle.trace.specs.declared.Criterion.{Criterion}
 use Rattle.trace.specs.Trace.{Trace, traceRows}
@@ -24,7 +25,7 @@ use Rattle.trace.specs.Link.{parted, Bounds}
 use Rattle.trace.proofs.TraceLaws.{rows-trace}
 use Rattle.limits.specs.declared.Ready.{Ready}
 use Rattle.limits.specs.declared.Ready.the-variants.{At, Refused as Declined}
-use Rattle.limits.specs.Prepare.{gapRow, limitRows, Under, commonRows, criterionIn, criterionOf, Sets, Allowed, ReadyAt, Prepared, outputRows, OutputReady}
+use Rattle.limits.specs.Prepare.{toleranceRow, gapRow, limitRows, Under, commonRows, criterionIn, criterionOf, partsOf, Sets, Allowed, ReadyAt, Prepared, outputRows, OutputReady}
 
 pub gap-low : (g : ℕ) → g < 1 → Refused Gap ≡ gapRow g
 gap-low g h = rw (lt-leb 1 g h)
@@ -50,6 +51,15 @@ exact-sets t {x} e fine =
 pub exact-allowed : (t : Limits) {x : Parts} (r : Ready) → meaning (t .tolerance) ≡ Exact x → Under x (t .gap) r → Allowed t r
 exact-allowed t (At c) e u = rw (u .1) (exact-sets t e (u .0))
 exact-allowed t (Declined y) e u = rw e u
+
+-- the parts that allowed limits set are held in lowest terms
+pub limits-held : (t : Limits) → limitRows t ≡ Fine → HeldParts (partsOf (criterionOf t))
+unfolding criterionOf
+limits-held t e = go (meaning (t .tolerance)) refl (then-fine (toleranceRow (meaning (t .tolerance))) _ e .0)
+  where
+    go : (m : Meaning) → meaning (t .tolerance) ≡ m → toleranceRow m ≡ Fine → HeldParts (partsOf (criterionIn (t .gap) m))
+    go (Exact x) q e = exact-held (t .tolerance) x q
+    go NotAllowed q e = let z : _≡_ {A = ℕ} 0 1 = cc in absurd (omega arith)
 
 -- a tolerance that is not allowed is the first cause
 pub not-allowed : (t : Limits) → meaning (t .tolerance) ≡ NotAllowed → limitRows t ≡ Refused NotAllowedTolerance

@@ -23,13 +23,13 @@ use Rattle.ratio.specs.Order.{AtMost}
 use Rattle.kept.specs.Kept.{KeptList, AllValid}
 use Rattle.kept.proofs.KeptLaws.{each-map}
 use Rattle.trace.specs.Trace.{value, Trace, traceRows}
-use Rattle.trace.specs.Link.{valid, limited}
+use Rattle.trace.specs.Link.{valid, parted, limited}
 use Rattle.trace.proofs.TraceLaws.{rows-trace, trace-rows}
 use Rattle.trace.proofs.Validity.{NoWider, valid-wider}
 use Rattle.heights.specs.Budget.{StandsFor}
 use Rattle.proposed.specs.Proposed.{listRow, firstInvalid}
 use Rattle.proposed.proofs.ProposedLaws.{row-kept, all-valid}
-use Rattle.summed.specs.Sum.{sumsOf, outside, sumRows, isEntry, joinedOf, twiceSum, Summable, Joinable}
+use Rattle.summed.specs.Sum.{sumsOf, outside, sumRows, isEntry, joinedOf, partsSum, Summable, Joinable}
 use Rattle.summed.proofs.EntryLaws.{first-entry, last-entry, entries-listed}
 use Rattle.summed.proofs.JoinLaws.{joined-swap, joined-part}
 use Rattle.summed.proofs.SumLaws.{sums-swap}
@@ -135,18 +135,18 @@ module _ (ts : List ℕ) (vs : List ℤ) (l : List ℕ) where
 
 -- ---- at the bound
 
--- the lists are within T1 and T2 and obey g; t has an allowed tolerance of which neither part is below 2 (T1 + T2), and a gap limit that is not below g
-module _ {ts us : List ℕ} {vs ws : List ℤ} {l m : List ℕ} {o o′ : List ℤ} {p p′ : List ℕ} {n : ℕ} (a b : Ratio) (g : ℕ) (s : SumOutcome ts vs us ws l m o p (Kept n) o′ p′)
-    (first : StandsFor ts vs (limited g a) l) (second : StandsFor us ws (limited g b) m)
-    (t : Limits) (allowed : limitRows t ≡ Fine) (above : AtMost (twiceSum a b) (criterionOf t .up)) (below : AtMost (twiceSum a b) (criterionOf t .down)) (limit : g ≤ criterionOf t .gap) where
-  joined-stands : StandsFor ts (sumsOf vs ws) (limited g (twiceSum a b)) (take n p′)
-  joined-stands = sum-stands a b g s first second
+-- the lists are within U1, D1 and U2, D2 and obey g; t has an allowed tolerance of which neither part is below their sum, and a gap limit that is not below g
+module _ {ts us : List ℕ} {vs ws : List ℤ} {l m : List ℕ} {o o′ : List ℤ} {p p′ : List ℕ} {n : ℕ} (u d v e : Ratio) (g : ℕ) (s : SumOutcome ts vs us ws l m o p (Kept n) o′ p′)
+    (first : StandsFor ts vs (parted g u d) l) (second : StandsFor us ws (parted g v e) m)
+    (t : Limits) (allowed : limitRows t ≡ Fine) (above : AtMost (partsSum u d v e) (criterionOf t .up)) (below : AtMost (partsSum u d v e) (criterionOf t .down)) (limit : g ≤ criterionOf t .gap) where
+  joined-stands : StandsFor ts (sumsOf vs ws) (limited g (partsSum u d v e)) (take n p′)
+  joined-stands = sum-stands u d v e g s first second
 
   joined-valid : AllValid (valid ts (sumsOf vs ws) (criterionOf t)) (take n p′)
   joined-valid =
-      let wide : NoWider (limited g (twiceSum a b)) (criterionOf t)
+      let wide : NoWider (limited g (partsSum u d v e)) (criterionOf t)
       = record { up-some = joined-stands .up-positive; down-some = joined-stands .down-positive; up = above; down = below } in
-      each-map (valid-wider ts (sumsOf vs ws) (limited g (twiceSum a b)) (criterionOf t) wide limit) (take n p′) (joined-stands .within)
+      each-map (valid-wider ts (sumsOf vs ws) (limited g (partsSum u d v e)) (criterionOf t) wide limit) (take n p′) (joined-stands .within)
 
   pub sum-judged : (r : Verdict) → JudgeOutcome ts (sumsOf vs ws) (take n p′) t r → r ≡ Yes
   unfolding judgeRows commonRows
