@@ -16,7 +16,7 @@ use Rattle.refusal.specs.declared.Checked.the-variants.{Fine, Refused}
 use Rattle.refusal.specs.Table.{numberOf, returnedOf}
 use Rattle.tolerance.specs.declared.Tolerance.{Tolerance}
 use Rattle.tolerance.specs.declared.Tolerance.the-variants.{Ratio}
-use Rattle.trace.specs.Link.{deviation, within, allFrom, hole, obeys, allWithin, valid}
+use Rattle.trace.specs.Link.{deviation, above, below, within, allFrom, hole, obeys, allWithin, valid}
 use Rattle.format.specs.Number.{bytesOnto, numberFrom, valueOf}
 use Rattle.format.specs.Command.{commandOf}
 use Rattle.format.specs.Format.{Content, SameRecord, isHeld, shortStep, longStep, endStep, steps, parse, stepsOnto, samplesOnto, encode}
@@ -39,7 +39,7 @@ abbrev ends : List ℕ
 ends = 0 ∷ 4 ∷ []
 
 kept-alike : (walkList fiveTicks low (criterionOf (unlimited (Ratio 2 1))) ≡ ends) × (walkList fiveTicks low (criterionOf (unlimited (Ratio 5 1))) ≡ ends)
-unfolding walkOf walkFrom stops criterionOf valid obeys hole allWithin allFrom within deviation gcd euclid
+unfolding walkOf walkFrom stops criterionOf valid obeys hole allWithin allFrom within above below deviation gcd euclid
 kept-alike = (refl, refl)
 
 -- what their records say, and the records, which differ in one byte

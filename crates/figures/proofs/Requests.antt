@@ -19,7 +19,7 @@ use Rattle.refusal.specs.Table.{NotAllowedTolerance as Tolerance, numberOf, ret
 use Rattle.tolerance.specs.declared.Tolerance.the-variants.{Ratio}
 use Rattle.tolerance.specs.Meaning.{meaning}
 use Rattle.trace.specs.Trace.{traceRows}
-use Rattle.trace.specs.Link.{deviation, within, allFrom, hole, obeys, allWithin, valid, greatest, farthest, linkError}
+use Rattle.trace.specs.Link.{deviation, above, below, within, allFrom, hole, obeys, allWithin, valid, greatest, farthest, linkError}
 use Rattle.measures.specs.Measure.{worstSample}
 use Rattle.codes.specs.RangeTable.{valuesIn, tableRow, expandWithRows}
 use Rattle.channels.specs.Channels.{crateRow}
@@ -48,7 +48,7 @@ unfolding crateRows crateRow
 crate-fine = refl
 
 crate-rows : reportRows crateTicks crateValues crateLengths (unlimited (Ratio 2 1)) ≡ keptRow 5 3 (record { p = 2; q = 1; sample = 1 }) ∷ declinedRow Length ∷ declinedRow (Tick 1) ∷ keptRow 1 1 (record { p = 0; q = 1; sample = 0 }) ∷ []
-unfolding rowOf walkedRow listSample firstWorst worstSample traceRows first firstOf walkOf walkFrom stops errorFrom greater linkError farthest greatest criterionOf valid obeys hole allWithin allFrom within deviation gcd euclid
+unfolding rowOf walkedRow listSample firstWorst worstSample traceRows first firstOf walkOf walkFrom stops errorFrom greater linkError farthest greatest criterionOf valid obeys hole allWithin allFrom within above below deviation gcd euclid
 crate-rows = refl
 
 crate-totals : totalsOf (reportRows crateTicks crateValues crateLengths (unlimited (Ratio 2 1))) ≡ totalled 6 4 (over 2 1)
