@@ -105,7 +105,7 @@ fn of_noise(r: Noise) -> Meaning
 }
 
 // Whether a fraction is allowed as a ratio.
-fn is_allowed(r: Ratio) -> bool
+pub fn is_allowed(r: Ratio) -> bool
     ensures { λ a. ⌜ a ≡ allowedRatio (r .p) (r .q) ⌝ }
 {
     if r.q < 1 {
