@@ -74,8 +74,8 @@ sides-are-sides x h e = rw (held-is-held (x .up) (h .up), held-is-held (x .down)
 -- ---- a held tolerance as it is written is read
 
 module _ (x : Parts) (h : HeldParts x) where
-  operands : Operands (toleranceCommand x)
-  operands = by-test (agree x)
+  pub tolerance-operands : Operands (toleranceCommand x)
+  tolerance-operands = by-test (agree x)
       (λ e. subst Operands (sym (agree-command x e)) (omega (arith, h .up), omega (arith, h .up)))
       (λ e. subst Operands (sym (sides-command x e)) ((omega (arith, h .up), omega (arith, h .up)), (omega (arith, h .down), omega (arith, h .down))))
 
@@ -85,7 +85,7 @@ module _ (x : Parts) (h : HeldParts x) where
       (λ e. rw (sides-command x e, sides-are-sides x h e))
 
   pub header-written : (b ys : List ℕ) → b ≡ commandOnto (toleranceCommand x) ys → headerOf b ≡ sampleHeader (toleranceSize x) x (commandOf (drop (toleranceSize x) b))
-  header-written b ys e = ap (toleranceHeader b) (ap commandOf e ∙ command-read ys (toleranceCommand x) operands) ∙ header-command b
+  header-written b ys e = ap (toleranceHeader b) (ap commandOf e ∙ command-read ys (toleranceCommand x) tolerance-operands) ∙ header-command b
 
 -- ---- what was read
 

@@ -23,7 +23,7 @@ use Rattle.format.specs.declared.Command.the-variants.{First, Short, Lon
 use Rattle.format.specs.declared.Step.the-variants.{Sample, End as Ended, Fault}
 use Rattle.format.proofs.NumberLaws.{value-level}
 use Rattle.format.proofs.CommandLaws.{command-read, command-rest, command-length}
-use Rattle.format.proofs.HeaderLaws.{toleranceSize, start, header-written}
+use Rattle.format.proofs.HeaderLaws.{toleranceSize, tolerance-size, start, header-written}
 use Rattle.format.proofs.RuleLaws.{short-le, le-in-limits, Follows, first-sample, legal-follows}
 
 -- the cursor after a step of k bytes
@@ -127,9 +127,9 @@ module _ (x : Parts) (t : ℕ) (ts : List ℕ) (v : ℤ) (vs : List ℤ) (h : Le
       rw (header-written x (h .held) b ys refl, e₁, command-read xs (First t (level v)) (omega arith), s, value-level v (h .value-range 0))
 
 -- a record has at least its tolerance's bytes
-pub record-long : (x : Content) → toleranceSize (x .tolerance) ≤ length (encode x)
+pub record-long : (x : Content) → 9 ≤ length (encode x)
 unfolding encode
-record-long x = omega (arith, command-length (toleranceCommand (x .tolerance)) (samplesOnto (x .ticks) (x .values)))
+record-long x = omega (arith, command-length (toleranceCommand (x .tolerance)) (samplesOnto (x .ticks) (x .values)), tolerance-size (x .tolerance))
 
 -- every legal content is read as it was written
 pub parse-encode : (x : Content) → Legal x → parse (encode x) ≡ says x

@@ -10,7 +10,6 @@ use lib.IntN.{ℤ, pos}
 use lib.ListN.{length, getD}
 use lib.Signed.{mag}
 use Rattle.lists.proofs.SelectLaws.{select-length, select-at, select-all}
-use Rattle.ratio.specs.declared.Ratio.{Ratio}
 use Rattle.kept.proofs.KeptLaws.{kept-length, kept-inside}
 use Rattle.kept.proofs.SelectedLists.{kept-some}
 use Rattle.trace.specs.declared.Start.{Start}
@@ -20,7 +19,8 @@ use Rattle.trace.specs.Edge.{StartAt}
 use Rattle.trace.proofs.Ticks.{span-bound}
 use Rattle.trace.proofs.SelectedTrace.{selected-trace}
 use Rattle.trace.proofs.Level.{short}
-use Rattle.tolerance.specs.Meaning.{Held}
+use Rattle.tolerance.specs.declared.Parts.{Parts}
+use Rattle.tolerance.specs.Meaning.{HeldParts}
 use Rattle.format.specs.Format.{Legal}
 use Rattle.writer.specs.Writing.{Kept, keptTicks, keptValues, selected, SampleAt, SampleOk, StepBetween}
 use Rattle.writer.specs.declared.Sample.{Sample}
@@ -40,8 +40,8 @@ module _ {ts : List ℕ} {vs : List ℤ} {l : List ℕ} (kept : Kept ts vs l) wh
   pub kept-trace : Trace (keptTicks ts l) (keptValues vs l)
   kept-trace = selected-trace (kept .trace) (kept .list)
 
-  pub selected-legal : (r : Ratio) → Held r → ((k : ℕ) → tick ts k ≤ 4294967295) → ((k : ℕ) → mag (value (keptValues vs l) k) < 32768) → Legal (selected r ts vs l)
-  selected-legal r h a b = record {
+  pub selected-legal : (x : Parts) → HeldParts x → ((k : ℕ) → tick ts k ≤ 4294967295) → ((k : ℕ) → mag (value (keptValues vs l) k) < 32768) → Legal (selected x ts vs l)
+  selected-legal x h a b = record {
     held = h;
     trace = kept-trace;
     tick-range = select-all 0 ts (λ (t : ℕ). t ≤ 4294967295) (omega arith) a l;

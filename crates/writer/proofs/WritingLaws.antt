@@ -1,8 +1,8 @@
 -- Laws of the record in parts: its start, a step for each next sample, and the end; counted and written one after the other.
---   Counted     the bytes up to the kept sample at position i are counted
+--   Counted     the bytes of the steps up to the kept sample at position i are counted
 --   Putting     they are written, and the sample is at hand
 -- Assumes nothing.
-use mathlib.Core.Path.{_≡_, refl, sym, ap, _∙_, subst}
+use mathlib.Core.Path.{_≡_, refl, sym, ap, _∙_}
 use mathlib.Core.Bool.{Bool, true, false}
 use mathlib.Core.List.{List, [], _∷_, _++_, append-assoc}
 use Prim.Native.Nat.{ℕ, zero, suc, _+_, _-_, _*_, _≤_, _<_}
@@ -22,20 +22,21 @@ use Rattle.lists.specs.Part.{overwriteFrom}
 use Rattle.lists.proofs.OverwriteLaws.{overwrite-length}
 use Rattle.lists.proofs.PartLaws.{written-part, written-from, written-within}
 use Rattle.lists.proofs.SelectLaws.{select-length}
-use Rattle.ratio.specs.declared.Ratio.{Ratio}
 use Rattle.refusal.specs.declared.Refusal.the-variants.{Room}
 use Rattle.refusal.specs.declared.Checked.the-variants.{Refused as Declined}
+use Rattle.tolerance.specs.declared.Parts.{Parts}
 use Rattle.trace.specs.Trace.{tick, value}
 use Rattle.trace.specs.Level.{level}
 use Rattle.format.specs.declared.Command.{Command}
-use Rattle.format.specs.declared.Command.the-variants.{Tolerance, First, Short, Long, End}
+use Rattle.format.specs.declared.Command.the-variants.{First, Short, Long, End}
 use Rattle.format.specs.Command.{sizeOf, choose, commandOnto}
-use Rattle.format.specs.Format.{Content, Legal, short, stepTo, stepsOnto, samplesOnto, encode}
+use Rattle.format.specs.Format.{Content, Legal, short, toleranceCommand, stepTo, stepsOnto, samplesOnto, encode}
 use Rattle.format.proofs.CommandLaws.{command-append, command-length}
+use Rattle.format.proofs.HeaderLaws.{tolerance-size}
 use Rattle.format.proofs.ParseEncode.{parse-encode}
 use Rattle.writer.specs.declared.Sample.{Sample}
 use Rattle.writer.specs.declared.Move.{Move}
-use Rattle.writer.specs.Writing.{Kept, keptTicks, keptValues, selected, writeRow, WrittenAt, SampleAt, stepAt, MoveFrom, startOf, restOf, LengthOf}
+use Rattle.writer.specs.Writing.{Kept, keptTicks, keptValues, selected, writeRow, WrittenAt, SampleAt, stepAt, MoveFrom, startOf, startSize, restOf, RestLength, LengthOf, mostBytes}
 use Rattle.writer.proofs.SelectedLaws.{list-some, kept-trace}
 
 -- ---- a record's parts
@@ -52,30 +53,36 @@ module _ (ts : List ℕ) (vs : List ℤ) (same : length vs ≡ length ts) where
   unfolding restOf stepsOnto
   rest-end i h = rw (drop-of-length-le ts {i = suc i} (omega arith))
 
-encode-parts : (r : Ratio) (ts : List ℕ) (vs : List ℤ) → length vs ≡ length ts → 1 ≤ length ts
-    → encode (record { tolerance = r; ticks = ts; values = vs }) ≡ startOf r (record { tick = tick ts 0; level = level (value vs 0) }) ++ restOf ts vs 0
+encode-parts : (x : Parts) (ts : List ℕ) (vs : List ℤ) → length vs ≡ length ts → 1 ≤ length ts
+    → encode (record { tolerance = x; ticks = ts; values = vs }) ≡ startOf x (record { tick = tick ts 0; level = level (value vs 0) }) ++ restOf ts vs 0
 unfolding encode samplesOnto restOf
-encode-parts r [] vs e h = absurd (not-suc-le-zero h)
-encode-parts r (t ∷ ts) [] e h = absurd (omega arith)
-encode-parts r (t ∷ ts) (v ∷ vs) e h =
-    command-append (Tolerance r) _ ∙ ap (λ (x : List ℕ). commandOnto (Tolerance r) [] ++ x) (command-append (First t (level v)) _)
-    ∙ sym (append-assoc (commandOnto (Tolerance r) []) (commandOnto (First t (level v)) []) _)
-    ∙ ap (λ (x : List ℕ). x ++ restOf (t ∷ ts) (v ∷ vs) 0) (sym (command-append (Tolerance r) (commandOnto (First t (level v)) [])))
+encode-parts x [] vs e h = absurd (not-suc-le-zero h)
+encode-parts x (t ∷ ts) [] e h = absurd (omega arith)
+encode-parts x (t ∷ ts) (v ∷ vs) e h =
+    let m : Command = toleranceCommand x in
+    command-append m _ ∙ ap (λ (y : List ℕ). commandOnto m [] ++ y) (command-append (First t (level v)) _)
+    ∙ sym (append-assoc (commandOnto m []) (commandOnto (First t (level v)) []) _)
+    ∙ ap (λ (y : List ℕ). y ++ restOf (t ∷ ts) (v ∷ vs) 0) (sym (command-append m (commandOnto (First t (level v)) [])))
 
-pub start-length : (r : Ratio) (s : Sample) → length (startOf r s) ≡ 16
-start-length r s = command-length (Tolerance r) _ ∙ omega (arith, command-length (First (s .tick) (s .level)) [])
+pub start-length : (x : Parts) (s : Sample) → length (startOf x s) ≡ startSize x
+start-length x s = command-length (toleranceCommand x) _ ∙ omega (arith, command-length (First (s .tick) (s .level)) [])
 
 module _ {ts : List ℕ} {vs : List ℤ} {l : List ℕ} (kept : Kept ts vs l) where
   -- the record is its start, with the first kept sample, and the rest
-  pub record-parts : (r : Ratio) {s : Sample} → SampleAt ts vs l 0 s → encode (selected r ts vs l) ≡ startOf r s ++ restOf (keptTicks ts l) (keptValues vs l) 0
-  record-parts r p =
+  pub record-parts : (x : Parts) {s : Sample} → SampleAt ts vs l 0 s → encode (selected x ts vs l) ≡ startOf x s ++ restOf (keptTicks ts l) (keptValues vs l) 0
+  record-parts x p =
       let t = kept-trace kept in
-      rw (p .tick-is, p .level-is .is) (encode-parts r (keptTicks ts l) (keptValues vs l) (t .same) (t .some))
+      rw (p .tick-is, p .level-is .is) (encode-parts x (keptTicks ts l) (keptValues vs l) (t .same) (t .some))
 
   -- so is its length
-  pub record-length : (r : Ratio) {s : Sample} → SampleAt ts vs l 0 s → length (encode (selected r ts vs l)) ≡ 16 + length (restOf (keptTicks ts l) (keptValues vs l) 0)
-  record-length r {s} p =
-      ap length (record-parts r p) ∙ length-append (startOf r s) (restOf (keptTicks ts l) (keptValues vs l) 0) ∙ omega (arith, start-length r s)
+  pub record-length : (x : Parts) → length (encode (selected x ts vs l)) ≡ startSize x + length (restOf (keptTicks ts l) (keptValues vs l) 0)
+  record-length x =
+      let t = kept-trace kept in
+      let s : Sample = record { tick = tick (keptTicks ts l) 0; level = level (value (keptValues vs l) 0) } in
+      ap length (encode-parts x (keptTicks ts l) (keptValues vs l) (t .same) (t .some)) ∙ length-append (startOf x s) (restOf (keptTicks ts l) (keptValues vs l) 0) ∙ omega (arith, start-length x s)
+
+  pub whole-length : {n m k : ℕ} (x : Parts) → n ≡ startSize x → RestLength ts vs l m → k ≡ n + m → LengthOf x ts vs l k
+  whole-length x e r f = record { is = omega (arith, e, f, r .is, record-length x); range = r .range }
 
   step-bytes : (i : ℕ) → i + 1 < length l → {m : Command} → m ≡ stepAt (keptTicks ts l) (keptValues vs l) i
       → restOf (keptTicks ts l) (keptValues vs l) i ≡ commandOnto m [] ++ restOf (keptTicks ts l) (keptValues vs l) (i + 1)
@@ -107,63 +114,50 @@ module _ {ts : List ℕ} {vs : List ℤ} {l : List ℕ} (kept : Kept ts vs l) wh
   rest-most zero i e = omega (arith, end-length kept i (omega arith))
   rest-most (suc n) i e = omega (arith, step-length kept i (omega arith) refl, step-size (tick (keptTicks ts l) i) (level (value (keptValues vs l) i)) (tick (keptTicks ts l) (i + 1)) (level (value (keptValues vs l) (i + 1))), rest-most n (i + 1) (omega arith))
 
-  pub record-most : (r : Ratio) → length (encode (selected r ts vs l)) ≤ 13 + 6 * length l
-  record-most r =
-      let t = kept-trace kept in
-      let s : Sample = record { tick = tick (keptTicks ts l) 0; level = level (value (keptValues vs l) 0) } in
-      let e : length (encode (selected r ts vs l)) ≡ length (startOf r s) + length (restOf (keptTicks ts l) (keptValues vs l) 0) =
-      ap length (encode-parts r (keptTicks ts l) (keptValues vs l) (t .same) (t .some)) ∙ length-append (startOf r s) (restOf (keptTicks ts l) (keptValues vs l) 0) in
-      omega (arith, e, start-length r s, rest-most (length l - 1) 0 (omega (arith, list-some kept)), list-some kept)
+  pub record-most : (x : Parts) → length (encode (selected x ts vs l)) ≤ mostBytes x (length l)
+  record-most x = omega (arith, record-length kept x, rest-most (length l - 1) 0 (omega (arith, list-some kept)), list-some kept)
+
+-- with parts that differ too
+pub most-bytes : (x : Parts) (n : ℕ) → mostBytes x n ≤ 21 + 6 * n
+most-bytes x n = omega (arith, tolerance-size x)
 
 -- ---- counted
 
 pub record Counted (ts : List ℕ) (vs : List ℤ) (l : List ℕ) (s : Sample) (total i : ℕ) : Type 0 where
   pub within : i < length l
   pub sample : SampleAt ts vs l i s
-  pub small : total ≤ 16 + 9 * i
-  pub is : (r : Ratio) → length (encode (selected r ts vs l)) ≡ total + length (restOf (keptTicks ts l) (keptValues vs l) i)
+  pub small : total ≤ 17 * i
+  pub is : length (restOf (keptTicks ts l) (keptValues vs l) 0) ≡ total + length (restOf (keptTicks ts l) (keptValues vs l) i)
   pub range : (k : ℕ) → k < i + 1 → mag (value (keptValues vs l) k) < 32768
 
 module _ {ts : List ℕ} {vs : List ℤ} {l : List ℕ} (kept : Kept ts vs l) where
-  pub count-begins : {s : Sample} → SampleAt ts vs l 0 s → Counted ts vs l s 16 0
+  pub count-begins : {s : Sample} → SampleAt ts vs l 0 s → Counted ts vs l s 0 0
   count-begins p = record {
     within = list-some kept;
     sample = p;
     small = omega arith;
-    is = λ r. record-length kept r p;
+    is = omega arith;
     range = below-more _ _ (λ k h. absurd (omega arith)) (p .level-is .range);
   }
 
-  pub counts : {s : Sample} {total i : ℕ} → Counted ts vs l s total i → i + 1 < length l → {m : Move} → MoveFrom ts vs l i m → {k : ℕ} → k ≡ sizeOf (m .step) → k ≤ 9
+  pub counts : {s : Sample} {total i : ℕ} → Counted ts vs l s total i → i + 1 < length l → {m : Move} → MoveFrom ts vs l i m → {k : ℕ} → k ≡ sizeOf (m .step) → k ≤ 17
       → Counted ts vs l (m .to) (total + k) (i + 1)
   counts {i = i} c h m e small = record {
     within = h;
     sample = m .to-is;
     small = omega (arith, c .small);
-    is = λ r. c .is r ∙ omega (arith, step-length kept i h (m .step-is));
+    is = c .is ∙ omega (arith, step-length kept i h (m .step-is));
     range = below-more _ _ (c .range) (m .to-is .level-is .range);
   }
 
-  -- counted from the first step on
-  pub counts-at : {s : Sample} (at : ℕ) {i : ℕ} → Counted ts vs l s (16 + at) i → i + 1 < length l → {m : Move} → MoveFrom ts vs l i m → {k : ℕ} → k ≡ sizeOf (m .step) → k ≤ 9
-      → Counted ts vs l (m .to) (16 + (at + k)) (i + 1)
-  counts-at at {i = i} c h {m = mv} m {k} e small =
-      let a : 16 + at + k ≡ 16 + (at + k) = omega arith in
-      subst (λ (t : ℕ). Counted ts vs l (mv .to) t (i + 1)) a (counts c h m e small)
-
-  pub count-ends : {s : Sample} {total i : ℕ} → Counted ts vs l s total i → length l ≤ i + 1 → LengthOf ts vs l (total + 3)
+  pub count-ends : {s : Sample} {total i : ℕ} → Counted ts vs l s total i → length l ≤ i + 1 → RestLength ts vs l (total + 3)
   count-ends {i = i} c h = record {
-    is = λ r. omega (arith, c .is r, end-length kept i h);
+    is = omega (arith, c .is, end-length kept i h);
     range = λ k. elim (decLe (suc k) (i + 1)) [
       | yes q ↦ c .range k q
       | no q ↦ rw (List·getD-eq-default (keptValues vs l) (pos 0) {n = k} (omega (arith, select-length (pos 0) vs l))) (omega arith)
     ];
   }
-
-  pub count-ends-at : {s : Sample} (at : ℕ) {i : ℕ} → Counted ts vs l s (16 + at) i → length l ≤ i + 1 → LengthOf ts vs l (16 + (at + 3))
-  count-ends-at at c h =
-      let a : 16 + at + 3 ≡ 16 + (at + 3) = omega arith in
-      subst (LengthOf ts vs l) a (count-ends c h)
 
 -- ---- written
 

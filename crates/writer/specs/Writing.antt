@@ -1,4 +1,4 @@
--- Writing a record (document 01, "The record", and "When the engine declines", row 10): the complete outcome.
+-- Writing a record (document 01, "The record", and "When the engine declines", row 10; document 02, "Above and below"): the complete outcome.
 --   Kept                       a trace and a kept list of it
 --   selected                   what is written: a tolerance and the samples that a list keeps
 --   writeRow                   row 10: too few bytes from the place on
@@ -7,29 +7,30 @@
 -- For the kernels:
 --   keptTicks, keptValues, SampleAt, SampleOk   the kept samples; one of them; its ranges
 --   StepBetween, StepOk, stepAt, MoveFrom       the steps between them
---   startOf, restOf                             the record up to its first sample; from a sample on
---   LengthOf                                    the record's length
+--   startOf, startSize, restOf                  the record up to its first sample; its bytes; the record from a sample on
+--   RestLength, LengthOf                        the bytes after the first sample; the record's length
+--   mostBytes                                   the most bytes of a record of so many samples
 -- Laws are in SelectedLaws and WritingLaws. Assumes nothing.
 use mathlib.Core.Path.{_≡_}
 use mathlib.Core.List.{List, []}
-use Prim.Native.Nat.{ℕ, suc, _+_, _-_, _≤_, _<_}
+use Prim.Native.Nat.{ℕ, suc, _+_, _-_, _*_, _≤_, _<_}
 use lib.IntN.{ℤ, pos}
 use lib.ListN.{length, take, drop}
 use lib.Signed.{mag}
 use Rattle.lists.specs.Part.{overwriteFrom}
 use Rattle.lists.specs.Select.{select}
-use Rattle.ratio.specs.declared.Ratio.{Ratio}
 use Rattle.refusal.specs.declared.Refusal.{Refusal}
 use Rattle.refusal.specs.declared.Checked.{Checked}
 use Rattle.refusal.specs.declared.Checked.the-variants.{Fine, Refused as Declined}
 use Rattle.refusal.specs.Table.{roomRow}
 use Rattle.kept.specs.Kept.{KeptList}
+use Rattle.tolerance.specs.declared.Parts.{Parts}
 use Rattle.trace.specs.Trace.{tick, value, Trace}
 use Rattle.trace.specs.Level.{level, LevelOf}
 use Rattle.format.specs.declared.Command.{Command}
-use Rattle.format.specs.declared.Command.the-variants.{Tolerance, First, End}
-use Rattle.format.specs.Command.{commandOnto, Operands}
-use Rattle.format.specs.Format.{Content, Accepted, stepTo, stepsOnto, encode}
+use Rattle.format.specs.declared.Command.the-variants.{First, End}
+use Rattle.format.specs.Command.{sizeOf, commandOnto, Operands}
+use Rattle.format.specs.Format.{Content, Accepted, toleranceCommand, stepTo, stepsOnto, encode}
 use Rattle.writer.specs.declared.Answer.{Answer}
 use Rattle.writer.specs.declared.Answer.the-variants.{Written, Refused}
 use Rattle.writer.specs.declared.Sample.{Sample}
@@ -45,8 +46,8 @@ keptTicks ts l = select 0 ts l
 abbrev pub keptValues : List ℤ → List ℕ → List ℤ
 keptValues vs l = select (pos 0) vs l
 
-abbrev pub selected : Ratio → List ℕ → List ℤ → List ℕ → Content
-selected r ts vs l = record { tolerance = r; ticks = keptTicks ts l; values = keptValues vs l }
+abbrev pub selected : Parts → List ℕ → List ℤ → List ℕ → Content
+selected x ts vs l = record { tolerance = x; ticks = keptTicks ts l; values = keptValues vs l }
 
 -- ---- the outcome
 
@@ -102,14 +103,26 @@ pub record MoveFrom (ts : List ℕ) (vs : List ℤ) (l : List ℕ) (i : ℕ) (m 
 
 -- ---- the record in parts
 
-abbrev pub startOf : Ratio → Sample → List ℕ
-startOf r s = commandOnto (Tolerance r) (commandOnto (First (s .tick) (s .level)) [])
+abbrev pub startOf : Parts → Sample → List ℕ
+startOf x s = commandOnto (toleranceCommand x) (commandOnto (First (s .tick) (s .level)) [])
+
+abbrev pub startSize : Parts → ℕ
+startSize x = sizeOf (toleranceCommand x) + 7
 
 -- the steps after sample i, and the end
 unfoldable pub restOf : List ℕ → List ℤ → ℕ → List ℕ
 restOf ts vs i = stepsOnto (tick ts i) (level (value vs i)) (drop (suc i) ts) (drop (suc i) vs) (commandOnto (End (length ts)) [])
 
--- n is the record's length, whatever the tolerance; and the kept values are of 16 bits
-pub record LengthOf (ts : List ℕ) (vs : List ℤ) (l : List ℕ) (n : ℕ) : Type 0 where
-  pub is : (r : Ratio) → n ≡ length (encode (selected r ts vs l))
+-- n bytes follow the first sample, and the kept values are of 16 bits
+pub record RestLength (ts : List ℕ) (vs : List ℤ) (l : List ℕ) (n : ℕ) : Type 0 where
+  pub is : n ≡ length (restOf (keptTicks ts l) (keptValues vs l) 0)
   pub range : (k : ℕ) → mag (value (keptValues vs l) k) < 32768
+
+-- n is the record's length
+pub record LengthOf (x : Parts) (ts : List ℕ) (vs : List ℤ) (l : List ℕ) (n : ℕ) : Type 0 where
+  pub is : n ≡ length (encode (selected x ts vs l))
+  pub range : (k : ℕ) → mag (value (keptValues vs l) k) < 32768
+
+-- a start, and at most 6 bytes for each step and 3 for the end
+abbrev pub mostBytes : Parts → ℕ → ℕ
+mostBytes x n = startSize x + 6 * n - 3

@@ -5,10 +5,13 @@ ghost use Prim.Native.Nat.{_+_, _≤_};
 ghost use lib.ListN.{length};
 ghost use Rattle.lists.specs.Overwrite.{overwrite};
 ghost use Rattle.format.specs.Number.{bytesOnto};
+ghost use Rattle.format.specs.declared.Command.the-variants.{Sides};
 ghost use Rattle.format.specs.Command.{sizeOf, commandOnto, Operands};
+ghost use Rattle.format.specs.Format.{toleranceCommand};
 use format::Command;
 use format::flip8;
 use format::flip16;
+use tolerance::Parts;
 
 // The k bytes of n go to the start of part.
 fn put_number(part: &mut [u8], k: usize, n: u64)
@@ -35,6 +38,18 @@ fn put_operands(part: &mut [u8], kind: u8, i: usize, a: u64, j: usize, b: u64)
     put_number(&mut part[at..], j, b);
 }
 
+// The command of parts that differ goes to the start of part.
+fn put_sides(part: &mut [u8], x: Parts)
+    requires { ⌜ 17 ≤ length (now part) ⌝ }
+    ensures { λ _. ⌜ now (part .exit) ≡ overwrite (commandOnto (Sides x) []) (now (part .entry)) ⌝ }
+{
+    let up = x.up;
+    let down = x.down;
+    put_operands(part, 0x42, 5, up.p, 3, up.q);
+    put_number(&mut part[9..], 5, down.p);
+    put_number(&mut part[14..], 3, down.q);
+}
+
 // A command goes to the start of part.
 pub fn put_command(part: &mut [u8], m: Command)
     requires { ⌜ (sizeOf m ≤ length (now part)) × Operands m ⌝ }
@@ -42,6 +57,7 @@ pub fn put_command(part: &mut [u8], m: Command)
 {
     match m {
         Command::Tolerance(r) => put_operands(part, 0x54, 5, r.p, 3, r.q),
+        Command::Sides(x) => put_sides(part, x),
         Command::First(tick, level) => put_operands(part, 0x41, 4, tick, 2, flip16(level)),
         Command::Short(advance, change) => put_operands(part, 0x53, 1, advance, 1, flip8(change)),
         Command::Long(advance, level) => put_operands(part, 0x4C, 3, advance, 2, flip16(level)),
@@ -52,14 +68,26 @@ pub fn put_command(part: &mut [u8], m: Command)
 
 // The bytes of a command.
 pub fn size(m: Command) -> usize
-    ensures { λ r. ⌜ (r ≡ sizeOf m) × (r ≤ 9) ⌝ }
+    ensures { λ r. ⌜ (r ≡ sizeOf m) × (r ≤ 17) ⌝ }
 {
     match m {
         Command::Tolerance(_) => 9,
+        Command::Sides(_) => 17,
         Command::First(_, _) => 7,
         Command::Short(_, _) => 3,
         Command::Long(_, _) => 6,
         Command::End(_) => 3,
         Command::Invalid => 0,
     }
+}
+
+// The command that says a tolerance.
+pub fn tolerance_command(x: Parts) -> Command
+    ensures { λ m. ⌜ m ≡ toleranceCommand x ⌝ }
+{
+    if tolerance::agree(x) {
+        let both = x.up;
+        return Command::Tolerance(both);
+    }
+    Command::Sides(x)
 }

@@ -1,5 +1,5 @@
 -- `writer::put_record` meets its contract: the rest is written over the part after the start. Assumes nothing.
-use mathlib.Core.Path.{_≡_, sym, ap, _∙_}
+use mathlib.Core.Path.{_≡_, refl, sym, ap, _∙_}
 use mathlib.Core.List.{List, _++_}
 use Prim.Native.Nat.{ℕ, _+_, _≤_}
 use native.Mathlib.Omega.{arith}
@@ -7,9 +7,9 @@ use lib.ListN.{length}
 use Rattle.lists.specs.Overwrite.{overwrite}
 use Rattle.lists.proofs.PartLaws.{part-length, written-part}
 use Rattle.format.specs.Format.{encode}
-use Rattle.writer.specs.Writing.{keptTicks, keptValues, selected, startOf, restOf}
+use Rattle.writer.specs.Writing.{keptTicks, keptValues, selected, startOf, startSize, restOf}
 use Rattle.writer.proofs.SelectedLaws.{list-some, sample-ok}
-use Rattle.writer.proofs.WritingLaws.{start-length, record-parts, record-length}
+use Rattle.writer.proofs.WritingLaws.{start-length, record-parts, record-length, whole-length}
 use borrow.Author.Needs.{needs}
 use Rattle.writer.proofs.put_record.Statement.{statement}
 use Rattle.writer.proofs.put_record.Tie as tie
@@ -25,8 +25,13 @@ module _ (c : tie.After-sample-at) where
   parts : encode (selected (s .args .held) (s .args .ticks .now) (s .args .values .now) (s .args .list .now)) ≡ startOf (s .args .held) (c .sample-at .result) ++ rest
   parts = record-parts (s .pre .0) (s .args .held) (c .sample-at .ensures)
 
-  room : 16 + length rest ≤ length (s .args .part .now)
-  room = omega (arith, record-length (s .pre .0) (s .args .held) (c .sample-at .ensures), s .pre .2)
+  room : startSize (s .args .held) + length rest ≤ length (s .args .part .now)
+  room = omega (arith, record-length (s .pre .0) (s .args .held), s .pre .2)
+
+-- the start is written
+module _ (c : tie.After-put-start) where
+  at-room : c .put-start .result + length (rest (c .before .before)) ≤ length (c .put-start .last .0)
+  at-room = omega (arith, room (c .before .before), c .put-start .kept .0, c .put-start .ensures .1)
 
 sample-at-requires : tie.Need-sample-at-requires
 sample-at-requires c κs = let k = c .before .before .before .pre .0 in (k, list-some k)
@@ -37,10 +42,10 @@ put-start-requires c κs =
     (omega (arith, room a), s a .pre .1, sample-ok (s a .pre .0) (λ k. omega (arith, a .before .before .shared-slice-known .given k)) (a .sample-at .ensures))
 
 sub-put-steps : tie.Need-sub-put-steps
-sub-put-steps c = let p = c .before .before in omega (arith, room (p .before .before), p .put-start .kept .0)
+sub-put-steps c = omega (arith, at-room (c .before .before))
 
 part-put-steps-start : tie.Need-part-put-steps-start
-part-put-steps-start c = let p = c .before .before in omega (arith, room (p .before .before), p .put-start .kept .0)
+part-put-steps-start c = omega (arith, at-room (c .before .before))
 
 part-put-steps-end : tie.Need-part-put-steps-end
 part-put-steps-end c = search needs
@@ -49,13 +54,13 @@ put-steps-requires : tie.Need-put-steps-requires
 put-steps-requires c κs =
     let p = c .before .before .before in
     let a = p .before .before in
-    (s a .pre .0, a .sample-at .ensures, rw (part-length (p .put-start .last .0) 16) (omega (arith, room a, p .put-start .kept .0)))
+    (s a .pre .0, a .sample-at .ensures, rw (part-length (p .put-start .last .0) (p .put-start .result)) (omega (arith, at-room p)))
 
 add-result : tie.Need-add-result
 add-result c =
     let q = c .before .before in
-    let s = q .before .before .before .before .before .before .before .before .before .before in
-    omega (arith, q .put-steps .ensures .1 .is (s .args .held), s .pre .2, s .good .0 .0)
+    let p = q .before .before .before .before in
+    omega (arith, q .put-steps .ensures .1 .is, at-room p, p .put-start .kept .0, s (p .before .before) .good .0 .0)
 
 same-length : tie.Need-same-length
 same-length c = search needs
@@ -66,9 +71,9 @@ returns c =
     let p = q .before .before .before .before in
     let a = p .before .before in
     let o = s a .args .part .now in (
-      written-part (p .put-start .last .0) o (startOf (s a .args .held) (a .sample-at .result)) (rest a) (q .put-steps .last .0) 16 (p .put-start .ensures) (start-length (s a .args .held) (a .sample-at .result)) (q .put-steps .ensures .0)
+      written-part (p .put-start .last .0) o (startOf (s a .args .held) (a .sample-at .result)) (rest a) (q .put-steps .last .0) (p .put-start .result) (p .put-start .ensures .0) (start-length (s a .args .held) (a .sample-at .result) ∙ sym (p .put-start .ensures .1)) (q .put-steps .ensures .0)
           ∙ ap (λ (x : List ℕ). overwrite x o) (sym (parts a)),
-      q .put-steps .ensures .1,
+      whole-length (s a .pre .0) (s a .args .held) (p .put-start .ensures .1) (q .put-steps .ensures .1) refl,
     )
 
 pub put-record-spec : {M : Type 1} → statement M

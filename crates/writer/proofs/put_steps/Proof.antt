@@ -12,12 +12,12 @@ use Rattle.lists.proofs.PartLaws.{part-length}
 use Rattle.format.specs.Command.{sizeOf}
 use Rattle.writer.specs.Writing.{keptTicks, keptValues, restOf}
 use Rattle.writer.proofs.SelectedLaws.{list-few}
-use Rattle.writer.proofs.WritingLaws.{Counted, count-begins, counts-at, count-ends-at, Putting, put-begins, same-long, step-room, puts, end-room, put-ends}
+use Rattle.writer.proofs.WritingLaws.{Counted, count-begins, counts, count-ends, Putting, put-begins, same-long, step-room, puts, end-room, put-ends}
 use Rattle.writer.proofs.put_steps.Statement.{statement}
 use Rattle.writer.proofs.put_steps.Tie as tie
 
 abbrev Inv-loop : tie.InvT-loop
-Inv-loop part₀ ticks values list n s₀ at₀ i₀ part s at i = (w : List ℕ) × Putting ticks values list part₀ part s at i w × Counted ticks values list s (16 + at) i
+Inv-loop part₀ ticks values list n s₀ at₀ i₀ part s at i = (w : List ℕ) × Putting ticks values list part₀ part s at i w × Counted ticks values list s at i
 
 abbrev μ-loop : tie.MeasureT-loop
 μ-loop part₀ ticks values list n s₀ at₀ i₀ part s at i = n - i
@@ -91,7 +91,7 @@ loop-again c =
     let l = m .before .before in (
       _,
       puts (start l .pre .0) (l .loop .inv .1) (m .before .loop-test .taken) (m .move-to .ensures) (c .before .size .ensures .0) (p .put-command .ensures),
-      counts-at (start l .pre .0) _ (l .loop .inv .2) (m .before .loop-test .taken) (m .move-to .ensures) (c .before .size .ensures .0) (c .before .size .ensures .1),
+      counts (start l .pre .0) (l .loop .inv .2) (m .before .loop-test .taken) (m .move-to .ensures) (c .before .size .ensures .0) (c .before .size .ensures .1),
     )
 
 sub-put-command-2 : tie.Need-sub-put-command-2 Inv-loop μ-loop
@@ -116,7 +116,7 @@ same-length : tie.Need-same-length Inv-loop μ-loop
 same-length c = ap length (ended c) ∙ overwrite-length (rest c) (start (l c) .args .part .now) (start (l c) .pre .2)
 
 returns : tie.Need-returns Inv-loop μ-loop
-returns c = (ended c, count-ends-at (start (l c) .pre .0) _ (l c .loop .inv .2) (c .before .before .before .before .loop-test .left))
+returns c = (ended c, count-ends (start (l c) .pre .0) (l c .loop .inv .2) (c .before .before .before .before .loop-test .left))
 
 pub put-steps-spec : {M : Type 1} → statement M
 put-steps-spec =

@@ -22,7 +22,7 @@ module _ (c : tie.After-record-length) where
   x = selected (s .args .held) (s .args .ticks .now) (s .args .values .now) (s .args .list .now)
 
   long : c .record-length .result ≡ length (encode x)
-  long = c .record-length .ensures .is (s .args .held)
+  long = c .record-length .ensures .is
 
   legal : Legal x
   legal = selected-legal (s .pre .0) (s .args .held) (s .pre .1) (λ k. omega (arith, c .before .before .before .shared-slice-known .given k)) (c .record-length .ensures .range)
