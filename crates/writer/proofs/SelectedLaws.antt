@@ -3,7 +3,6 @@
 use mathlib.Core.Path.{sym, _∙_}
 use mathlib.Core.List.{List}
 use Prim.Native.Nat.{ℕ, _+_, _-_, _≤_, _<_}
-use native.Mathlib.Nat.{one-mul}
 use native.Mathlib.Numerals.{add-one}
 use native.Mathlib.Omega.{arith}
 use lib.IntN.{ℤ, pos}
@@ -49,10 +48,10 @@ module _ {ts : List ℕ} {vs : List ℤ} {l : List ℕ} (kept : Kept ts vs l) wh
   }
 
   -- the kept sample at position i, from the sample of the trace
-  pub sample-is : (i : ℕ) → i < length l → {s : Start} → StartAt ts vs 1 (getD l i 0) s → SampleAt ts vs l i (record { tick = s .tick; level = s .base })
+  pub sample-is : (i : ℕ) → i < length l → {s : Start} → StartAt ts vs (getD l i 0) s → SampleAt ts vs l i (record { tick = s .tick; level = s .level })
   sample-is i h {s} a = record {
     tick-is = a .tick ∙ sym (select-at 0 ts l i h);
-    level-is = rw (select-at (pos 0) vs l i h) (record { is = a .base ∙ one-mul (level (value vs (getD l i 0))); range = a .range });
+    level-is = rw (select-at (pos 0) vs l i h) (record { is = a .level-is; range = a .range });
   }
 
   module _ {i : ℕ} {a b : Sample} (h : i + 1 < length l) (p : SampleAt ts vs l i a) (q : SampleAt ts vs l (i + 1) b) where

@@ -18,10 +18,10 @@ pub fn sample_at(ticks: &[u32], values: &[i16], list: &[u16], i: usize) -> Sampl
     requires { ⌜ Kept (now ticks) (now values) (now list) × (i < length (now list)) ⌝ }
     ensures { λ s. ⌜ SampleAt (now (ticks .entry)) (now (values .entry)) (now (list .entry)) i s ⌝ }
 {
-    let s = trace::edges::start_at(ticks, values, wide(list[i]), 1);
+    let s = trace::edges::start_at(ticks, values, wide(list[i]));
     Sample {
         tick: s.tick,
-        level: s.base,
+        level: s.level,
     }
 }
 

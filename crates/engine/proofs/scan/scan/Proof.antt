@@ -24,7 +24,7 @@ ready : (c : tie.After-enum-told) → let a = c .before .before .before .before 
 ready c = c .before .before .prepare .ensures .ready (rows c)
 
 scan-requires : tie.Need-scan-requires
-scan-requires c κs = scan-given _ (ready c)
+scan-requires c κs = scan-given _ (ready (c .before .before .before))
 
 enum-known-checked : tie.Need-enum-known-checked
 enum-known-checked c = search needs
@@ -33,7 +33,10 @@ same-length : tie.Need-same-length
 same-length c = search needs
 
 returns : tie.Need-returns
-returns c = ?
+returns c =
+    let n = c .before .before .before in
+    let k = n .before .before .before .before in
+    scan-kept _ (ready k) (rows k) (n .scan .ensures)
 
 returns-2 : tie.Need-returns-2
 returns-2 c = (sym (c .before .before .before .prepare .ensures .is) ∙ c .before .checked .given .1, zeros 16, refl)

@@ -25,7 +25,7 @@ returns c =
     (link-declines (s .pre) (s .args .buffer .now) (s .args .place) (c .before .first-invalid .ensures) (omega (arith, c .if1 .taken)), refl)
 
 write-requires : tie.Need-write-requires
-write-requires c κs = kept-at (c .before .before .before .before .before .before .pre)
+write-requires c κs = kept-at (c .before .before .before .before .before .before .before .before .pre)
 
 enum-known-a : tie.Need-enum-known-a
 enum-known-a c = search needs
@@ -39,7 +39,7 @@ same-length c = search needs
 returns-2 : tie.Need-returns-2
 returns-2 c =
     let w = c .before .before .before .before .before in
-    let e = w .before .before in
+    let e = w .before .before .before .before in
     let s = e .before .before .before .before .before in
     recorded (s .pre) (s .args .buffer .now) (s .args .place) (e .before .first-invalid .ensures) (omega (arith, e .if1 .left))
     (subst (λ (y : W.Answer). Writing.ContentWritten (selected (partsOf (s .args .c)) (s .args .ticks .now) (s .args .values .now) (s .args .list .now)) (s .args .buffer .now) (s .args .place) y (w .write .last .1 .1 .1 .1 .0))
@@ -51,7 +51,7 @@ same-length-2 c = search needs
 returns-3 : tie.Need-returns-3
 returns-3 c =
     let w = c .before .before .before .before .before in
-    let e = w .before .before in
+    let e = w .before .before .before .before in
     let s = e .before .before .before .before .before in
     declined (s .pre) (s .args .buffer .now) (s .args .place) (e .before .first-invalid .ensures) (omega (arith, e .if1 .left))
     (subst (λ (y : W.Answer). Writing.ContentWritten (selected (partsOf (s .args .c)) (s .args .ticks .now) (s .args .values .now) (s .args .list .now)) (s .args .buffer .now) (s .args .place) y (w .write .last .1 .1 .1 .1 .0))
