@@ -1410,9 +1410,9 @@ static void least_errors(void) {
 }
 
 /* Two runs of samples, 8 ticks apart. */
-static const uint32_t parts[] = {0, 1, 2, 10, 11, 12};
-static const int16_t parts_values[] = {0, 0, 0, 0, 0, 0};
-static const uint16_t parts_ends[] = {0, 5}, parts_sides[] = {0, 2, 3, 5};
+static const uint32_t holed[] = {0, 1, 2, 10, 11, 12};
+static const int16_t holed_values[] = {0, 0, 0, 0, 0, 0};
+static const uint16_t holed_ends[] = {0, 5}, holed_sides[] = {0, 2, 3, 5};
 
 static kovrelna_limits under(uint32_t gap) { return within_gap(0, gap); }
 
@@ -1447,7 +1447,7 @@ static void gap_limits(void) {
   const int16_t zigzags[] = {0, 3, 0, 3, 0, 0, 3, 0, 3, 0};
   const uint16_t twice_sides[] = {0, 4, 5, 9}, twice_late[] = {0, 3, 4, 5, 8, 9},
                  twice_all[] = {0, 1, 2, 3, 4, 5, 6, 7, 8, 9};
-  /* The records of parts_sides and parts_ends. */
+  /* The records of holed_sides and holed_ends. */
   const uint8_t sides_record[] = {0x54, 0, 0, 0, 0, 0, 0, 0, 1, 0x41, 0, 0, 0, 0, 0, 0, 0x53, 2, 0,
                                   0x53, 8, 0, 0x53, 2, 0, 0x45, 0, 4};
   const uint8_t ends_record[] = {0x54, 0, 0, 0, 0, 0, 0, 0, 1, 0x41, 0, 0, 0, 0, 0, 0, 0x53, 12, 0,
@@ -1467,15 +1467,15 @@ static void gap_limits(void) {
   size_t k, hole;
 
   for (k = 6; k <= 8; k++) {
-    REDUCE(WALK, parts, parts_values, under(7), k, 0, parts_sides);
-    REDUCE(GALLOP, parts, parts_values, under(7), k, 7, parts_sides);
-    REDUCE(MINIMUM, parts, parts_values, under(7), k, 0, parts_sides);
-    REDUCE(WALK, parts, parts_values, under(8), k, 0, parts_ends);
-    REDUCE(GALLOP, parts, parts_values, under(8), k, 5, parts_ends);
-    REDUCE(MINIMUM, parts, parts_values, under(8), k, 0, parts_ends);
-    CLOSEST(parts, parts_values, 7, 4, k, 0, 1, parts_sides);
-    CLOSEST(parts, parts_values, 7, 4096, k, 0, 1, parts_sides);
-    CLOSEST(parts, parts_values, 8, 2, k, 0, 1, parts_ends);
+    REDUCE(WALK, holed, holed_values, under(7), k, 0, holed_sides);
+    REDUCE(GALLOP, holed, holed_values, under(7), k, 7, holed_sides);
+    REDUCE(MINIMUM, holed, holed_values, under(7), k, 0, holed_sides);
+    REDUCE(WALK, holed, holed_values, under(8), k, 0, holed_ends);
+    REDUCE(GALLOP, holed, holed_values, under(8), k, 5, holed_ends);
+    REDUCE(MINIMUM, holed, holed_values, under(8), k, 0, holed_ends);
+    CLOSEST(holed, holed_values, 7, 4, k, 0, 1, holed_sides);
+    CLOSEST(holed, holed_values, 7, 4096, k, 0, 1, holed_sides);
+    CLOSEST(holed, holed_values, 8, 2, k, 0, 1, holed_ends);
   }
   KEEPS(single, 7, single_sides);
   KEEPS(single, 8, single_ends);
@@ -1488,8 +1488,8 @@ static void gap_limits(void) {
   KEEPS(widest, 1048574, ends);
   KEEPS(widest, KOVRELNA_GAP_MAX, ends);
   KEEPS(apart, 1, both);
-  keeps(__LINE__, parts, 1, 1, all, 1);
-  least(__LINE__, parts, 1, parts_values, 1, 1, 2, 1, 0, 1, 0, 1, all);
+  keeps(__LINE__, holed, 1, 1, all, 1);
+  least(__LINE__, holed, 1, holed_values, 1, 1, 2, 1, 0, 1, 0, 1, all);
   least(__LINE__, apart, 2, steep, 2, 1, 2, 2, 0, 2, 0, 1, both);
   /* Both runs share the allowance. */
   CLOSEST(twice, zigzags, 7, 4, 10, 3, 1, twice_sides);
@@ -1512,14 +1512,14 @@ static void gap_limits(void) {
           with_measure(0, 0, 0, 1, hole, KOVRELNA_SIDE_GAP));
   }
 
-  JUDGE(parts, parts_values, parts_sides, under(7), 0, 1, 0);
-  STRAYS(parts, parts_values, parts_ends, under(7), 0, 0, 1, 2, KOVRELNA_SIDE_GAP);
-  JUDGE(parts, parts_values, parts_ends, under(8), 0, 1, 0);
-  STRAYS(parts, parts_values, early, under(7), 1, 0, 1, 2, KOVRELNA_SIDE_GAP);
-  STRAYS(parts, parts_values, late, under(7), 1, 0, 1, 2, KOVRELNA_SIDE_GAP);
-  STRAYS(parts, parts_values, across, under(7), 1, 0, 1, 2, KOVRELNA_SIDE_GAP);
-  JUDGE(parts, parts_values, across, under(8), 0, 1, 0);
-  JUDGE(parts, parts_values, all, under(1), 0, 1, 0);
+  JUDGE(holed, holed_values, holed_sides, under(7), 0, 1, 0);
+  STRAYS(holed, holed_values, holed_ends, under(7), 0, 0, 1, 2, KOVRELNA_SIDE_GAP);
+  JUDGE(holed, holed_values, holed_ends, under(8), 0, 1, 0);
+  STRAYS(holed, holed_values, early, under(7), 1, 0, 1, 2, KOVRELNA_SIDE_GAP);
+  STRAYS(holed, holed_values, late, under(7), 1, 0, 1, 2, KOVRELNA_SIDE_GAP);
+  STRAYS(holed, holed_values, across, under(7), 1, 0, 1, 2, KOVRELNA_SIDE_GAP);
+  JUDGE(holed, holed_values, across, under(8), 0, 1, 0);
+  JUDGE(holed, holed_values, all, under(1), 0, 1, 0);
   JUDGE(apart, steep, both, under(1), 0, 1, 0);
   /* Of several holes the first; before it two neighbours exactly the gap limit apart. */
   STRAYS(nearly, level_four, nearly_ends, under(7), 0, 0, 1, 1, KOVRELNA_SIDE_GAP);
@@ -1527,17 +1527,17 @@ static void gap_limits(void) {
   STRAYS(single, flat, single_first, under(7), 1, 0, 1, 3, KOVRELNA_SIDE_GAP);
   STRAYS(single, flat, single_last, under(7), 4, 0, 1, 7, KOVRELNA_SIDE_GAP);
   /* The tolerance alone makes a link invalid, both do, the gap limit alone does. */
-  STRAYS(parts, peak, parts_ends, within_gap(2, 8), 0, 3, 1, 1, KOVRELNA_SIDE_ABOVE);
-  STRAYS(parts, peak, parts_ends, within_gap(2, 7), 0, 3, 1, 1, KOVRELNA_SIDE_ABOVE);
-  STRAYS(parts, peak, parts_ends, within_gap(3, 7), 0, 3, 1, 2, KOVRELNA_SIDE_GAP);
-  STRAYS(parts, trough, late, within_gap(2, 8), 1, 3, 1, 4, KOVRELNA_SIDE_BELOW);
-  STRAYS(parts, trough, late, within_gap(2, 7), 1, 3, 1, 4, KOVRELNA_SIDE_BELOW);
-  STRAYS(parts, trough, late, within_gap(3, 7), 1, 3, 1, 2, KOVRELNA_SIDE_GAP);
-  STRAYS(parts, trough, parts_sides, within_gap(2, 7), 2, 3, 1, 4, KOVRELNA_SIDE_BELOW);
+  STRAYS(holed, peak, holed_ends, within_gap(2, 8), 0, 3, 1, 1, KOVRELNA_SIDE_ABOVE);
+  STRAYS(holed, peak, holed_ends, within_gap(2, 7), 0, 3, 1, 1, KOVRELNA_SIDE_ABOVE);
+  STRAYS(holed, peak, holed_ends, within_gap(3, 7), 0, 3, 1, 2, KOVRELNA_SIDE_GAP);
+  STRAYS(holed, trough, late, within_gap(2, 8), 1, 3, 1, 4, KOVRELNA_SIDE_BELOW);
+  STRAYS(holed, trough, late, within_gap(2, 7), 1, 3, 1, 4, KOVRELNA_SIDE_BELOW);
+  STRAYS(holed, trough, late, within_gap(3, 7), 1, 3, 1, 2, KOVRELNA_SIDE_GAP);
+  STRAYS(holed, trough, holed_sides, within_gap(2, 7), 2, 3, 1, 4, KOVRELNA_SIDE_BELOW);
 
-  WRITE(parts, parts_values, parts_sides, under(7), 28, 0, 0, 28, sides_record);
-  WRITE(parts, parts_values, parts_sides, under(KOVRELNA_GAP_MAX), 28, 0, 0, 28, sides_record);
-  WRITE(parts, parts_values, parts_ends, under(8), 25, 2, 0, 22, ends_record);
+  WRITE(holed, holed_values, holed_sides, under(7), 28, 0, 0, 28, sides_record);
+  WRITE(holed, holed_values, holed_sides, under(KOVRELNA_GAP_MAX), 28, 0, 0, 28, sides_record);
+  WRITE(holed, holed_values, holed_ends, under(8), 25, 2, 0, 22, ends_record);
 
   REPORT_ROWS(crate_ticks, flat, lengths, under(7), 3, totals(9, 7, 0, 1), split);
   REPORT_ROWS(crate_ticks, flat, lengths, under(8), 4, totals(9, 5, 0, 1), whole);
@@ -1557,62 +1557,62 @@ static void no_gap_limits(void) {
     const uint32_t gap = gaps[k];
     kovrelna_limits given = under(gap);
     for (room = 0; room <= 40; room += 40) {
-      REFUSE(parts, two, given, room, KOVRELNA_REFUSED_LENGTH, 0);
+      REFUSE(holed, two, given, room, KOVRELNA_REFUSED_LENGTH, 0);
       REFUSE(equal, two, given, room, KOVRELNA_REFUSED_TICK, 1);
       REFUSE(beyond_span, two, given, room, KOVRELNA_REFUSED_SPAN, 1);
-      REFUSE(parts, parts_values, given, room, KOVRELNA_REFUSED_GAP, 0);
+      REFUSE(holed, holed_values, given, room, KOVRELNA_REFUSED_GAP, 0);
 
-      WRITE(parts, two, both, given, room, 0, KOVRELNA_REFUSED_LENGTH, 0, NULL);
+      WRITE(holed, two, both, given, room, 0, KOVRELNA_REFUSED_LENGTH, 0, NULL);
       WRITE(equal, two, both, given, room, 0, KOVRELNA_REFUSED_TICK, 1, NULL);
       WRITE(beyond_span, two, both, given, room, 0, KOVRELNA_REFUSED_SPAN, 1, NULL);
-      WRITE(parts, bent, none, given, room, 0, KOVRELNA_REFUSED_GAP, 0, NULL);
-      WRITE(parts, bent, parts_ends, given, room, 0, KOVRELNA_REFUSED_GAP, 0, NULL);
-      WRITE(parts, bent, all, given, room, 0, KOVRELNA_REFUSED_GAP, 0, NULL);
+      WRITE(holed, bent, none, given, room, 0, KOVRELNA_REFUSED_GAP, 0, NULL);
+      WRITE(holed, bent, holed_ends, given, room, 0, KOVRELNA_REFUSED_GAP, 0, NULL);
+      WRITE(holed, bent, all, given, room, 0, KOVRELNA_REFUSED_GAP, 0, NULL);
 
-      NO_CLOSEST(parts, two, gap, 0, room, KOVRELNA_REFUSED_LENGTH, 0);
+      NO_CLOSEST(holed, two, gap, 0, room, KOVRELNA_REFUSED_LENGTH, 0);
       NO_CLOSEST(equal, two, gap, 0, room, KOVRELNA_REFUSED_TICK, 1);
       NO_CLOSEST(beyond_span, two, gap, 0, room, KOVRELNA_REFUSED_SPAN, 1);
-      NO_CLOSEST(parts, bent, gap, 0, room, KOVRELNA_REFUSED_GAP, 0);
-      NO_CLOSEST(parts, bent, gap, 2, room, KOVRELNA_REFUSED_GAP, 0);
-      NO_CLOSEST(parts, bent, gap, 4096, room, KOVRELNA_REFUSED_GAP, 0);
+      NO_CLOSEST(holed, bent, gap, 0, room, KOVRELNA_REFUSED_GAP, 0);
+      NO_CLOSEST(holed, bent, gap, 2, room, KOVRELNA_REFUSED_GAP, 0);
+      NO_CLOSEST(holed, bent, gap, 4096, room, KOVRELNA_REFUSED_GAP, 0);
     }
-    JUDGE(parts, two, both, given, KOVRELNA_REFUSED_LENGTH, 0, 0);
+    JUDGE(holed, two, both, given, KOVRELNA_REFUSED_LENGTH, 0, 0);
     JUDGE(equal, two, both, given, KOVRELNA_REFUSED_TICK, 0, 1);
     JUDGE(beyond_span, two, both, given, KOVRELNA_REFUSED_SPAN, 0, 1);
-    JUDGE(parts, bent, none, given, KOVRELNA_REFUSED_GAP, 0, 0);
-    JUDGE(parts, bent, parts_ends, given, KOVRELNA_REFUSED_GAP, 0, 0);
-    NO_REPORT(parts, 6, parts_values, 6, less, 1, given, KOVRELNA_REFUSED_CRATE);
-    NO_REPORT(parts, 6, parts_values, 6, lengths, 1, given, KOVRELNA_REFUSED_GAP);
+    JUDGE(holed, bent, none, given, KOVRELNA_REFUSED_GAP, 0, 0);
+    JUDGE(holed, bent, holed_ends, given, KOVRELNA_REFUSED_GAP, 0, 0);
+    NO_REPORT(holed, 6, holed_values, 6, less, 1, given, KOVRELNA_REFUSED_CRATE);
+    NO_REPORT(holed, 6, holed_values, 6, lengths, 1, given, KOVRELNA_REFUSED_GAP);
     /* 4 before 15. */
     for (t = 0; t < COUNT(not_allowed); t++) {
       kovrelna_limits bad = kovrelna_limited(not_allowed[t], gap);
-      REFUSE(parts, parts_values, bad, 40, KOVRELNA_REFUSED_TOLERANCE, 0);
-      WRITE(parts, bent, none, bad, 40, 0, KOVRELNA_REFUSED_TOLERANCE, 0, NULL);
-      JUDGE(parts, bent, none, bad, KOVRELNA_REFUSED_TOLERANCE, 0, 0);
-      NO_REPORT(parts, 6, parts_values, 6, less, 1, bad, KOVRELNA_REFUSED_CRATE);
-      NO_REPORT(parts, 6, parts_values, 6, lengths, 1, bad, KOVRELNA_REFUSED_TOLERANCE);
+      REFUSE(holed, holed_values, bad, 40, KOVRELNA_REFUSED_TOLERANCE, 0);
+      WRITE(holed, bent, none, bad, 40, 0, KOVRELNA_REFUSED_TOLERANCE, 0, NULL);
+      JUDGE(holed, bent, none, bad, KOVRELNA_REFUSED_TOLERANCE, 0, 0);
+      NO_REPORT(holed, 6, holed_values, 6, less, 1, bad, KOVRELNA_REFUSED_CRATE);
+      NO_REPORT(holed, 6, holed_values, 6, lengths, 1, bad, KOVRELNA_REFUSED_TOLERANCE);
     }
   }
 
   /* 6 before 7, and 7 before 10, where only the gap limit makes a link invalid. */
   for (room = 0; room <= 40; room += 40) {
-    WRITE(parts, parts_values, none, under(7), room, 0, KOVRELNA_REFUSED_LIST, 0, NULL);
-    WRITE(parts, parts_values, parts_ends, under(7), room, 0, KOVRELNA_REFUSED_LINK, 0, NULL);
-    WRITE(parts, parts_values, late, under(7), room, 0, KOVRELNA_REFUSED_LINK, 1, NULL);
+    WRITE(holed, holed_values, none, under(7), room, 0, KOVRELNA_REFUSED_LIST, 0, NULL);
+    WRITE(holed, holed_values, holed_ends, under(7), room, 0, KOVRELNA_REFUSED_LINK, 0, NULL);
+    WRITE(holed, holed_values, late, under(7), room, 0, KOVRELNA_REFUSED_LINK, 1, NULL);
   }
-  WRITE(parts, parts_values, late, under(8), 24, 0, KOVRELNA_REFUSED_ROOM, 25, NULL);
+  WRITE(holed, holed_values, late, under(8), 24, 0, KOVRELNA_REFUSED_ROOM, 25, NULL);
 
   /* 5 before 16, and 16 before 10. */
   for (room = 0; room <= 6; room += 2) {
-    NO_CLOSEST(parts, parts_values, 7, 0, room, KOVRELNA_REFUSED_ALLOWANCE, 0);
-    NO_CLOSEST(parts, parts_values, 7, 1, room, KOVRELNA_REFUSED_ALLOWANCE, 0);
-    NO_CLOSEST(parts, parts_values, 7, 4097, room, KOVRELNA_REFUSED_ALLOWANCE, 0);
-    NO_CLOSEST(parts, parts_values, 7, 2, room, KOVRELNA_REFUSED_HOLES, 0);
-    NO_CLOSEST(parts, parts_values, 7, 3, room, KOVRELNA_REFUSED_HOLES, 0);
-    NO_CLOSEST(parts, parts_values, 1, 3, room, KOVRELNA_REFUSED_HOLES, 0);
+    NO_CLOSEST(holed, holed_values, 7, 0, room, KOVRELNA_REFUSED_ALLOWANCE, 0);
+    NO_CLOSEST(holed, holed_values, 7, 1, room, KOVRELNA_REFUSED_ALLOWANCE, 0);
+    NO_CLOSEST(holed, holed_values, 7, 4097, room, KOVRELNA_REFUSED_ALLOWANCE, 0);
+    NO_CLOSEST(holed, holed_values, 7, 2, room, KOVRELNA_REFUSED_HOLES, 0);
+    NO_CLOSEST(holed, holed_values, 7, 3, room, KOVRELNA_REFUSED_HOLES, 0);
+    NO_CLOSEST(holed, holed_values, 1, 3, room, KOVRELNA_REFUSED_HOLES, 0);
     if (room == 6) break;
-    NO_CLOSEST(parts, parts_values, 7, 4, room, KOVRELNA_REFUSED_ROOM, 6);
-    NO_CLOSEST(parts, parts_values, 8, 2, room, KOVRELNA_REFUSED_ROOM, 6);
+    NO_CLOSEST(holed, holed_values, 7, 4, room, KOVRELNA_REFUSED_ROOM, 6);
+    NO_CLOSEST(holed, holed_values, 8, 2, room, KOVRELNA_REFUSED_ROOM, 6);
   }
 }
 
@@ -1689,11 +1689,11 @@ static void unequal_parts(void) {
   JUDGE(four, hidden_turned, four_ends, within_parts(1, 3, 4, 3), 0, 1, 0);
 
   /* The gap limit alone makes a link invalid exactly if it is within both parts. */
-  STRAYS(parts, peak, parts_ends, within_both(3, 0, 7), 0, 3, 1, 2, KOVRELNA_SIDE_GAP);
-  STRAYS(parts, peak, parts_ends, within_both(2, 3, 7), 0, 3, 1, 1, KOVRELNA_SIDE_ABOVE);
-  STRAYS(parts, trough, parts_ends, within_both(0, 3, 7), 0, 3, 1, 2, KOVRELNA_SIDE_GAP);
-  STRAYS(parts, trough, parts_ends, within_both(3, 2, 7), 0, 3, 1, 1, KOVRELNA_SIDE_BELOW);
-  STRAYS(parts, parts_values, parts_ends, within_both(0, 1, 7), 0, 0, 1, 2, KOVRELNA_SIDE_GAP);
+  STRAYS(holed, peak, holed_ends, within_both(3, 0, 7), 0, 3, 1, 2, KOVRELNA_SIDE_GAP);
+  STRAYS(holed, peak, holed_ends, within_both(2, 3, 7), 0, 3, 1, 1, KOVRELNA_SIDE_ABOVE);
+  STRAYS(holed, trough, holed_ends, within_both(0, 3, 7), 0, 3, 1, 2, KOVRELNA_SIDE_GAP);
+  STRAYS(holed, trough, holed_ends, within_both(3, 2, 7), 0, 3, 1, 1, KOVRELNA_SIDE_BELOW);
+  STRAYS(holed, holed_values, holed_ends, within_both(0, 1, 7), 0, 0, 1, 2, KOVRELNA_SIDE_GAP);
   STRAYS(hole, far_hidden, four_ends, within_both(5, 0, 7), 0, 10, 3, 2, KOVRELNA_SIDE_ABOVE);
   STRAYS(hole, far_hidden, four_ends, within_both(4, 1, 7), 0, 10, 3, 2, KOVRELNA_SIDE_GAP);
   JUDGE(hole, far_hidden, four_ends, within_both(4, 1, 10), 0, 1, 0);
@@ -1738,8 +1738,8 @@ static void scans(void) {
   both_parts[3] = kovrelna_ratio(2, 1);
   SCANNED(even, wave, both_parts, KOVRELNA_GAP_MAX, four_kept, four_lists);
   /* Gap limits. */
-  SCANNED(parts, parts_values, nearly, 7, fours, side_lists);
-  SCANNED(parts, parts_values, nearly, 8, twos, end_lists);
+  SCANNED(holed, holed_values, nearly, 7, fours, side_lists);
+  SCANNED(holed, holed_values, nearly, 8, twos, end_lists);
   /* One sample. */
   scanned(__LINE__, trace(even, 1, zigzag, 1), mixed, 3, 1, ones, &one_lists[0][0]);
 
@@ -1754,7 +1754,7 @@ static void scans(void) {
     for (gap = 1; gap <= 9; gap += 4) {
       scanned_as_walk(__LINE__, TRACE(even, zigzag), any, count, gap);
       scanned_as_walk(__LINE__, TRACE(even, wave), any, count, gap);
-      scanned_as_walk(__LINE__, TRACE(parts, parts_values), any, count, gap);
+      scanned_as_walk(__LINE__, TRACE(holed, holed_values), any, count, gap);
     }
 }
 
