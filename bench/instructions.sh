@@ -8,7 +8,7 @@ fi
 kinds="pulse noise ramp zigzag spike dropout"
 
 # table SAMPLES CALL..: calls of so many samples in all; where `each` is set, so many a channel, the set
-# of tolerances of scan, or k of a view.
+# of tolerances of scan, or k of a view; where `parts` is set too, at these unequal parts.
 table() {
   samples=$1
   shift
@@ -30,7 +30,7 @@ table() {
       printf '%-20s' "$function"
       for kind in $kinds; do
         valgrind --tool=callgrind --callgrind-out-file=/dev/null --toggle-collect="$counted" \
-          "$bench" once "$kind" "$function" ${each:-} 2>&1 |
+          "$bench" once "$kind" "$function" ${each:-} ${parts:-} 2>&1 |
           awk -v samples="$samples" '/Collected/ { printf " %10.1f", $NF / samples }'
       done
       echo
@@ -52,6 +52,14 @@ echo
 echo "The same, from 2.50 to 40"
 each=1
 table 65536 scan
+echo
+echo "The same, from 1/2 above and 1/3 below to 8 and 16/3"
+each=2
+table 65536 scan
+echo
+echo "The same, from 3/2 above and 5/2 below to 24 and 40"
+each=3
+table 65536 scan
 for each in 8 32; do
   echo
   echo "Instructions a sample lent, view_add of the last of 4096 samples, k = $each"
@@ -64,6 +72,17 @@ table 256 least
 echo
 echo "Instructions a sample, whole call, 64 channels of 4096 samples, tolerance 7.50"
 table 262144 report
+each=4096
+for parts in 1 2; do
+  below="10/3"
+  [ "$parts" = 1 ] || below="5/2"
+  echo
+  echo "Instructions a sample, whole call, 4096 samples, 15/2 above and $below below; records and lists of"
+  echo "walk; last 64 channels of so many"
+  table 4096 walk gallop minimum write judge
+  table 262144 report
+done
+parts=""
 echo
 echo "The same, 64 channels of 2 samples"
 kinds=pulse each=2
