@@ -43,6 +43,17 @@ echo
 echo "Instructions a sample, whole call, 4096 samples, tolerance 7.50; records and lists of all samples,"
 echo "and the link from the first to the last"
 table 4096 walk gallop minimum write read same judge measure sum expand expand_with
+each=4096
+for parts in 1 2; do
+  below="10/3"
+  [ "$parts" = 1 ] || below="5/2"
+  echo
+  echo "Instructions a sample, whole call, 4096 samples, 15/2 above and $below below; records and lists of"
+  echo "walk; last 64 channels of so many"
+  table 4096 walk gallop minimum write judge
+  table 262144 report
+done
+parts=""
 echo
 echo "Instructions a sample and tolerance, whole call, 4096 samples, 16 tolerances from 0.50 to 8;"
 echo "kovrelna_walks: walk at each"
@@ -72,17 +83,6 @@ table 256 least
 echo
 echo "Instructions a sample, whole call, 64 channels of 4096 samples, tolerance 7.50"
 table 262144 report
-each=4096
-for parts in 1 2; do
-  below="10/3"
-  [ "$parts" = 1 ] || below="5/2"
-  echo
-  echo "Instructions a sample, whole call, 4096 samples, 15/2 above and $below below; records and lists of"
-  echo "walk; last 64 channels of so many"
-  table 4096 walk gallop minimum write judge
-  table 262144 report
-done
-parts=""
 echo
 echo "The same, 64 channels of 2 samples"
 kinds=pulse each=2
