@@ -88,8 +88,8 @@ enum kovrelna_refusal {
   /* The span is too long. Value: the first sample more than 1,048,575 ticks after sample 0; in
    * kovrelna_pedestals the channel. */
   KOVRELNA_REFUSED_SPAN = 3,
-  /* The tolerance is not allowed, for either of its parts; in kovrelna_pedestals also if they
-   * differ. Value: 0; in kovrelna_scan the position of the first such tolerance. */
+  /* The tolerance or one of its parts is not allowed; in kovrelna_pedestals also parts that differ.
+   * Value: 0; in kovrelna_scan the position of the first such tolerance. */
   KOVRELNA_REFUSED_TOLERANCE = 4,
   /* The allowance is below 2 or above 4,096. Value: 0. */
   KOVRELNA_REFUSED_ALLOWANCE = 5,

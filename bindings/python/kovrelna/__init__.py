@@ -143,7 +143,7 @@ class Refusal(ValueError):
     | 1 | no samples or codes, too many (for `least`, over 256), or not as many values as ticks | 0 |
     | 2 | a tick is not above the one before | its sample |
     | 3 | the span is too long | the first sample over 1,048,575 ticks after the first |
-    | 4 | the tolerance is not allowed, for either of its parts; in `pedestals` also if they differ \
+    | 4 | the tolerance or one of its parts is not allowed; in `pedestals` also parts that differ \
 | 0; in `scan` the position of the first such tolerance |
     | 5 | the allowance is below 2 or above 4,096 | 0 |
     | 6 | the proposed list is no kept list, or two samples are no link of the trace | the position \
@@ -381,12 +381,13 @@ def walk(
     """From sample i, beginning with 0, tests the links to i+1, i+2, ... and keeps the sample before
     the first invalid one, or the last sample if none is invalid; goes on from there.
 
-    Returns the kept list. No kept list has fewer samples that obeys the gap limit and whose links
-    have every sample at most a above and at most b below their lines, for all fractions a and b,
-    neither below 0, whose sum is at most the smaller of U and D. So with equal parts none has fewer
-    whose links are all valid at half the tolerance under the same gap limit. One that does not obey
-    the gap limit may, and so may one within U/2 and D/2 where U and D differ. Refusals: 1, 2, 3, 4,
-    15, and 10 if `out` has fewer entries than the trace has samples.
+    Returns the kept list. It has at most as many samples as any kept list that obeys the gap limit
+    and whose links have every sample at most a above and at most b below their lines, for all
+    fractions a and b, neither below 0, whose sum is at most the smaller of U and D. With equal parts,
+    and a and b each half of them: no kept list whose links are all valid at half the tolerance under
+    the same gap limit has fewer. One that does not obey the gap limit may, and so may one within U/2
+    and D/2 where U and D differ. Refusals: 1, 2, 3, 4, 15, and 10 if `out` has fewer entries than the
+    trace has samples.
 
     >>> from array import array
     >>> ticks, values = range(5), [0, 2, 0, -2, 0]
