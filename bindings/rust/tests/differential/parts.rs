@@ -1,0 +1,394 @@
+//! Tolerances with a part above and a part below: samples exactly at their part and beyond it, lists that depend
+//! on both parts, the size of greedy lists, slopes that are barely left, and parts that are equal as numbers.
+
+use kovrelna::{Tolerance, GAP_MAX};
+use kovrelna_evidence::cases::unequal_parts;
+use kovrelna_evidence::compare::{
+    self, exactly, exactly_parts, hold, judge, parts, ratio, reduce, report, scan, write,
+};
+use kovrelna_evidence::measures::judged;
+use kovrelna_evidence::reductions::{lists, size_bound_of_all, size_bounds, tolerances};
+use kovrelna_reference::generate::{
+    any_limited, any_list, any_ratio, crate_of, just_above, just_below, written, Random, Trace,
+};
+use kovrelna_reference::Method::Minimum;
+use kovrelna_reference::{kept_lists, link_parts, Fraction, Parts, Side, TRIED};
+
+use crate::{small_traces, SMALL_PARTS};
+
+/// A sample exactly at its part, and one beyond it on either side: ticks, the values of both ends, the least and
+/// the greatest middle value that is within the parts, and the parts above and below.
+#[test]
+fn exactly_at_each_part() {
+    type Case = ([u32; 3], [i16; 2], (i32, i32), (u64, u64), (u64, u64));
+    const Q: u64 = 1_048_575;
+    let cases: [Case; 12] = [
+        ([0, 1, 2], [0, 0], (-3, 5), (5, 1), (3, 1)),
+        ([0, 1, 2], [0, 0], (0, 5), (5, 1), (0, 1)),
+        ([0, 1, 2], [0, 0], (-5, 0), (0, 1), (5, 1)),
+        (
+            [0, 1, 2],
+            [0, 0],
+            (-4, 2),
+            (5 * Q - 2 * Q - 1, Q),
+            (5 * Q - 1, Q),
+        ),
+        // A third of a count, over unlike denominators.
+        ([0, 1, 3], [0, 1], (0, 1), (2, 3), (1, 3)),
+        ([0, 1, 3], [0, 1], (0, 0), (699_049, Q - 1), (1, 3)),
+        ([0, 1, 3], [0, 1], (1, 1), (2, 3), (349_524, Q - 1)),
+        ([0, 1, 3], [0, 1], (0, 1), (2 * Q / 3, Q), (349_525, Q - 1)),
+        ([0, 1, 1_048_575], [0, 1], (0, 0), (0, 1), (1, Q)),
+        ([0, 1, 1_048_575], [0, 1], (1, 0), (0, 1), (0, 1)),
+        (
+            [0, 1, 2],
+            [-32_768, -32_768],
+            (-32_768, 32_766),
+            (65_534, 1),
+            (0, 1),
+        ),
+        (
+            [0, 1, 2],
+            [32_767, 32_767],
+            (-32_767, 32_767),
+            (0, 1),
+            (65_534, 1),
+        ),
+    ];
+    for (ticks, ends, (least, greatest), above, below) in cases {
+        for value in [least - 1, least, greatest, greatest + 1] {
+            let Ok(middle) = i16::try_from(value) else {
+                continue;
+            };
+            let expected = match (value < least, value > greatest) {
+                (true, _) => Some(Side::Below),
+                (_, true) => Some(Side::Above),
+                _ => None,
+            };
+            let values = [ends[0], middle, ends[1]];
+            let tolerance = parts(above, below);
+            let answer = judge(&ticks, &values, &[0, 2], tolerance).unwrap();
+            let side = answer.map(|invalid| invalid.measure.side);
+            // Where no value is within both parts, one count is below the line and the next above it.
+            if least <= greatest || !(greatest..=least).contains(&value) {
+                assert_eq!(side, expected, "{values:?} {tolerance:?}");
+            } else {
+                assert!(side.is_some(), "{values:?} {tolerance:?}");
+            }
+            let kept = reduce(Minimum, &ticks, &values, tolerance, 3).unwrap().list;
+            assert_eq!(kept.len(), if side.is_none() { 2 } else { 3 });
+            let turned = values.map(|value| -1 - value);
+            let exchanged = judge(&ticks, &turned, &[0, 2], parts(below, above)).unwrap();
+            assert_eq!(exchanged.is_some(), side.is_some());
+        }
+    }
+}
+
+/// Links with the same error above and below: at every two parts of which each is above it, exactly it or just
+/// below it, a link is valid exactly if its own side's part is not below.
+#[test]
+fn one_part_alone() {
+    let random = &mut Random::new(61);
+    for _ in 0..2_000 {
+        let height = random.within(1, 30_000) as i16;
+        let error = Fraction {
+            p: height.into(),
+            q: 1,
+        };
+        let (ticks, low, high) = ([3, 4, 5], [0, -height, 0], [0, height, 0]);
+        let near = [
+            just_below(error),
+            error,
+            just_above(error),
+            any_ratio(random),
+        ];
+        for above in near {
+            for below in near {
+                let tolerance = exactly_parts(Parts { above, below });
+                let passes = |values: &[i16]| judge(&ticks, values, &[0, 2], tolerance) == Ok(None);
+                assert_eq!(passes(&high), error.at_most(above), "{tolerance:?}");
+                assert_eq!(passes(&low), error.at_most(below), "{tolerance:?}");
+            }
+        }
+    }
+}
+
+/// Exceptional and squeezed traces. A list that is valid with the smaller part for both is valid with the parts,
+/// and one that is valid with these is with the larger part for both: so minimum keeps no fewer samples than at
+/// the larger part, and no more than at the smaller.
+#[test]
+fn random_traces() {
+    let random = &mut Random::new(62);
+    // Equal parts, and unequal ones; of these lists that are others at the smaller part for both, at the larger,
+    // and with the parts exchanged; minimum is shorter than both others.
+    let mut seen = [0; 6];
+    for _ in 0..6_000 {
+        let (trace, tolerance, kept) = unequal_parts(random);
+        let samples = trace.ticks.len();
+        if tolerance.one().is_some() {
+            seen[0] += 1;
+            continue;
+        }
+        seen[1] += 1;
+        let (smaller, Parts { above, below }) = (tolerance.smaller(), tolerance);
+        let larger = if above == smaller { below } else { above };
+        // `unequal_parts` may have reduced it under a gap limit.
+        let free = lists(&trace, exactly_parts(tolerance), samples);
+        let at_smaller = lists(&trace, exactly(smaller), samples);
+        let at_larger = lists(&trace, exactly(larger), samples);
+        assert!(at_larger[2].len() <= free[2].len(), "{trace:?}");
+        assert!(free[2].len() <= at_smaller[2].len(), "{trace:?}");
+        let Trace { ticks, values } = &trace;
+        assert_eq!(judge(ticks, values, &free[2], exactly(larger)), Ok(None));
+        for list in &at_smaller {
+            let judged = judge(ticks, values, list, exactly_parts(tolerance));
+            assert_eq!(judged, Ok(None), "{trace:?}");
+        }
+        seen[2] += usize::from(free != at_smaller);
+        seen[3] += usize::from(free != at_larger);
+        let exchanged = lists(&trace, exactly_parts(tolerance.exchanged()), samples);
+        seen[4] += usize::from(free != exchanged);
+        seen[5] += usize::from(kept[2].len() < kept[0].len().min(kept[1].len()));
+    }
+    assert!(seen.iter().all(|&count| count > 100), "{seen:?}");
+}
+
+/// Every small trace with unequal parts. No kept list that is within fractions a above and b below, together at
+/// most the smaller part, is shorter than a greedy list; half of each part, the larger part for both together,
+/// and the smaller part for each are too much.
+#[test]
+fn every_small_trace() {
+    let half = |(p, q): (u64, u64)| (p, 2 * q);
+    let fraction = |(p, q): (u64, u64)| Fraction {
+        p: p.into(),
+        q: q.into(),
+    };
+    let (mut within, mut shorter) = (0, [0; 3]);
+    for trace in small_traces() {
+        let Trace { ticks, values } = &trace;
+        let samples = ticks.len();
+        for (above, below) in SMALL_PARTS {
+            let tolerance = parts(above, below);
+            let kept = lists(&trace, tolerance, samples);
+            within += size_bound_of_all(&trace, tolerance, &kept);
+            let greedy = kept[0].len().max(kept[1].len());
+            if greedy == 2 {
+                continue;
+            }
+            let ends = link_parts(ticks, values, 0, samples - 1);
+            let (u, d) = (fraction(above), fraction(below));
+            let larger = if u.at_most(d) { d } else { u };
+            let smaller = if u.at_most(d) { u } else { d };
+            let halves = (fraction(half(above)), fraction(half(below)));
+            shorter[0] += usize::from(ends.above.at_most(halves.0) && ends.below.at_most(halves.1));
+            shorter[1] += usize::from(ends.sum().at_most(larger));
+            shorter[2] += usize::from(ends.above.at_most(smaller) && ends.below.at_most(smaller));
+        }
+    }
+    assert!(within > 20_000, "{within}");
+    assert!(shorter.iter().all(|&count| count > 10), "{shorter:?}");
+}
+
+/// Traces of up to 9 samples, of every kind and shape, with holes and without: the size of greedy lists against
+/// every kept list, and minimum's against every kept list that judge passes.
+#[test]
+fn every_kept_list() {
+    let random = &mut Random::new(63);
+    // Lists that the bound speaks of, at unequal parts of which neither is 0, and at others.
+    let mut within = [0; 2];
+    for _ in 0..1_200 {
+        let samples = random.within(3, 9) as usize;
+        let (trace, gap) = any_limited(samples, random);
+        for tolerance in tolerances(&trace, random) {
+            let limits = tolerance.with_gap(gap);
+            let kept = lists(&trace, limits, samples);
+            let held = hold(tolerance).unwrap();
+            let both = held.one().is_none() && held.smaller().p > 0;
+            within[usize::from(both)] += size_bound_of_all(&trace, limits, &kept);
+            let passed = |list: &Vec<u16>| judged(&trace, list, limits).is_none();
+            let shortest = kept_lists(samples).filter(passed).map(|list| list.len());
+            assert_eq!(shortest.min(), Some(kept[2].len()), "{limits:?} {trace:?}");
+        }
+    }
+    assert!(within.iter().all(|&count| count > 3_000), "{within:?}");
+}
+
+/// The line from tick 0 and value 0 to tick n = a b and value 1, and on to n, 2 n, .. as often as the span allows;
+/// beside it a sample at value 1 that lies above it by a fraction over a, and one at value 0 that lies below by a
+/// fraction over b, in either order. With exactly these parts its slope alone is left, and all samples on the line
+/// are valid ends; just above them, with denominators up to the greatest and unlike, no others are; just below
+/// either part none is.
+#[test]
+fn slopes_barely_left() {
+    for (a, b) in [(2, 3), (5, 7), (16, 15), (128, 127), (1_025, 1_023)] {
+        let n: u32 = a * b;
+        let periods = (1_048_575 / n).min(5);
+        for (above_at, below_at) in [(1, 1), (1, a / 2 + 1), (b / 3 + 1, 1), (b - 1, a - 1)] {
+            // Heights above the line are 1 - t/n, with t a multiple of b; depths are t/n, with t one of a.
+            let (high, low) = (b * above_at.min(a - 1), a * below_at.min(b - 1));
+            let mut samples = vec![(0, 0), (high, 1), (low, 0)];
+            samples.extend((1..=periods).map(|period| (n * period, period as i16)));
+            samples.sort();
+            let (ticks, values) = samples.into_iter().unzip();
+            let trace = Trace { ticks, values };
+            let last = trace.ticks.len() - 1;
+            let least = link_parts(&trace.ticks, &trace.values, 0, last);
+            assert_eq!(
+                i128::from(a) % least.above.q + i128::from(b) % least.below.q,
+                0
+            );
+            let kept = |above, below| {
+                let tolerance = exactly_parts(Parts { above, below });
+                let kept = lists(&trace, tolerance, last + 1);
+                size_bounds(&trace, tolerance, &kept);
+                if last < TRIED {
+                    size_bound_of_all(&trace, tolerance, &kept);
+                }
+                kept[2].clone()
+            };
+            let Parts { above, below } = least;
+            let ends = vec![0, last as u16];
+            assert_eq!(kept(above, below), ends, "{trace:?}");
+            let wider = |part: Fraction| [just_above(part), near(part, 1_048_574)];
+            for (above, below) in [
+                (just_above(above), below),
+                (above, just_above(below)),
+                (just_above(above), near(below, 1_048_574)),
+                (near(above, 1_048_574), just_above(below)),
+            ] {
+                assert_eq!(kept(above, below), ends, "{trace:?}");
+            }
+            for wide in wider(above) {
+                assert_ne!(kept(wide, just_below(below)), ends, "{trace:?}");
+            }
+            for wide in wider(below) {
+                assert_ne!(kept(just_below(above), wide), ends, "{trace:?}");
+            }
+        }
+    }
+}
+
+/// The least fraction above p/q with this denominator.
+fn near(Fraction { p, q }: Fraction, denominator: i128) -> Fraction {
+    Fraction {
+        p: p * denominator / q + 1,
+        q: denominator,
+    }
+}
+
+/// The cone of a long trace that empties at any sample, or is left with one slope up to the last: minimum's early
+/// stop is never too early.
+#[test]
+fn long_cones() {
+    let random = &mut Random::new(64);
+    for samples in [500usize, 2_000, 4_096] {
+        let ticks: Vec<u32> = (0..samples as u32).map(|k| 35 * k).collect();
+        for (height, depth) in [(1, 3), (3, 1), (0, 2), (2, 0)] {
+            // Beside the line of slope 1, or of slope 0, within so much.
+            for slope in [0, 1] {
+                let beside = |random: &mut Random| random.within(-depth, height) as i16;
+                let mut values: Vec<i16> = (0..samples)
+                    .map(|k| slope * k as i16 + beside(random))
+                    .collect();
+                let last = samples - 1;
+                (values[0], values[last]) = (0, slope * last as i16);
+                let trace = Trace {
+                    ticks: ticks.clone(),
+                    values,
+                };
+                let least = link_parts(&trace.ticks, &trace.values, 0, last);
+                let tolerance = exactly_parts(least);
+                let [.., minimum] = lists(&trace, tolerance, samples);
+                assert_eq!(minimum, [0, last as u16]);
+                let exchanged = exactly_parts(least.exchanged());
+                let [.., minimum] = lists(&trace, exchanged, samples);
+                assert!(minimum.len() > 2);
+            }
+        }
+    }
+}
+
+/// Parts that are equal as numbers, however they are written, give what one tolerance gives: in judge, the
+/// reductions, the writer, a scan and a report.
+#[test]
+fn equal_parts() {
+    let random = &mut Random::new(65);
+    let mut rewritten = 0;
+    for _ in 0..1_500 {
+        let samples = random.within(1, 30) as usize;
+        let (trace, gap) = any_limited(samples, random);
+        let Trace { ticks, values } = &trace;
+        let list = any_list(ticks, gap, random);
+        for tolerance in tolerances(&trace, random) {
+            let Some(one) = hold(tolerance).unwrap().one() else {
+                continue;
+            };
+            let both = compare::tolerance(written(one.into(), random));
+            let one = exactly(one);
+            rewritten += usize::from(both != exactly_parts(hold(both).unwrap()));
+            assert_eq!(hold(both), hold(one));
+            let [both, one] = [both, one].map(|tolerance| tolerance.with_gap(gap));
+            let input = || format!("{both:?} {trace:?}");
+            let judged = |limits| judge(ticks, values, &list, limits);
+            assert_eq!(judged(both), judged(one), "{}", input());
+            assert_eq!(lists(&trace, both, samples), lists(&trace, one, samples));
+            let size = 21 + 6 * list.len();
+            let written = |limits| write(ticks, values, &list, limits, size, 0);
+            assert_eq!(written(both), written(one), "{}", input());
+            let tolerances = [both.tolerance, one.tolerance];
+            let scanned = scan(ticks, values, &tolerances, gap, 2 * samples).unwrap();
+            assert_eq!(scanned[0], scanned[1], "{}", input());
+            let channels = crate_of(std::slice::from_ref(&trace));
+            let reported = |limits| report(&channels, limits, 1);
+            assert_eq!(reported(both), reported(one), "{}", input());
+        }
+    }
+    assert!(rewritten > 300, "{rewritten}");
+}
+
+/// The greatest parts and 0, on either side of the greatest values.
+#[test]
+fn greatest_parts() {
+    const MIN: i16 = i16::MIN;
+    const MAX: i16 = i16::MAX;
+    let greatest = (65_535, 1);
+    for values in [
+        [MIN, MAX, MIN, MAX, MIN],
+        [MAX, MIN, MAX, MIN, MAX],
+        [MIN, MIN, MAX, MAX, MIN],
+        [MAX, MAX, MIN, MIN, MAX],
+        [MIN, MAX, MAX, MAX, MAX],
+        [MAX, MIN, MIN, MIN, MIN],
+    ] {
+        for ticks in [
+            [0, 1, 2, 3, 4],
+            [0, 1, 2, 3, 1_048_575],
+            [0, 1_048_572, 1_048_573, 1_048_574, 1_048_575],
+        ] {
+            let trace = Trace {
+                ticks: ticks.to_vec(),
+                values: values.to_vec(),
+            };
+            for (above, below) in [
+                (greatest, (0, 1)),
+                ((0, 1), greatest),
+                (greatest, (65_535 * 1_048_575 - 1, 1_048_575)),
+                ((65_535 * 1_048_574 - 1, 1_048_574), greatest),
+                (
+                    (65_535 * 1_048_574 - 1, 1_048_574),
+                    (65_535 * 1_048_575 - 1, 1_048_575),
+                ),
+                ((1, 1_048_575), (1, 1_048_574)),
+                ((1, 1_048_575), greatest),
+            ] {
+                let tolerance: Tolerance = parts(above, below);
+                for limits in [tolerance.with_gap(GAP_MAX), tolerance.with_gap(1)] {
+                    let kept = lists(&trace, limits, 5);
+                    size_bounds(&trace, limits, &kept);
+                    size_bound_of_all(&trace, limits, &kept);
+                }
+            }
+            assert_eq!(lists(&trace, ratio(65_535, 1), 5), [[0, 4]; 3]);
+        }
+    }
+}
