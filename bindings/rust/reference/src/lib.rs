@@ -138,15 +138,9 @@ impl Parts {
     }
 
     /// Whether a sample that lies so much above the line, below it if that is negative, is within its part.
-    fn allow(self, height: Fraction) -> bool {
-        match height.p {
-            0.. => height.at_most(self.above),
-            _ => Fraction {
-                p: -height.p,
-                ..height
-            }
-            .at_most(self.below),
-        }
+    fn allow(self, Fraction { p, q }: Fraction) -> bool {
+        let part = if p < 0 { self.below } else { self.above };
+        Fraction { p: p.abs(), q }.at_most(part)
     }
 }
 
@@ -384,8 +378,8 @@ pub fn link_valid(
 /// The samples to which a link from i is valid, rising. Sample k is at most U above the line from sample i
 /// to sample j exactly if the slope of that line, (vj - vi) / (tj - ti), is at least
 /// (vk - vi - U) / (tk - ti), and at most D below it exactly if the slope is at most
-/// (vk - vi + D) / (tk - ti). Where no slope is left, no later link is valid. Across a hole only a link of
-/// one step is.
+/// (vk - vi + D) / (tk - ti); slopes here are times both denominators. Where no slope is left, no later link is
+/// valid. Across a hole only a link of one step is.
 pub fn valid_ends(
     ticks: &[u32],
     values: &[i16],
@@ -393,6 +387,8 @@ pub fn valid_ends(
     limits: impl Into<Limits<Parts>>,
 ) -> Vec<usize> {
     let Limits { tolerance, gap } = limits.into();
+    let Parts { above, below } = tolerance;
+    let (scale, u, d) = (above.q * below.q, above.p * below.q, below.p * above.q);
     let mut ends = Vec::new();
     let mut crossed = false;
     // No slope is below or above these.
@@ -402,21 +398,15 @@ pub fn valid_ends(
         if !least.at_most(greatest) {
             break;
         }
-        let rise = i128::from(values[j]) - i128::from(values[i]);
+        let rise = scale * (i128::from(values[j]) - i128::from(values[i]));
         let run = i128::from(ticks[j]) - i128::from(ticks[i]);
-        // The slope to a point so far above sample j.
-        let slope = |Fraction { p, q }: Fraction| Fraction {
-            p: rise * q + p,
-            q: run * q,
-        };
-        let to_sample = slope(whole(0));
+        let slope = |rise| Fraction { p: rise, q: run };
         crossed |= is_hole(ticks, j - 1, gap);
         let obeys = j == i + 1 || !crossed;
-        if obeys && least.at_most(to_sample) && to_sample.at_most(greatest) {
+        if obeys && least.at_most(slope(rise)) && slope(rise).at_most(greatest) {
             ends.push(j);
         }
-        let Fraction { p, q } = tolerance.above;
-        let (low, high) = (slope(Fraction { p: -p, q }), slope(tolerance.below));
+        let (low, high) = (slope(rise - u), slope(rise + d));
         if least.at_most(low) {
             least = low;
         }

@@ -276,35 +276,32 @@ fn near(Fraction { p, q }: Fraction, denominator: i128) -> Fraction {
     }
 }
 
-/// The cone of a long trace that empties at any sample, or is left with one slope up to the last: minimum's early
-/// stop is never too early.
+/// Long traces beside a line, within parts of their own: with exactly these the last sample is a valid end of the
+/// first, however early the others leave no other slope; with the parts exchanged it is none.
 #[test]
-fn long_cones() {
+fn long_lines() {
     let random = &mut Random::new(64);
-    for samples in [500usize, 2_000, 4_096] {
-        let ticks: Vec<u32> = (0..samples as u32).map(|k| 35 * k).collect();
-        for (height, depth) in [(1, 3), (3, 1), (0, 2), (2, 0)] {
-            // Beside the line of slope 1, or of slope 0, within so much.
-            for slope in [0, 1] {
-                let beside = |random: &mut Random| random.within(-depth, height) as i16;
-                let mut values: Vec<i16> = (0..samples)
-                    .map(|k| slope * k as i16 + beside(random))
-                    .collect();
-                let last = samples - 1;
-                (values[0], values[last]) = (0, slope * last as i16);
-                let trace = Trace {
-                    ticks: ticks.clone(),
-                    values,
-                };
-                let least = link_parts(&trace.ticks, &trace.values, 0, last);
-                let tolerance = exactly_parts(least);
-                let [.., minimum] = lists(&trace, tolerance, samples);
-                assert_eq!(minimum, [0, last as u16]);
-                let exchanged = exactly_parts(least.exchanged());
-                let [.., minimum] = lists(&trace, exchanged, samples);
-                assert!(minimum.len() > 2);
-            }
-        }
+    for (samples, height, depth, slope) in [
+        (500, 1, 3, 0),
+        (500, 3, 1, 1),
+        (500, 0, 2, 1),
+        (500, 2, 0, 0),
+        (4_096, 2, 5, 1),
+    ] {
+        let last = samples - 1;
+        let mut values: Vec<i16> = (0..samples)
+            .map(|k| slope * k as i16 + random.within(-depth, height) as i16)
+            .collect();
+        (values[0], values[last]) = (0, slope * last as i16);
+        let trace = Trace {
+            ticks: (0..samples as u32).map(|k| 35 * k).collect(),
+            values,
+        };
+        let least = link_parts(&trace.ticks, &trace.values, 0, last);
+        let [.., minimum] = lists(&trace, exactly_parts(least), samples);
+        assert_eq!(minimum, [0, last as u16]);
+        let [.., minimum] = lists(&trace, exactly_parts(least.exchanged()), samples);
+        assert!(minimum.len() > 2);
     }
 }
 
