@@ -28,10 +28,10 @@
 //!
 //! A hole is two neighbouring samples that lie more ticks apart than the gap limit. A link obeys the
 //! gap limit if it goes one step, from sample i to i+1, or crosses no hole. It is valid if it obeys the
-//! gap limit and each sample between its ends that lies above the line has at most the part above as its
-//! deviation, each below the line at most the part below; equality is valid. Where the parts are equal,
-//! that is: the link's error is at most the tolerance. So a link of one step is always valid, and a
-//! longer one never if it crosses a hole.
+//! gap limit and its deviation at each sample above the line is at most the part above, at each sample
+//! below the line at most the part below; equality is valid. Where the parts are equal, that is: its
+//! error is at most the tolerance. So a link of one step is always valid, and a longer one never if it
+//! crosses a hole.
 //!
 //! A kept list begins with sample 0, rises strictly and ends with the last sample. Its links join
 //! neighbouring entries and are counted from 0.
@@ -76,7 +76,7 @@ pub enum Refusal {
     View,
     /// 19: no tolerances, or more than 16.
     Count,
-    /// 4: the tolerance is not allowed; in [`pedestals`] also if its parts differ.
+    /// 4: the tolerance, or a part of it, is not allowed; in [`pedestals`] also if its parts differ.
     Tolerance,
     /// 4, in [`scan`]: the position of the first tolerance that is not allowed.
     ToleranceAt(usize),
@@ -1050,9 +1050,9 @@ pub struct ReducedTrace<'a> {
 /// If every link of the first list is valid on the first trace with the parts U1 above and D1 below, and
 /// every link of the second list on the second trace with U2 and D2, under the same gap limit, then every
 /// link of the joined list is valid on the summed trace at U1 + D1 + U2 + D2, above and below alike, under
-/// that gap limit; with equal parts T1 and T2 that is 2 (T1 + T2). This holds for any fractions, neither
-/// below 0, whether they are allowed as tolerances or not. It does not hold with U1 + U2 above and D1 + D2
-/// below, which for equal parts is T1 + T2.
+/// that gap limit; with equal parts T1 and T2 that is 2 (T1 + T2). This holds for any fractions, whether
+/// they are allowed as tolerances or not. It does not hold with U1 + U2 above and D1 + D2 below, which for
+/// equal parts is T1 + T2.
 ///
 /// Refusals: [`Refusal::Length`], [`Refusal::Tick`], [`Refusal::Span`] of the first trace, then of the
 /// second; [`Refusal::List`] of the first list, then of the second; [`Refusal::Mismatch`];
@@ -1080,7 +1080,7 @@ pub struct ReducedTrace<'a> {
 /// assert_eq!(within(summed, 2.0), Ok(Verdict::Within));
 /// assert_eq!(measure(&ticks, summed.values, 1, 3)?.error, Ratio { p: 2, q: 1 });
 ///
-/// // The second list is within 2 above and 1 below, the joined list within 3, which sample 2 is below.
+/// // The second list is within 2 above and 1 below. In the joined list sample 2 lies 3 below its line.
 /// let second = ReducedTrace { values: &[3, 5, 2, 5, 3], ..second };
 /// let parts = Parts { above: Ratio { p: 2, q: 1 }, below: Ratio { p: 1, q: 1 } };
 /// let verdict = judge(&ticks, second.values, second.list, Tolerance::Parts(parts));
@@ -1242,6 +1242,13 @@ pub struct Content {
 /// assert_eq!((ticks, values), ([0, 3, 9], [0, 1]));
 /// assert_eq!(read(&record[..18], &mut ticks, &mut values), Err(Refusal::Record(16)));
 /// assert_eq!(read(&record, &mut ticks, &mut values[..1]), Err(Refusal::Room(2)));
+///
+/// let with_parts = |below: [u8; 8]| [&[0x42], &record[1..9], &below, &record[9..]].concat();
+/// let content = read(&with_parts([0, 0, 0, 0, 1, 0, 0, 1]), &mut ticks, &mut values)?;
+/// assert_eq!(content.tolerance.to_string(), "2/3 1/1");
+/// let equal = with_parts([0, 0, 0, 0, 2, 0, 0, 3]);
+/// assert_eq!(read(&equal, &mut ticks, &mut values), Err(Refusal::Record(0)));
+/// # Ok::<(), Refusal>(())
 /// ```
 pub fn read(record: &[u8], ticks: &mut [u32], values: &mut [i16]) -> Result<Content, Refusal> {
     let content = ffi::read(record, ticks, values);

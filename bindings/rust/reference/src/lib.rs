@@ -124,6 +124,11 @@ impl Parts {
         ordered(self.above, self.below).0
     }
 
+    /// The larger part.
+    pub fn larger(self) -> Fraction {
+        ordered(self.above, self.below).1
+    }
+
     /// The part above and the part below, together.
     pub fn sum(self) -> Fraction {
         self.above.plus(self.below)
@@ -1358,7 +1363,7 @@ mod tests {
                     below: most(-1),
                 };
                 assert_eq!(found, expected, "{i} {j} {trace:?}");
-                let error = ordered(found.above, found.below).1;
+                let error = found.larger();
                 assert_eq!(error, link_error(ticks, values, i, j), "{i} {j} {trace:?}");
             }
         }
@@ -1406,7 +1411,7 @@ mod tests {
             assert_eq!(trace_refusal(ticks, values), None);
             let samples = ticks.len();
             let walk = |parts| reduce(Method::Walk, ticks, values, form(parts), samples).unwrap();
-            let (smaller, larger) = ordered(tolerance.above, tolerance.below);
+            let [smaller, larger] = [tolerance.smaller(), tolerance.larger()];
             let others = [tolerance.exchanged(), smaller.into(), larger.into()];
             for (other, seen) in others.into_iter().zip(&mut seen) {
                 *seen += usize::from(walk(other) != walk(tolerance));

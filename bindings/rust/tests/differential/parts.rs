@@ -22,24 +22,17 @@ use crate::{small_traces, SMALL_PARTS};
 fn exactly_at_each_part() {
     type Case = ([u32; 3], [i16; 2], (i32, i32), (u64, u64), (u64, u64));
     const Q: u64 = 1_048_575;
-    let cases: [Case; 12] = [
+    let cases: [Case; 11] = [
         ([0, 1, 2], [0, 0], (-3, 5), (5, 1), (3, 1)),
         ([0, 1, 2], [0, 0], (0, 5), (5, 1), (0, 1)),
         ([0, 1, 2], [0, 0], (-5, 0), (0, 1), (5, 1)),
-        (
-            [0, 1, 2],
-            [0, 0],
-            (-4, 2),
-            (5 * Q - 2 * Q - 1, Q),
-            (5 * Q - 1, Q),
-        ),
+        ([0, 1, 2], [0, 0], (-4, 2), (3 * Q - 1, Q), (5 * Q - 1, Q)),
         // A third of a count, over unlike denominators.
         ([0, 1, 3], [0, 1], (0, 1), (2, 3), (1, 3)),
         ([0, 1, 3], [0, 1], (0, 0), (699_049, Q - 1), (1, 3)),
         ([0, 1, 3], [0, 1], (1, 1), (2, 3), (349_524, Q - 1)),
         ([0, 1, 3], [0, 1], (0, 1), (2 * Q / 3, Q), (349_525, Q - 1)),
         ([0, 1, 1_048_575], [0, 1], (0, 0), (0, 1), (1, Q)),
-        ([0, 1, 1_048_575], [0, 1], (1, 0), (0, 1), (0, 1)),
         (
             [0, 1, 2],
             [-32_768, -32_768],
@@ -69,12 +62,7 @@ fn exactly_at_each_part() {
             let tolerance = parts(above, below);
             let answer = judge(&ticks, &values, &[0, 2], tolerance).unwrap();
             let side = answer.map(|invalid| invalid.measure.side);
-            // Where no value is within both parts, one count is below the line and the next above it.
-            if least <= greatest || !(greatest..=least).contains(&value) {
-                assert_eq!(side, expected, "{values:?} {tolerance:?}");
-            } else {
-                assert!(side.is_some(), "{values:?} {tolerance:?}");
-            }
+            assert_eq!(side, expected, "{values:?} {tolerance:?}");
             let kept = reduce(Minimum, &ticks, &values, tolerance, 3).unwrap().list;
             assert_eq!(kept.len(), if side.is_none() { 2 } else { 3 });
             let turned = values.map(|value| -1 - value);
@@ -130,9 +118,8 @@ fn random_traces() {
             continue;
         }
         seen[1] += 1;
-        let (smaller, Parts { above, below }) = (tolerance.smaller(), tolerance);
-        let larger = if above == smaller { below } else { above };
-        // `unequal_parts` may have reduced it under a gap limit.
+        let (smaller, larger) = (tolerance.smaller(), tolerance.larger());
+        // Without the gap limit that `unequal_parts` may have drawn.
         let free = lists(&trace, exactly_parts(tolerance), samples);
         let at_smaller = lists(&trace, exactly(smaller), samples);
         let at_larger = lists(&trace, exactly(larger), samples);
@@ -153,36 +140,29 @@ fn random_traces() {
     assert!(seen.iter().all(|&count| count > 100), "{seen:?}");
 }
 
-/// Every small trace with unequal parts. No kept list that is within fractions a above and b below, together at
-/// most the smaller part, is shorter than a greedy list; half of each part, the larger part for both together,
-/// and the smaller part for each are too much.
+/// Every small trace with unequal parts. No kept list whose samples lie at most a above and at most b below its
+/// lines, where a and b are together at most the smaller part, is shorter than a greedy list. A list of both ends
+/// may be, where a and b are at most half of each part, where they are together at most the larger part, and
+/// where each is at most the smaller.
 #[test]
 fn every_small_trace() {
-    let half = |(p, q): (u64, u64)| (p, 2 * q);
-    let fraction = |(p, q): (u64, u64)| Fraction {
-        p: p.into(),
-        q: q.into(),
-    };
     let (mut within, mut shorter) = (0, [0; 3]);
     for trace in small_traces() {
-        let Trace { ticks, values } = &trace;
-        let samples = ticks.len();
+        let samples = trace.ticks.len();
         for (above, below) in SMALL_PARTS {
             let tolerance = parts(above, below);
             let kept = lists(&trace, tolerance, samples);
             within += size_bound_of_all(&trace, tolerance, &kept);
-            let greedy = kept[0].len().max(kept[1].len());
-            if greedy == 2 {
-                continue;
+            if kept[0].len() > 2 || kept[1].len() > 2 {
+                let held = hold(tolerance).unwrap();
+                let Parts { above, below } =
+                    link_parts(&trace.ticks, &trace.values, 0, samples - 1);
+                let each = |u, d| above.at_most(u) && below.at_most(d);
+                let half_of_each = each(held.above.half(), held.below.half());
+                shorter[0] += usize::from(half_of_each);
+                shorter[1] += usize::from(above.plus(below).at_most(held.larger()));
+                shorter[2] += usize::from(each(held.smaller(), held.smaller()));
             }
-            let ends = link_parts(ticks, values, 0, samples - 1);
-            let (u, d) = (fraction(above), fraction(below));
-            let larger = if u.at_most(d) { d } else { u };
-            let smaller = if u.at_most(d) { u } else { d };
-            let halves = (fraction(half(above)), fraction(half(below)));
-            shorter[0] += usize::from(ends.above.at_most(halves.0) && ends.below.at_most(halves.1));
-            shorter[1] += usize::from(ends.sum().at_most(larger));
-            shorter[2] += usize::from(ends.above.at_most(smaller) && ends.below.at_most(smaller));
         }
     }
     assert!(within > 20_000, "{within}");
@@ -213,11 +193,11 @@ fn every_kept_list() {
     assert!(within.iter().all(|&count| count > 3_000), "{within:?}");
 }
 
-/// The line from tick 0 and value 0 to tick n = a b and value 1, and on to n, 2 n, .. as often as the span allows;
-/// beside it a sample at value 1 that lies above it by a fraction over a, and one at value 0 that lies below by a
-/// fraction over b, in either order. With exactly these parts its slope alone is left, and all samples on the line
-/// are valid ends; just above them, with denominators up to the greatest and unlike, no others are; just below
-/// either part none is.
+/// The line through tick 0 and value 0 and through tick n = a b and value 1, and on to 2 n, 3 n, ..; beside it a
+/// sample at value 1 that lies above it by a fraction over a, and one at value 0 that lies below it by a fraction
+/// over b, in either order. With exactly these parts, at which its slope alone is left, and with parts just above
+/// them, whose denominators are great and unlike, both ends are kept alone; with either part just below they are
+/// not, however little the other is above.
 #[test]
 fn slopes_barely_left() {
     for (a, b) in [(2, 3), (5, 7), (16, 15), (128, 127), (1_025, 1_023)] {
@@ -233,10 +213,8 @@ fn slopes_barely_left() {
             let trace = Trace { ticks, values };
             let last = trace.ticks.len() - 1;
             let least = link_parts(&trace.ticks, &trace.values, 0, last);
-            assert_eq!(
-                i128::from(a) % least.above.q + i128::from(b) % least.below.q,
-                0
-            );
+            assert_eq!(i128::from(a) % least.above.q, 0);
+            assert_eq!(i128::from(b) % least.below.q, 0);
             let kept = |above, below| {
                 let tolerance = exactly_parts(Parts { above, below });
                 let kept = lists(&trace, tolerance, last + 1);
