@@ -7,7 +7,8 @@ use kovrelna_reference::record::{
 };
 use kovrelna_reference::{reduce, Form, Fraction, Method, Parts};
 use std::fmt::Write as _;
-use std::io::{ErrorKind, Write as _};
+use std::fs::{self, File};
+use std::io::{ErrorKind, Seek, Write as _};
 use std::process::{Child, Command, Output, Stdio};
 use std::{thread, time::Duration};
 
@@ -208,6 +209,20 @@ fn longest_records() {
         let bytes = [&longest[..length - 3], &long(256, 9), &end(4_097)].concat();
         assert!(!is_record(&bytes));
     }
+}
+
+/// Of a long file the program takes its most bytes and no more: the place after them is where it has read up to.
+#[test]
+fn most_bytes() {
+    let path = concat!(env!("CARGO_TARGET_TMPDIR"), "/long.record");
+    let longest = longest(unequal((5, 2), (7, 3)));
+    fs::write(path, [longest, vec![0; MEGABYTE]].concat()).unwrap();
+    let mut file = File::open(path).unwrap();
+    let lent = file.try_clone().unwrap();
+    let output = start(lent.into()).wait_with_output().unwrap();
+    assert_eq!(printed(output), format!("refused 8 at {}\n", LIMIT - 1));
+    assert_eq!(file.stream_position().unwrap(), LIMIT as u64);
+    fs::remove_file(path).unwrap();
 }
 
 /// Every byte with other values, cuts at every length, and bytes after the end.
