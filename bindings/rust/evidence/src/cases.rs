@@ -9,7 +9,7 @@
 //! - [`codes_and_room`]: codes, and the entries of their output.
 
 use crate::compare::{
-    self, exactly, exactly_parts, expand, expand_with, form, hold, judge, least, measure, noise,
+    exactly, exactly_parts, expand, expand_with, form, given, hold, judge, least, measure, noise,
     pedestals, ratio, read, reduce, report, same, scan, view_add, view_begin, write,
 };
 use crate::measures::{self, judged};
@@ -30,7 +30,7 @@ use kovrelna_reference::generate::{
 use kovrelna_reference::record::{encode, end, first, long, short, tolerance, unequal, Content};
 use kovrelna_reference::{
     beside_holes, held, link_error, link_obeys, list_error, list_obeys, list_parts,
-    longest_crossed, trace_refusal, Form, Fraction, Invalid, Measure, Parts, Side, METHODS, TRIED,
+    longest_crossed, trace_refusal, Fraction, Invalid, Measure, Parts, Side, METHODS, TRIED,
 };
 
 /// A sort of case: its name, how often it is drawn, and one case of it.
@@ -226,13 +226,15 @@ pub fn held_tolerances(random: &mut Random) {
     let _ = hold(noise(near, bits));
     let any = (random.below(65_540 * q + 2), q);
     let _ = hold(ratio(any.0, any.1));
-    let Form::Parts(above, below) = written(any_parts(random), random) else {
-        unreachable!("parts are written as such");
-    };
-    let _ = hold(compare::parts(above, below));
-    let _ = hold(compare::parts(any, below));
-    let _ = hold(compare::parts(above, any));
-    let _ = hold(compare::tolerance(bad_parts(random)));
+    let [above, below] = written(any_parts(random), random);
+    for parts in [
+        [above, below],
+        [any, below],
+        [above, any],
+        bad_parts(random),
+    ] {
+        let _ = hold(given(parts));
+    }
 }
 
 /// Measures links of a trace of up to so many samples, with equal deviations or any: from end to end,
@@ -376,9 +378,9 @@ fn shortest(random: &mut Random) {
 }
 
 /// A trace on which unequal parts matter, with its parts: an exceptional one, or a squeezed one of up to 40
-/// samples with the parts of the link from end to end, or near them. Reduces it with these parts and with
-/// either exchanged, and turned over (-1 - v for v) with the parts exchanged, which gives the same lists; both
-/// ends and a list are judged and written. Returns the trace, the parts and the lists.
+/// samples with the parts of the link from end to end, or near them. Reduces it with these parts and with the
+/// parts exchanged; turned over (-1 - v for v) with the parts exchanged it has the same lists. Judges and writes
+/// the list of both ends and another. Returns the trace, the parts and the lists.
 pub fn unequal_parts(random: &mut Random) -> (Trace, Parts, [Vec<u16>; 3]) {
     let (trace, parts) = match random.below(4) {
         0 => exceptional(random),
@@ -472,7 +474,7 @@ pub fn round_trip(Trace { ticks, values }: &Trace, gap: u32, random: &mut Random
     let list = any_list(ticks, gap, random);
     let error = list_error(ticks, values, &list);
     let parts = near_parts(list_parts(ticks, values, &list), random);
-    let near = compare::tolerance(written(parts, random));
+    let near = given(written(parts, random));
     let mut tolerances = vec![any_tolerance(random), exactly(error), near];
     if error.p > 0 {
         tolerances.push(exactly(just_below(error)));
@@ -631,7 +633,7 @@ pub fn random_faults(random: &mut Random) {
     let mut list = any_list(&ticks, gap, random);
     let mut tolerance = match random.below(2) {
         0 => ratio(random.below(10), 1),
-        _ => compare::parts((random.below(10), 1), (random.below(10), 1)),
+        _ => given([(); 2].map(|_| (random.below(10), 1))),
     };
     let mut count = random.within(1, 16) as usize;
     let at = random.below(samples as u64) as usize;
@@ -822,7 +824,7 @@ pub fn traces_summed(most: i64, random: &mut Random) {
 
 /// A tolerance that is not allowed, in one part or as a whole.
 fn no_tolerance(random: &mut Random) -> Tolerance {
-    let parts = compare::tolerance(bad_parts(random));
+    let parts = given(bad_parts(random));
     random.choose(&[ratio(1, 0), Counts(0.01), noise(0.0, -1.0), parts, parts])
 }
 
@@ -847,8 +849,8 @@ pub fn pedestal_runs(most: i64, samples: usize, random: &mut Random) {
     let mut traces = [today, before];
     let mut tolerance = match random.below(8) {
         0 => any_tolerance(random),
-        1 => compare::tolerance(written(tolerance.into(), random)),
-        2 => compare::tolerance(written(near_parts(tolerance.into(), random), random)),
+        1 => given(written(tolerance.into(), random)),
+        2 => given(written(near_parts(tolerance.into(), random), random)),
         _ => exactly(tolerance),
     };
     let faulty = random.below(2);

@@ -30,7 +30,12 @@ pub fn noise(noise: f64, multiple: f64) -> Tolerance {
 
 /// The tolerance of these parts, above and below, each as p and q.
 pub fn parts(above: (u64, u64), below: (u64, u64)) -> Tolerance {
-    let [above, below] = [above, below].map(|(p, q)| Ratio { p, q });
+    given([above, below])
+}
+
+/// The same of both parts together.
+pub fn given(parts: [(u64, u64); 2]) -> Tolerance {
+    let [above, below] = parts.map(|(p, q)| Ratio { p, q });
     Tolerance::Parts(kovrelna::Parts { above, below })
 }
 
@@ -54,16 +59,6 @@ pub fn form(tolerance: Tolerance) -> Form {
         Tolerance::Parts(kovrelna::Parts { above, below }) => {
             Form::Parts((above.p, above.q), (below.p, below.q))
         }
-    }
-}
-
-/// The library's word for a form.
-pub fn tolerance(form: Form) -> Tolerance {
-    match form {
-        Form::Ratio(p, q) => ratio(p, q),
-        Form::Counts(counts) => Tolerance::Counts(counts),
-        Form::Noise(part, multiple) => noise(part, multiple),
-        Form::Parts(above, below) => parts(above, below),
     }
 }
 

@@ -1,9 +1,7 @@
 //! What holds of the lists of walk, gallop, minimum and least beyond their definitions, and tolerances
 //! at which they change. A check that fails panics, with its input.
 
-use crate::compare::{
-    asked, exactly, exactly_parts, judge, least, noise, ratio, reduce, tolerance,
-};
+use crate::compare::{asked, exactly, exactly_parts, given, judge, least, noise, ratio, reduce};
 use kovrelna::{Limits, Tolerance};
 use kovrelna_reference::generate::{any_parts, just_below, near_parts, written, Random, Trace};
 use kovrelna_reference::Method::{self, Gallop, Minimum, Walk};
@@ -154,7 +152,7 @@ pub fn any_tolerance(random: &mut Random) -> Tolerance {
             let part = random.below(64 * most.min(1_023) + 1) as f64 / 64.0;
             noise(part, random.below(8 * 63 + 1) as f64 / 8.0)
         }
-        _ => tolerance(written(any_parts(random), random)),
+        _ => given(written(any_parts(random), random)),
     }
 }
 

@@ -31,7 +31,7 @@ use crate::record::Content;
 use crate::sums::Summand;
 use crate::views::{State, ENTRIES, K};
 use crate::{
-    beside_holes, link_parts, Form, Fraction, Parts, DENOMINATOR, GAP, SAMPLES, SPAN, TOLERANCE,
+    beside_holes, link_parts, Fraction, Parts, DENOMINATOR, GAP, SAMPLES, SPAN, TOLERANCE,
 };
 use std::collections::BTreeMap;
 
@@ -596,15 +596,14 @@ pub fn any_parts(random: &mut Random) -> Parts {
     }
 }
 
-/// The parts as ratios, each in lowest terms or not.
-pub fn written(Parts { above, below }: Parts, random: &mut Random) -> Form {
-    let mut ratio = |Fraction { p, q }: Fraction| {
+/// p and q of the part above and of the part below, each in lowest terms or not.
+pub fn written(Parts { above, below }: Parts, random: &mut Random) -> [(u64, u64); 2] {
+    [above, below].map(|Fraction { p, q }| {
         let most = DENOMINATOR / q;
         let any = random.within(1, most as i64) as i128;
         let times = random.choose(&[1, 2.min(most), any, most]);
         ((p * times) as u64, (q * times) as u64)
-    };
-    Form::Parts(ratio(above), ratio(below))
+    })
 }
 
 /// A ratio that is not allowed as a tolerance, at a limit or beyond it; some are allowed if they are cut to
@@ -625,16 +624,12 @@ pub fn bad_ratio(random: &mut Random) -> (u64, u64) {
     ])
 }
 
-/// Parts of which the one above is not allowed, the one below, or neither.
-pub fn bad_parts(random: &mut Random) -> Form {
-    let Form::Parts(above, below) = written(any_parts(random), random) else {
-        unreachable!("parts are written as such");
-    };
-    match random.below(3) {
-        0 => Form::Parts(bad_ratio(random), below),
-        1 => Form::Parts(above, bad_ratio(random)),
-        _ => Form::Parts(bad_ratio(random), bad_ratio(random)),
-    }
+/// The same of parts of which the one above is not allowed, the one below, or neither.
+pub fn bad_parts(random: &mut Random) -> [(u64, u64); 2] {
+    let mut parts = written(any_parts(random), random);
+    let (from, to) = random.choose(&[(0, 1), (1, 2), (0, 2)]);
+    parts[from..to].fill_with(|| bad_ratio(random));
+    parts
 }
 
 /// A trace of at most so many samples, at least two, beside the line from its first sample to its last, and
@@ -1097,7 +1092,7 @@ mod tests {
     use crate::views::{add, begin};
     use crate::{
         above_line, held, link_error, link_valid, list_error, list_obeys, list_parts, list_refusal,
-        trace_refusal,
+        trace_refusal, Form,
     };
 
     #[test]
@@ -1350,8 +1345,8 @@ mod tests {
         let (mut seen, mut forms) = ([0; 8], [0; 4]);
         for _ in 0..4_000 {
             let parts = any_parts(random);
-            let form = written(parts, random);
-            assert_eq!(held(form), Some(parts), "{form:?}");
+            let [one, other] = written(parts, random);
+            assert_eq!(held(Form::Parts(one, other)), Some(parts));
             let Parts { above, below } = parts;
             let unequal = parts.one().is_none();
             let greatest = Fraction { p: TOLERANCE, q: 1 };
@@ -1366,12 +1361,9 @@ mod tests {
                 unequal && below == greatest,
             ];
             (0..8).for_each(|sort| seen[sort] += usize::from(sorts[sort]));
-            let Form::Parts((_, q1), (_, q2)) = form else {
-                panic!("{form:?}")
-            };
-            let lowest = [(q1, above.q), (q2, below.q)].map(|(q, least)| i128::from(q) == least);
-            forms[usize::from(lowest[0]) + 2 * usize::from(lowest[1])] += 1;
-            assert_eq!(held(bad_parts(random)), None);
+            let lowest = [(one.1, above.q), (other.1, below.q)]
+                .map(|(q, least)| usize::from(i128::from(q) == least));
+            forms[lowest[0] + 2 * lowest[1]] += 1;
         }
         let seen = seen.iter().chain(&forms);
         assert!(seen.clone().min() > Some(&50), "{seen:?}");
@@ -1383,15 +1375,12 @@ mod tests {
         let random = &mut Random::new(27);
         let mut seen = [0; 3];
         for _ in 0..1_000 {
-            let Form::Parts(above, below) = bad_parts(random) else {
-                panic!("not written as parts")
-            };
-            let allowed = |(p, q)| held(Form::Ratio(p, q)).is_some();
-            match (allowed(above), allowed(below)) {
-                (false, true) => seen[0] += 1,
-                (true, false) => seen[1] += 1,
-                (false, false) => seen[2] += 1,
-                (true, true) => panic!("{above:?} {below:?} are allowed"),
+            let allowed = bad_parts(random).map(|(p, q)| held(Form::Ratio(p, q)).is_some());
+            match allowed {
+                [false, true] => seen[0] += 1,
+                [true, false] => seen[1] += 1,
+                [false, false] => seen[2] += 1,
+                [true, true] => panic!("both parts are allowed"),
             }
         }
         assert!(seen.iter().all(|&count| count > 200), "{seen:?}");

@@ -24,8 +24,8 @@
 //! - [`scans`]: the scan of a trace at several tolerances.
 //! - [`views`]: the live view of a trace that grows.
 //! - [`sums`]: two traces with kept lists, added.
-//! - [`generate`]: repeatable random traces, lists, states of views, range tables, contents of records,
-//!   crates, pedestal runs and traces to be added.
+//! - [`generate`]: repeatable random traces, tolerances, lists, states of views, range tables, contents of
+//!   records, crates, pedestal runs and traces to be added.
 
 pub mod generate;
 pub mod pedestals;

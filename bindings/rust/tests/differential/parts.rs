@@ -4,7 +4,7 @@
 use kovrelna::{Tolerance, GAP_MAX};
 use kovrelna_evidence::cases::unequal_parts;
 use kovrelna_evidence::compare::{
-    self, exactly, exactly_parts, hold, judge, parts, ratio, reduce, report, scan, write,
+    exactly, exactly_parts, given, hold, judge, parts, ratio, reduce, report, scan, write,
 };
 use kovrelna_evidence::measures::judged;
 use kovrelna_evidence::reductions::{lists, size_bound_of_all, size_bounds, tolerances};
@@ -298,7 +298,7 @@ fn equal_parts() {
             let Some(one) = hold(tolerance).unwrap().one() else {
                 continue;
             };
-            let both = compare::tolerance(written(one.into(), random));
+            let both = given(written(one.into(), random));
             let one = exactly(one);
             rewritten += usize::from(both != exactly_parts(hold(both).unwrap()));
             assert_eq!(hold(both), hold(one));

@@ -1,6 +1,6 @@
 use kovrelna::Tolerance;
 use kovrelna_evidence::cases::{comparison, random_commands, round_trip};
-use kovrelna_evidence::compare::{self, exactly_parts, parts, read, same, write};
+use kovrelna_evidence::compare::{exactly, exactly_parts, given, parts, read, same, write};
 use kovrelna_reference::generate::{
     any_parts, content, gap_limit, trace, written, Random, Trace, KINDS,
 };
@@ -169,12 +169,12 @@ fn parts_written() {
         let held = any_parts(random);
         let size = 21 + 6 * samples;
         let write = |tolerance| write(&ticks, &values, &list, tolerance, size, 0).unwrap();
-        let record = write(compare::tolerance(written(held, random)));
+        let record = write(given(written(held, random)));
         assert_eq!(record, write(exactly_parts(held)));
         let one = held.one();
         assert_eq!(record[0], if one.is_some() { 0x54 } else { 0x42 });
-        if let Some(Fraction { p, q }) = one {
-            assert_eq!(record, write(compare::ratio(p as u64, q as u64)));
+        if let Some(one) = one {
+            assert_eq!(record, write(exactly(one)));
         }
         assert_eq!(read(&record, samples, samples).unwrap().tolerance, held);
         seen[usize::from(one.is_some())] += 1;
