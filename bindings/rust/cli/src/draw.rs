@@ -68,11 +68,9 @@ pub fn samples(count: usize) -> String {
 /// The lines of a record, and how many samples there are in words.
 fn picture_of_record(line: &Line, source: Source) -> Result<(String, Picture), Failure> {
     let given = |option| line.value(option).is_some();
-    if [TOLERANCE, ABOVE, BELOW, GAP, METHOD]
-        .into_iter()
-        .any(given)
-    {
-        let tolerance = match [ABOVE, BELOW].into_iter().any(given) {
+    let options = [TOLERANCE, ABOVE, BELOW, GAP, METHOD];
+    if options.into_iter().any(given) {
+        let tolerance = match given(ABOVE) || given(BELOW) {
             true => "--above, --below",
             false => "--tolerance",
         };

@@ -22,10 +22,8 @@ pub fn pedestals(arguments: &[OsString]) -> Result<Status, Failure> {
     if line.arguments.help {
         return output::print(help::PEDESTALS);
     }
-    if [ABOVE, BELOW]
-        .iter()
-        .any(|&part| line.value(part).is_some())
-    {
+    let given = |option| line.value(option).is_some();
+    if given(ABOVE) || given(BELOW) {
         let cause = "pedestals are compared at one tolerance: --above and --below do not apply";
         return Err(line.wrong(cause));
     }

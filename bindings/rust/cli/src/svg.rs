@@ -259,10 +259,10 @@ fn draw_words(x: &Axis, svg: &mut String, worst: &Worst) {
 mod tests {
     use super::*;
     use crate::chart::tests::well_formed;
-    use crate::tolerance::both;
 
     #[test]
     fn extremes() {
+        let zero = Ratio::default();
         for (samples, p, q) in [
             (vec![(0, 0)], 0, 1),
             (vec![(u32::MAX, i16::MIN)], 65_535, 1),
@@ -272,24 +272,28 @@ mod tests {
                 1_048_575,
             ),
         ] {
-            for (known, holes) in [
-                (true, vec![]),
-                (false, vec![]),
-                (true, vec![(u32::MAX - 1, u32::MAX)]),
-            ] {
-                let drawn = if known { samples.clone() } else { Vec::new() };
-                let error = Ratio { p: 1, q: 1_048_575 };
-                let (tick, side) = (samples[0].0, Side::Below);
-                let picture = Picture {
-                    worst: Some(Worst { tick, error, side }),
-                    ..Picture::whole(drawn, samples.clone(), both(Ratio { p, q }), holes)
-                };
-                let svg = draw("a<b>&\"c\"", &picture);
-                well_formed(&svg);
-                assert_eq!(svg.contains(ALONE), samples.len() == 1);
-                assert_eq!(svg.contains("trace minus lines"), known);
-                assert_eq!(svg.contains(">worst: 1/1048575 at tick "), known);
-                assert_eq!(svg, draw("a<b>&\"c\"", &picture));
+            let part = Ratio { p, q };
+            for (above, below) in [(part, part), (part, zero), (zero, part)] {
+                for (known, holes) in [
+                    (true, vec![]),
+                    (false, vec![]),
+                    (true, vec![(u32::MAX - 1, u32::MAX)]),
+                ] {
+                    let drawn = if known { samples.clone() } else { Vec::new() };
+                    let error = Ratio { p: 1, q: 1_048_575 };
+                    let (tick, side) = (samples[0].0, Side::Below);
+                    let tolerance = Parts { above, below };
+                    let picture = Picture {
+                        worst: Some(Worst { tick, error, side }),
+                        ..Picture::whole(drawn, samples.clone(), tolerance, holes)
+                    };
+                    let svg = draw("a<b>&\"c\"", &picture);
+                    well_formed(&svg);
+                    assert_eq!(svg.contains(ALONE), samples.len() == 1);
+                    assert_eq!(svg.contains("trace minus lines"), known);
+                    assert_eq!(svg.contains(">worst: 1/1048575 at tick "), known);
+                    assert_eq!(svg, draw("a<b>&\"c\"", &picture));
+                }
             }
         }
     }

@@ -161,6 +161,7 @@ fn texts() {
     // Two equal ratios are one.
     let one = recorded("# tolerance 2/3");
     assert_eq!(one[0], 0x54);
+    assert_eq!(recorded("# tolerance 2/3 2/3"), one);
     assert_eq!(recorded("# tolerance 2/3 4/6"), one);
     for (line, cause) in [
         (
