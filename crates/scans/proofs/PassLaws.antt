@@ -56,49 +56,56 @@ module _ {m n at b : ℕ} {places : List ℕ} (g : Starting m n at b places) whe
   pub starts-done : m ≤ b → Places m n places
   starts-done le = record { sized = g .sized; each = λ a lt. g .each a (omega arith) }
 
--- ---- a loop over the tolerances: the entries before b have become what f gives
+-- ---- a loop over the tolerances, from the last on: the entries from b on have become what f gives
 
 pub record Looping (m n : ℕ) (f : ℕ → Held) (s₀ : Numbers) (out₀ : List ℕ) (b : ℕ) (s : Numbers) (out : List ℕ) : Type 0 where
   pub within : b ≤ m
   pub sized : Sized s
-  pub round : Round f (heldIn n s₀ out₀) (heldIn n s out) b
-  pub next : (a : ℕ) → b ≤ a → getD (s .places) a 0 ≡ getD (s₀ .places) a 0
+  pub done : (a : ℕ) → b ≤ a → a < m → heldIn n s out a ≡ f a
+  pub todo : (a : ℕ) → a < b → heldIn n s out a ≡ heldIn n s₀ out₀ a
+  pub next : (a : ℕ) → a < b → getD (s .places) a 0 ≡ getD (s₀ .places) a 0
   pub places : (a : ℕ) → getD (s₀ .places) a 0 ≤ getD (s .places) a 0
   pub beyond : drop (m * n) out ≡ drop (m * n) out₀
   pub same : length out ≡ length out₀
 
-pub loop-first : {m n : ℕ} {f : ℕ → Held} {s : Numbers} {out : List ℕ} → Sized s → Looping m n f s out 0 s out
-loop-first z = record { within = omega arith; sized = z; round = round-none; next = λ a l. refl; places = λ a. omega arith; beyond = refl; same = refl }
+pub loop-first : {m n : ℕ} {f : ℕ → Held} {s : Numbers} {out : List ℕ} → Sized s → Looping m n f s out m s out
+loop-first z = record { within = omega arith; sized = z; done = λ a l u. absurd (omega arith); todo = λ a l. refl; next = λ a l. refl; places = λ a. omega arith; beyond = refl; same = refl }
 
 module _ {m n : ℕ} {f : ℕ → Held} {s₀ : Numbers} {out₀ : List ℕ} {b : ℕ} {s : Numbers} {out : List ℕ} (g : Looping m n f s₀ out₀ b s out) where
-  pub loop-next : {h : Held} {s′ : Numbers} {out′ : List ℕ} → b < m → Became n b h s out s′ out′ → h ≡ f b → length out′ ≡ length out → Looping m n f s₀ out₀ (b + 1) s′ out′
-  loop-next lt k e l = record {
-    within = omega arith;
-    sized = k .sized;
-    round = round-more (g .round) (k .this ∙ e) (k .others);
-    next = λ a u. k .elsewhere a (λ q. omega arith) ∙ g .next a (omega arith);
-    places = λ a. omega (arith, g .places a, k .places a);
-    beyond = k .beyond m lt ∙ g .beyond;
-    same = l ∙ g .same;
-  }
+  pub loop-done : b ≤ 0 → AllBecame m n f s₀ out₀ s out
+  loop-done none = record { sized = g .sized; each = λ a lt. g .done a (omega arith) lt; places = g .places; beyond = g .beyond }
 
-  pub loop-done : m ≤ b → AllBecame m n f s₀ out₀ s out
-  loop-done le = record { sized = g .sized; each = λ a lt. g .round .done a (omega arith); places = g .places; beyond = g .beyond }
+  module _ (some : 0 < b) where
+    pub loop-next : {h : Held} {s′ : Numbers} {out′ : List ℕ} → Became n (b - 1) h s out s′ out′ → h ≡ f (b - 1) → length out′ ≡ length out → Looping m n f s₀ out₀ (b - 1) s′ out′
+    loop-next k e l = record {
+      within = omega (arith, g .within);
+      sized = k .sized;
+      done = λ a u lt. elim (decLt (b - 1) a) [
+        | yes q ↦ k .others a (λ z. omega arith) ∙ g .done a (omega arith) lt
+        | no q ↦ let z : a ≡ b - 1 = omega arith in rw z (k .this ∙ e)
+      ];
+      todo = λ a u. k .others a (λ z. omega arith) ∙ g .todo a (omega arith);
+      next = λ a u. k .elsewhere a (λ z. omega arith) ∙ g .next a (omega arith);
+      places = λ a. omega (arith, g .places a, k .places a);
+      beyond = k .beyond m (omega (arith, g .within)) ∙ g .beyond;
+      same = l ∙ g .same;
+    }
 
-  -- entry b is as it was
-  pub loop-own : heldIn n s out b ≡ heldIn n s₀ out₀ b
-  loop-own = g .round .todo b (omega arith)
+    -- the last entry before b is as it was
+    pub loop-own : heldIn n s out (b - 1) ≡ heldIn n s₀ out₀ (b - 1)
+    loop-own = g .todo (b - 1) (omega arith)
 
-module _ {m n : ℕ} {f : ℕ → Held} {s₀ : Numbers} {out₀ : List ℕ} {b : ℕ} {s : Numbers} {out : List ℕ} (g : Looping m n f s₀ out₀ b s out) where
-  pub turning-at : {ps : List ℕ} {gap : ℕ} {cut : Bool} {before here : Sample} {at : ℕ} → Sampling m ps gap cut before here at n s₀ out₀ → b < m → {c : Criterion} → c ≡ criterionAt ps gap b → Turning c cut before here at n b s out
-  turning-at {ps} {gap} {cut} {before} {here} h lt e = rw e (record {
-    few = omega (arith, h .few);
-    sized = g .sized;
-    steps = subst (Steps (criterionAt ps gap b) cut before here) (sym (loop-own g)) (h .steps b lt);
-    room = omega (arith, g .same, part-room (m) n b out₀ (h .room) lt);
-    inside = subst (Inside n b) (sym (g .next b (omega arith))) (h .inside b lt);
-    number = h .number;
-  })
+    pub turning-at : {ps : List ℕ} {gap : ℕ} {cut : Bool} {before here : Sample} {at : ℕ} → Sampling m ps gap cut before here at n s₀ out₀ → {c : Criterion} → c ≡ criterionAt ps gap (b - 1) → Turning c cut before here at n (b - 1) s out
+    turning-at {ps} {gap} {cut} {before} {here} h e =
+        let lt : b - 1 < m = omega (arith, g .within) in
+        rw e (record {
+          few = omega (arith, h .few);
+          sized = g .sized;
+          steps = subst (Steps (criterionAt ps gap (b - 1)) cut before here) (sym loop-own) (h .steps (b - 1) lt);
+          room = omega (arith, g .same, part-room m n (b - 1) out₀ (h .room) lt);
+          inside = subst (Inside n (b - 1)) (sym (g .next (b - 1) (omega arith))) (h .inside (b - 1) lt);
+          number = h .number;
+        })
 
 -- ---- closing
 

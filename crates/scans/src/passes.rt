@@ -46,7 +46,8 @@ fn criterion_at(parts: &[u64; 64], gap: u32, b: usize) -> Criterion
 }
 
 // Takes the next sample in for every tolerance; `at` is the number of the sample before, and `cut` tells that links of more than one step to
-// the next sample do not obey the gap limit. The contract alone needs n, the length of a part.
+// the next sample do not obey the gap limit. From the last tolerance on, so that the loop's end is 0. The contract alone needs n, the length of
+// a part.
 fn take_in(
     m: usize,
     parts: &[u64; 64],
@@ -68,8 +69,9 @@ fn take_in(
     requires { ⌜ Sampling m (now parts) gap cut before here at n (numbers (now starts) (now levels) (now lows) (now lowruns) (now highs) (now highruns) (now places)) (now out) ⌝ }
     ensures { λ r. ⌜ AllBecame m n (λ a. stepped (criterionAt (now (parts .entry)) gap a) cut before here at (heldIn n (numbers (now (starts .entry)) (now (levels .entry)) (now (lows .entry)) (now (lowruns .entry)) (now (highs .entry)) (now (highruns .entry)) (now (places .entry))) (now (out .entry)) a)) (numbers (now (starts .entry)) (now (levels .entry)) (now (lows .entry)) (now (lowruns .entry)) (now (highs .entry)) (now (highruns .entry)) (now (places .entry))) (now (out .entry)) (numbers (now (starts .exit)) (now (levels .exit)) (now (lows .exit)) (now (lowruns .exit)) (now (highs .exit)) (now (highruns .exit)) (now (places .exit))) (now (out .exit)) ⌝ }
 {
-    let mut b = 0;
-    while b < m {
+    let mut b = m;
+    while 0 < b {
+        b -= 1;
         turn(
             criterion_at(parts, gap, b),
             starts,
@@ -87,7 +89,6 @@ fn take_in(
             n,
             out,
         );
-        b += 1;
     }
 }
 
