@@ -68,7 +68,7 @@ toleranceOf t =
     cond (eqb (t .form) 0) (Ratio (t .p) (t .q))
     (cond (eqb (t .form) 1) (Counts (t .x))
     (cond (eqb (t .form) 2) (Noise (record { noise = t .x; multiple = t .y }))
-    (cond (eqb (t .form) 3) (Parts (record { up = over (t .p) (t .q); down = over (t .below_p) (t .below_q) }))
+    (cond (eqb (t .form) 3) (Parts (record { up = over (t .p) (t .q); down = over (t .dp) (t .dq) }))
     (Ratio 0 0))))
 
 abbrev pub limitsOf : Limits → L.Limits
@@ -81,8 +81,8 @@ abbrev pub tolerancesOf : Tolerances → S.Tolerances
 tolerancesOf t = record { count = t .count; list = map entryOf (t .list) }
 
 abbrev pub heldOf : Holding → Held
-heldOf (IsHeld x) = record { number = 0; value = 0; p = x .up .p; q = x .up .q; below_p = x .down .p; below_q = x .down .q }
-heldOf (HoldRefused x) = record { number = numberOf x; value = returnedOf x; p = 0; q = 0; below_p = 0; below_q = 0 }
+heldOf (IsHeld x) = record { number = 0; value = 0; p = x .up .p; q = x .up .q; dp = x .down .p; dq = x .down .q }
+heldOf (HoldRefused x) = record { number = numberOf x; value = returnedOf x; p = 0; q = 0; dp = 0; dq = 0 }
 
 abbrev pub sideNumber : Side → ℕ
 sideNumber On = 0
@@ -136,8 +136,8 @@ writtenOf (Count n) = record { number = 0; value = n }
 writtenOf (NotWritten x) = record { number = numberOf x; value = returnedOf x }
 
 abbrev pub readOf : R.Answer → Content
-readOf (Samples n t) = record { number = 0; value = n; p = t .up .p; q = t .up .q; below_p = t .down .p; below_q = t .down .q }
-readOf (NotRead x) = record { number = numberOf x; value = returnedOf x; p = 0; q = 0; below_p = 0; below_q = 0 }
+readOf (Samples n t) = record { number = 0; value = n; p = t .up .p; q = t .up .q; dp = t .down .p; dq = t .down .q }
+readOf (NotRead x) = record { number = numberOf x; value = returnedOf x; p = 0; q = 0; dp = 0; dq = 0 }
 
 abbrev pub comparedOf : Comparison → Verdict
 comparedOf Same = record { number = 0; passed = 1; value = 0 }

@@ -6,7 +6,7 @@ use live::Viewed;
 use sheet::Sheet;
 
 // A tolerance: form 0 is the ratio p/q, form 1 is x counts, form 2 is the noise x times the multiple y, and form 3 is two parts, p/q above
-// the line and below_p/below_q below it. No other form is allowed.
+// the line and dp/dq below it. No other form is allowed.
 #[repr(C)]
 pub struct Tolerance {
     pub form: u64,
@@ -14,8 +14,8 @@ pub struct Tolerance {
     pub q: u64,
     pub x: f64,
     pub y: f64,
-    pub below_p: u64,
-    pub below_q: u64,
+    pub dp: u64,
+    pub dq: u64,
 }
 
 // What links are asked to meet: a tolerance, and a gap limit in ticks.
@@ -32,15 +32,15 @@ pub struct Tolerances {
     pub list: [Tolerance; 16],
 }
 
-// A tolerance in lowest terms under the number 0, its part above p/q and its part below below_p/below_q; or a refusal's number and value.
+// A tolerance in lowest terms under the number 0, its part above p/q and its part below dp/dq; or a refusal's number and value.
 #[repr(C)]
 pub struct Held {
     pub number: u32,
     pub value: u64,
     pub p: u64,
     pub q: u64,
-    pub below_p: u64,
-    pub below_q: u64,
+    pub dp: u64,
+    pub dq: u64,
 }
 
 // A link's error p/q, the first sample where it occurs and the number of its side under the number 0; or a refusal's number and value.
@@ -127,8 +127,8 @@ pub struct Content {
     pub value: u64,
     pub p: u64,
     pub q: u64,
-    pub below_p: u64,
-    pub below_q: u64,
+    pub dp: u64,
+    pub dq: u64,
 }
 
 // The totals of a crate's channels and the largest error p/q under the number 0, or a refusal's number and value.
@@ -172,10 +172,7 @@ pub fn tolerance_of(t: Tolerance) -> tolerance::Tolerance
     if form == 3 {
         let parts = tolerance::Parts {
             up: ratio::Ratio { p: t.p, q: t.q },
-            down: ratio::Ratio {
-                p: t.below_p,
-                q: t.below_q,
-            },
+            down: ratio::Ratio { p: t.dp, q: t.dq },
         };
         return tolerance::Tolerance::Parts(parts);
     }
@@ -233,8 +230,8 @@ pub fn held_of(h: engine::Holding) -> Held
                 value: 0,
                 p: up.p,
                 q: up.q,
-                below_p: down.p,
-                below_q: down.q,
+                dp: down.p,
+                dq: down.q,
             }
         }
         engine::Holding::Refused(x) => Held {
@@ -242,8 +239,8 @@ pub fn held_of(h: engine::Holding) -> Held
             value: refusal::returned(x) as u64,
             p: 0,
             q: 0,
-            below_p: 0,
-            below_q: 0,
+            dp: 0,
+            dq: 0,
         },
     }
 }
@@ -462,8 +459,8 @@ pub fn read_of(a: reader::Answer) -> Content
                 value: n as u64,
                 p: above.p,
                 q: above.q,
-                below_p: below.p,
-                below_q: below.q,
+                dp: below.p,
+                dq: below.q,
             }
         }
         reader::Answer::Refused(x) => Content {
@@ -471,8 +468,8 @@ pub fn read_of(a: reader::Answer) -> Content
             value: refusal::returned(x) as u64,
             p: 0,
             q: 0,
-            below_p: 0,
-            below_q: 0,
+            dp: 0,
+            dq: 0,
         },
     }
 }
