@@ -100,6 +100,32 @@ fn records() {
     }
 }
 
+/// The shipped pulse where a peak may be 2 too low and a trough 16 too high.
+#[test]
+fn example() {
+    let file = folder("parts_example").join("pulse.record");
+    let (file, pulse) = (path(&file), shipped("examples/pulse.csv"));
+    let pulse = path(&pulse);
+    let record = ["record", "--method", "minimum", "-o", file, pulse];
+    assert_eq!(printed(&at(&record, "2", "16"), ""), "");
+    let shown = printed(&["show", file], "");
+    let first = "# tolerance 2/1 16/1\n184320,415\n184392,414\n";
+    assert!(
+        shown.starts_with(first) && shown.lines().count() == 17,
+        "{shown}"
+    );
+    assert_eq!(printed(&["check", file, pulse], ""), "yes\n");
+    let scan = at(&["scan", pulse, "-t2"], "2", "16");
+    let expected = "\
+# kept by walk of 128 samples
+tolerance  kept  bytes
+      2/1    65    211
+ 2/1 16/1    34    126
+     16/1     8     40
+";
+    assert_eq!(printed(&[&scan[..], &["-t16"]].concat(), ""), expected);
+}
+
 /// Parts that are equal are one tolerance, however they are written: every command prints and writes the same
 /// bytes.
 #[test]
@@ -222,6 +248,14 @@ fn record_files() {
     }
     let cause = "<stdin>: the record is faulty at byte 17\n";
     fails(&["show"], &record[..20], cause);
+    // No record has two parts that are equal.
+    let mut equal = record.clone();
+    equal.copy_within(1..9, 9);
+    fails(
+        &["show"],
+        equal,
+        "<stdin>: no record: it is faulty at byte 0\n",
+    );
     // As many bytes as a record may have, and one more.
     let long: String = (0..4_096)
         .map(|k| format!("{k},{}\n", k % 2 * 999))
