@@ -359,6 +359,10 @@ mod tests {
             };
             assert_eq!(decode(&record[..length + 8]), Err(fault + 8));
         }
+        // One tolerance after another.
+        for (command, fault) in [(tolerance(1, 1), 9), (unequal((1, 2), (1, 3)), 17)] {
+            assert_eq!(decode(&[&command, &record[..]].concat()), Err(fault));
+        }
         let other = written((2, 3), (2, 1));
         assert_eq!(same(&record, &record), Ok(true));
         assert_eq!(same(&record, &other), Ok(false));
