@@ -1,7 +1,9 @@
 //! The program `reduce` as a user runs it: bytes through a pipe, and all that it prints compared with
 //! what the slow reference says of them. `rt check reduce` builds it.
 
-use kovrelna_reference::generate::{any_parts, content, trace, Random, KINDS};
+use kovrelna_reference::generate::{
+    any_parts, content, exceptional, near_parts, squeezed, trace, Random, KINDS,
+};
 use kovrelna_reference::record::{
     decode, encode, end, first, long, short, tolerance, unequal, Content,
 };
@@ -154,13 +156,20 @@ fn parts() {
             assert_eq!(run(&[&record]), "refused 8 at 0\n", "{bad:?}");
         }
     }
-    // The parts of other records, and every later fault 8 bytes further on.
+    // Other parts, and traces on which they matter.
     let random = &mut Random::new(35);
-    for _ in 0..40 {
+    for _ in 0..30 {
         let tolerance = any_parts(random);
         let samples = content(random.within(1, 12) as usize, random).samples;
         assert!(is_record(&encode(&Content { tolerance, samples })));
+        let (trace, least) = squeezed(random.within(3, 40) as usize, random);
+        let near = near_parts(least, random);
+        for (trace, tolerance) in [(trace, near), exceptional(random)] {
+            let samples = trace.ticks.into_iter().zip(trace.values).collect();
+            assert!(is_record(&encode(&Content { tolerance, samples })));
+        }
     }
+    // Every later fault is 8 bytes further on.
     for length in 0..record.len() {
         assert!(!is_record(&record[..length]));
     }
