@@ -21,11 +21,12 @@ use Rattle.trace.specs.declared.Criterion.{Criterion}
 use Rattle.trace.specs.Level.{level}
 use Rattle.trace.specs.Trace.{traceRows}
 use Rattle.trace.specs.declared.Side.the-variants.{Above}
+use Rattle.tolerance.specs.Meaning.{agree}
 use Rattle.trace.specs.Link.{deviation, above, below, within, allFrom, hole, obeys, allWithin, valid, criterion, greatest, farthest, linkError}
 use Rattle.measures.specs.Measure.{worstSample, faultOf}
 use Rattle.codes.specs.Code.{codeValue, codeValues}
 use Rattle.format.specs.Number.{bytesOnto}
-use Rattle.format.specs.Format.{stepsOnto, samplesOnto, encode}
+use Rattle.format.specs.Format.{stepsOnto, samplesOnto, toleranceCommand, encode}
 use Rattle.reduction.specs.Walking.{walkList}
 use Rattle.reduction.specs.Galloping.{gallopList, gallopTotal}
 use Rattle.shortest.specs.Shortest.{minimumList}
@@ -183,7 +184,7 @@ tick-not-above = refl
 
 slope-record : encode (contentOf slopeTicks slopeValues (0 ∷ 2 ∷ []) (unlimited (Ratio 2 3)))
     ≡ 0x54 ∷ 0 ∷ 0 ∷ 0 ∷ 0 ∷ 2 ∷ 0 ∷ 0 ∷ 3 ∷ 0x41 ∷ 0 ∷ 0 ∷ 0 ∷ 0 ∷ 0 ∷ 0 ∷ 0x53 ∷ 3 ∷ 1 ∷ 0x45 ∷ 0 ∷ 2 ∷ []
-unfolding encode samplesOnto stepsOnto bytesOnto criterionOf gcd euclid
+unfolding encode toleranceCommand agree samplesOnto stepsOnto bytesOnto criterionOf gcd euclid
 slope-record = refl
 
 -- ---- codes 31, 32, 63, 64, 255 give 31, 32, 94, 96, 8032

@@ -76,8 +76,8 @@ swing-minimum : minimumList fiveTicks swing high ≡ 0 ∷ 2 ∷ 3 ∷ 4 ∷ []
 unfolding minimumOf nextOf linksOf linksIn bestStop stops criterionOf valid obeys hole allWithin allFrom within above below deviation gcd euclid
 swing-minimum = refl
 
--- with U and D exchanged gallop and minimum keep other samples
-swing-exchanged : minimumList fiveTicks swing (criterionOf (unlimited (parts (over 1 1) (over 2 1)))) ≡ 0 ∷ 1 ∷ 4 ∷ []
+-- with U and D exchanged minimum keeps other samples
+swing-exchanged : minimumList fiveTicks swing (criterionOf (unlimited (parts (over 1 1) (over 2 1)))) ≡ 0 ∷ 1 ∷ 3 ∷ 4 ∷ []
 unfolding minimumOf nextOf linksOf linksIn bestStop stops criterionOf valid obeys hole allWithin allFrom within above below deviation gcd euclid
 swing-exchanged = refl
 
