@@ -89,8 +89,8 @@ module _ {ts : List ℕ} {vs : List ℤ} {c : Criterion} {links : List ℕ} {i l
     jn : j ≤ length ts - 1
     jn = omega (arith, inside)
 
-    pub end-room : j < length links
-    end-room = omega (arith, jn, s .counted .links-room)
+    pub ends-room : (b < length links) × (j < length links)
+    ends-room = (omega (arith, g .choosing .before, jn, s .counted .links-room), omega (arith, jn, s .counted .links-room))
 
     pub aim-requires : ReachBoth ts vs c st j
     aim-requires = reach-both at (s .trace) (omega (arith, g .choosing .from)) inside (s .bounded)

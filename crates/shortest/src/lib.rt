@@ -22,26 +22,12 @@ use trace::edges::start_at;
 use trace::gaps::end_of;
 use trace::gaps::run_from;
 
-// An end of a link: its sample, and the fewest links from it on.
-pub struct End {
-    pub sample: usize,
-    pub links: u16,
-}
-
 // The better of two ends of valid links: j if no more links lead on from it than from b; otherwise b.
-fn better(links: &[u16], b: End, j: usize) -> End
-    requires { ⌜ (b .links ≡ getD (now links) (b .sample) 0) × (j < length (now links)) ⌝ }
-    ensures is { λ r. ⌜ r .sample ≡ betterEnd (getD (now (links .entry)) j 0) (getD (now (links .entry)) (b .sample) 0) true j (b .sample) ⌝ }
-    ensures links { λ r. ⌜ r .links ≡ getD (now (links .entry)) (r .sample) 0 ⌝ }
+fn better(links: &[u16], b: usize, j: usize) -> usize
+    requires { ⌜ (b < length (now links)) × (j < length (now links)) ⌝ }
+    ensures { λ r. ⌜ r ≡ betterEnd (getD (now (links .entry)) j 0) (getD (now (links .entry)) b 0) true j b ⌝ }
 {
-    let n = links[j];
-    if b.links < n {
-        return b;
-    }
-    End {
-        sample: j,
-        links: n,
-    }
+    if links[b] < links[j] { b } else { j }
 }
 
 // The latest next sample of a shortest list from sample i, by one scan over the ends j of its links with one cone. The scan stops where
@@ -62,22 +48,19 @@ fn next_stop(
     let from = start_at(ticks, values, i);
     let first = i + 1;
     let mut cone = cone_of(aim_at(ticks, values, from, first, c), c);
-    let mut b = End {
-        sample: first,
-        links: links[first],
-    };
+    let mut b = first;
     let mut j = first + 1;
     while j <= limit {
         let to = aim_at(ticks, values, from, j, c);
         if admits(cone, to) {
             b = better(links, b, j);
         } else if is_closed_by(cone, to, x) {
-            return b.sample;
+            return b;
         }
         cone = extended(cone, to, c);
         j += 1;
     }
-    b.sample
+    b
 }
 
 // Fills both tables from the last sample back: the fewest links from each sample on, and the latest next sample of such a list.
