@@ -109,6 +109,9 @@ step-size t l t′ l′ = go (short l (t′ - t) l′)
     go true = omega arith
     go false = omega arith
 
+pub move-size : {ts : List ℕ} {vs : List ℤ} {l : List ℕ} {i : ℕ} {m : Move} → MoveFrom ts vs l i m → sizeOf (m .step) ≤ 6
+move-size {ts} {vs} {l} {i} m = rw (m .step-is) (step-size (tick (keptTicks ts l) i) (level (value (keptValues vs l) i)) (tick (keptTicks ts l) (i + 1)) (level (value (keptValues vs l) (i + 1))))
+
 module _ {ts : List ℕ} {vs : List ℤ} {l : List ℕ} (kept : Kept ts vs l) where
   rest-most : (n i : ℕ) → i + 1 + n ≡ length l → length (restOf (keptTicks ts l) (keptValues vs l) i) ≤ 6 * n + 3
   rest-most zero i e = omega (arith, end-length kept i (omega arith))

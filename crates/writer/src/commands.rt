@@ -5,6 +5,7 @@ ghost use Prim.Native.Nat.{_+_, _≤_};
 ghost use lib.ListN.{length};
 ghost use Rattle.lists.specs.Overwrite.{overwrite};
 ghost use Rattle.format.specs.Number.{bytesOnto};
+ghost use Rattle.tolerance.specs.Meaning.{HeldParts};
 ghost use Rattle.format.specs.declared.Command.the-variants.{Sides};
 ghost use Rattle.format.specs.Command.{sizeOf, commandOnto, Operands};
 ghost use Rattle.format.specs.Format.{toleranceCommand};
@@ -50,20 +51,35 @@ fn put_sides(part: &mut [u8], x: Parts)
     put_number(&mut part[14..], 3, down.q);
 }
 
-// A command goes to the start of part.
+// A command of at most 9 bytes goes to the start of part. Without that of parts that differ this is short enough to be compiled into each
+// place that calls it.
 pub fn put_command(part: &mut [u8], m: Command)
-    requires { ⌜ (sizeOf m ≤ length (now part)) × Operands m ⌝ }
+    requires { ⌜ (sizeOf m ≤ length (now part)) × Operands m × (sizeOf m ≤ 9) ⌝ }
     ensures { λ _. ⌜ now (part .exit) ≡ overwrite (commandOnto m []) (now (part .entry)) ⌝ }
 {
     match m {
         Command::Tolerance(r) => put_operands(part, 0x54, 5, r.p, 3, r.q),
-        Command::Sides(x) => put_sides(part, x),
         Command::First(tick, level) => put_operands(part, 0x41, 4, tick, 2, flip16(level)),
         Command::Short(advance, change) => put_operands(part, 0x53, 1, advance, 1, flip8(change)),
         Command::Long(advance, level) => put_operands(part, 0x4C, 3, advance, 2, flip16(level)),
         Command::End(samples) => put_operands(part, 0x45, 2, samples, 0, 0),
+        Command::Sides(_) => (),
         Command::Invalid => (),
     }
+}
+
+// The command of a tolerance goes to the start of part. Returns its bytes.
+pub fn put_tolerance(part: &mut [u8], x: Parts) -> usize
+    requires { ⌜ (sizeOf (toleranceCommand x) ≤ length (now part)) × HeldParts x ⌝ }
+    ensures { λ n. ⌜ (now (part .exit) ≡ overwrite (commandOnto (toleranceCommand x) []) (now (part .entry))) × (n ≡ sizeOf (toleranceCommand x)) ⌝ }
+{
+    if tolerance::agree(x) {
+        let both = x.up;
+        put_command(part, Command::Tolerance(both));
+        return 9;
+    }
+    put_sides(part, x);
+    17
 }
 
 // The bytes of a command.
@@ -79,15 +95,4 @@ pub fn size(m: Command) -> usize
         Command::End(_) => 3,
         Command::Invalid => 0,
     }
-}
-
-// The command that says a tolerance.
-pub fn tolerance_command(x: Parts) -> Command
-    ensures { λ m. ⌜ m ≡ toleranceCommand x ⌝ }
-{
-    if tolerance::agree(x) {
-        let both = x.up;
-        return Command::Tolerance(both);
-    }
-    Command::Sides(x)
 }

@@ -10,8 +10,8 @@ ghost use Rattle.tolerance.specs.Meaning.{HeldParts};
 ghost use Rattle.format.specs.Format.{encode};
 ghost use Rattle.writer.specs.Writing.{Kept, keptTicks, keptValues, selected, SampleAt, SampleOk, LengthOf, RestLength, startSize, startOf, restOf, mostBytes, ContentWritten};
 use commands::put_command;
+use commands::put_tolerance;
 use commands::size;
-use commands::tolerance_command;
 use format::Command;
 use refusal::Refusal;
 use samples::move_to;
@@ -62,7 +62,10 @@ fn rest_length(ticks: &[u32], values: &[i16], list: &[u16]) -> usize
 fn start_size(held: Parts) -> usize
     ensures { λ n. ⌜ (n ≡ startSize held) × (n ≤ 24) ⌝ }
 {
-    size(tolerance_command(held)) + 7
+    if tolerance::agree(held) {
+        return 16;
+    }
+    24
 }
 
 // The length of the record.
@@ -78,9 +81,7 @@ fn put_start(part: &mut [u8], held: Parts, s: Sample) -> usize
     requires { ⌜ (startSize held ≤ length (now part)) × HeldParts held × SampleOk s ⌝ }
     ensures { λ n. ⌜ (now (part .exit) ≡ overwrite (startOf held s) (now (part .entry))) × (n ≡ startSize held) ⌝ }
 {
-    let m = tolerance_command(held);
-    put_command(part, m);
-    let at = size(m);
+    let at = put_tolerance(part, held);
     put_command(&mut part[at..], Command::First(s.tick, s.level));
     at + 7
 }

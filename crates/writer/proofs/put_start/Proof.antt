@@ -1,61 +1,42 @@
 -- `writer::put_start` meets its contract: the first sample is written over the part after the tolerance. Assumes nothing.
-use mathlib.Core.Path.{_≡_, sym, ap, _∙_, subst}
+use mathlib.Core.Path.{sym, ap, _∙_}
 use mathlib.Core.List.{List, []}
 use Prim.Native.Nat.{ℕ, _+_, _≤_}
 use native.Mathlib.Omega.{arith}
 use lib.ListN.{length}
 use Rattle.lists.specs.Overwrite.{overwrite}
 use Rattle.lists.proofs.PartLaws.{part-length, written-part}
-use Rattle.format.specs.declared.Command.{Command}
 use Rattle.format.specs.declared.Command.the-variants.{First}
-use Rattle.format.specs.Command.{sizeOf, commandOnto, Operands}
+use Rattle.format.specs.Command.{commandOnto}
 use Rattle.format.specs.Format.{toleranceCommand}
 use Rattle.format.proofs.CommandLaws.{command-append, command-length}
-use Rattle.format.proofs.HeaderLaws.{tolerance-operands}
 use borrow.Author.Needs.{needs}
 use Rattle.writer.proofs.put_start.Statement.{statement}
 use Rattle.writer.proofs.put_start.Tie as tie
 
-abbrev start : tie.After-tolerance-command → tie.Start
-start c = c .before .before
+abbrev start : tie.After-put-tolerance → tie.Start
+start c = c .before .before .before
 
--- the bytes of the tolerance
-module _ (c : tie.After-size) where
-  abbrev put : tie.After-put-command
-  put = c .before .before .before
+room : (c : tie.After-put-tolerance) → c .put-tolerance .result + 7 ≤ length (c .put-tolerance .last .0)
+room c = omega (arith, c .put-tolerance .ensures .1, c .put-tolerance .kept .0, start c .pre .0)
 
-  at-is : c .size .result ≡ sizeOf (toleranceCommand (start (put .before .before) .args .held))
-  at-is = c .size .ensures .0 ∙ ap sizeOf (put .before .before .tolerance-command .ensures)
-
-  room : c .size .result + 7 ≤ length (put .put-command .last .0)
-  room = omega (arith, at-is, put .put-command .kept .0, start (put .before .before) .pre .0)
-
-tolerance-command-requires : tie.Need-tolerance-command-requires
-tolerance-command-requires c κs = search needs
-
-put-command-requires : tie.Need-put-command-requires
-put-command-requires c κs =
-    let t = c .before in
-    let s = start t in
-    subst (λ (m : Command). (sizeOf m ≤ length (s .args .part .now)) × Operands m) (sym (t .tolerance-command .ensures)) (omega (arith, s .pre .0), tolerance-operands (s .args .held) (s .pre .1))
-
-size-requires : tie.Need-size-requires
-size-requires c κs = search needs
+put-tolerance-requires : tie.Need-put-tolerance-requires
+put-tolerance-requires c κs = let s = c .before .before in (omega (arith, s .pre .0), s .pre .1)
 
 sub-put-command : tie.Need-sub-put-command
-sub-put-command c = omega (arith, room c)
+sub-put-command c = omega (arith, room (c .before .before))
 
 part-put-command-start : tie.Need-part-put-command-start
-part-put-command-start c = omega (arith, room c)
+part-put-command-start c = omega (arith, room (c .before .before))
 
 part-put-command-end : tie.Need-part-put-command-end
 part-put-command-end c = search needs
 
-put-command-requires-2 : tie.Need-put-command-requires-2
-put-command-requires-2 c κs =
-    let z = c .before in
-    let s = start (put z .before .before) in
-    (rw (part-length (put z .put-command .last .0) (z .size .result)) (omega (arith, room z)), (s .pre .2 .tick-bound, s .pre .2 .level-bound))
+put-command-requires : tie.Need-put-command-requires
+put-command-requires c κs =
+    let p = c .before .before .before in
+    let ok = start p .pre .2 in
+    (rw (part-length (p .put-tolerance .last .0) (p .put-tolerance .result)) (omega (arith, room p)), (ok .tick-bound, ok .level-bound), omega arith)
 
 add-result : tie.Need-add-result
 add-result c = search needs
@@ -66,30 +47,25 @@ same-length c = search needs
 returns : tie.Need-returns
 returns c =
     let g = c .before .before in
-    let z = g .before .before in
-    let f = put z in
-    let t = f .before .before in
-    let a = start t .args in
-    let m = t .tolerance-command .result in
+    let p = g .before .before .before .before in
+    let a = start p .args in
+    let m = toleranceCommand (a .held) in
     let first = commandOnto (First (a .s .tick) (a .s .level)) [] in
     let n = command-length m [] in (
-      written-part (f .put-command .last .0) (a .part .now) (commandOnto m []) first (g .put-command2 .last .0) (z .size .result) (f .put-command .ensures) (omega (arith, n, z .size .ensures .0)) (g .put-command2 .ensures)
-          ∙ ap (λ (x : List ℕ). overwrite x (a .part .now)) (sym (command-append m first))
-          ∙ ap (λ (k : Command). overwrite (commandOnto k first) (a .part .now)) (t .tolerance-command .ensures),
-      omega (arith, at-is z),
+      written-part (p .put-tolerance .last .0) (a .part .now) (commandOnto m []) first (g .put-command .last .0) (p .put-tolerance .result) (p .put-tolerance .ensures .0) (omega (arith, n, p .put-tolerance .ensures .1)) (g .put-command .ensures)
+          ∙ ap (λ (x : List ℕ). overwrite x (a .part .now)) (sym (command-append m first)),
+      omega (arith, p .put-tolerance .ensures .1),
     )
 
 pub put-start-spec : {M : Type 1} → statement M
 put-start-spec =
     tie.close
     (tie.spec
-    tolerance-command-requires
-    put-command-requires
-    size-requires
+    put-tolerance-requires
     sub-put-command
     part-put-command-start
     part-put-command-end
-    put-command-requires-2
+    put-command-requires
     add-result
     same-length
     returns)

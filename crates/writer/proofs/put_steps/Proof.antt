@@ -12,7 +12,7 @@ use Rattle.lists.proofs.PartLaws.{part-length}
 use Rattle.format.specs.Command.{sizeOf}
 use Rattle.writer.specs.Writing.{keptTicks, keptValues, restOf}
 use Rattle.writer.proofs.SelectedLaws.{list-few}
-use Rattle.writer.proofs.WritingLaws.{Counted, count-begins, counts, count-ends, Putting, put-begins, same-long, step-room, puts, end-room, put-ends}
+use Rattle.writer.proofs.WritingLaws.{move-size, Counted, count-begins, counts, count-ends, Putting, put-begins, same-long, step-room, puts, end-room, put-ends}
 use Rattle.writer.proofs.put_steps.Statement.{statement}
 use Rattle.writer.proofs.put_steps.Tie as tie
 
@@ -65,7 +65,7 @@ part-put-command-end c = search needs
 put-command-requires : tie.Need-put-command-requires Inv-loop μ-loop
 put-command-requires c κs =
     let m = c .before in
-    (rw (part-length (m .before .before .loop .part) (m .before .before .loop .at)) (omega (arith, room m)), m .move-to .ensures .operands)
+    (rw (part-length (m .before .before .loop .part) (m .before .before .loop .at)) (omega (arith, room m)), m .move-to .ensures .operands, omega (arith, move-size (m .move-to .ensures)))
 
 size-requires : tie.Need-size-requires Inv-loop μ-loop
 size-requires c κs = search needs
@@ -107,7 +107,7 @@ put-command-requires-2 : tie.Need-put-command-requires-2 Inv-loop μ-loop
 put-command-requires-2 c κs =
     let e = c .before in
     let l = e .before in
-    (rw (part-length (l .loop .part) (l .loop .at)) (omega (arith, last-room e)), omega (arith, list-few (start l .pre .0)))
+    (rw (part-length (l .loop .part) (l .loop .at)) (omega (arith, last-room e)), omega (arith, list-few (start l .pre .0)), omega arith)
 
 add-result : tie.Need-add-result Inv-loop μ-loop
 add-result c = omega (arith, last-room (c .before .before .before .before), same-long (start (l c) .pre .0) (l c .loop .inv .1), start (l c) .good .0 .0)

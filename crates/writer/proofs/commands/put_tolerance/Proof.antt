@@ -1,0 +1,58 @@
+-- `writer::commands::put_tolerance` meets its contract: each way writes the command that says its parts. Assumes nothing.
+use mathlib.Core.Path.{_≡_, sym, _∙_, subst}
+use native.Mathlib.Omega.{arith}
+use borrow.Author.Needs.{needs}
+use Rattle.format.specs.declared.Command.the-variants.{Tolerance, Sides}
+use Rattle.format.specs.Command.{Operands}
+use Rattle.format.specs.Format.{toleranceCommand}
+use Rattle.format.proofs.HeaderLaws.{agree-command, sides-command, tolerance-operands}
+use Rattle.writer.proofs.commands.put_tolerance.Statement.{statement}
+use Rattle.writer.proofs.commands.put_tolerance.Tie as tie
+
+one : (c : tie.Then1) → toleranceCommand (c .before .before .before .args .x) ≡ Tolerance (c .before .before .before .args .x .up)
+one c = agree-command _ (sym (c .before .agree .ensures) ∙ c .if1 .taken)
+
+two : (c : tie.Else1) → toleranceCommand (c .before .before .before .args .x) ≡ Sides (c .before .before .before .args .x)
+two c = sides-command _ (sym (c .before .agree .ensures) ∙ c .if1 .left)
+
+agree-requires : tie.Need-agree-requires
+agree-requires c κs = search needs
+
+put-command-requires : tie.Need-put-command-requires
+put-command-requires c κs =
+    let t = c .before .before in
+    let s = t .before .before .before in
+    (rw (one t) at (s .pre .0), subst Operands (one t) (tolerance-operands (s .args .x) (s .pre .1)), omega arith)
+
+same-length : tie.Need-same-length
+same-length c = search needs
+
+returns : tie.Need-returns
+returns c =
+    let p = c .before .before in
+    let t = p .before .before .before in
+    (rw (one t) (p .put-command .ensures), rw (one t))
+
+put-sides-requires : tie.Need-put-sides-requires
+put-sides-requires c κs = let e = c .before in rw (two e) at (e .before .before .before .pre .0)
+
+same-length-2 : tie.Need-same-length-2
+same-length-2 c = search needs
+
+returns-2 : tie.Need-returns-2
+returns-2 c =
+    let p = c .before .before in
+    let e = p .before .before in
+    (rw (two e) (p .put-sides .ensures), rw (two e))
+
+pub put-tolerance-spec : {M : Type 1} → statement M
+put-tolerance-spec =
+    tie.close
+    (tie.spec
+    agree-requires
+    put-command-requires
+    same-length
+    returns
+    put-sides-requires
+    same-length-2
+    returns-2)
