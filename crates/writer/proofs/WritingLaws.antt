@@ -1,4 +1,4 @@
--- Laws of the record in parts: its start, a step for each next sample, and the end; counted and written one after the other.
+-- Laws of the record in parts: its tolerance, the first sample, a step for each next one, and the end; counted and written one after the other.
 --   Counted     the bytes of the steps up to the kept sample at position i are counted
 --   Putting     they are written, and the sample is at hand
 -- Assumes nothing.
@@ -36,7 +36,7 @@ use Rattle.format.proofs.HeaderLaws.{tolerance-size}
 use Rattle.format.proofs.ParseEncode.{parse-encode}
 use Rattle.writer.specs.declared.Sample.{Sample}
 use Rattle.writer.specs.declared.Move.{Move}
-use Rattle.writer.specs.Writing.{Kept, keptTicks, keptValues, selected, writeRow, WrittenAt, SampleAt, stepAt, MoveFrom, startOf, startSize, restOf, RestLength, LengthOf, mostBytes}
+use Rattle.writer.specs.Writing.{Kept, keptTicks, keptValues, selected, writeRow, WrittenAt, SampleAt, stepAt, MoveFrom, keptSamples, restOf, RestLength, SamplesLength, LengthOf, mostBytes}
 use Rattle.writer.proofs.SelectedLaws.{list-some, kept-trace}
 
 -- ---- a record's parts
@@ -53,36 +53,40 @@ module _ (ts : List ℕ) (vs : List ℤ) (same : length vs ≡ length ts) where
   unfolding restOf stepsOnto
   rest-end i h = rw (drop-of-length-le ts {i = suc i} (omega arith))
 
-encode-parts : (x : Parts) (ts : List ℕ) (vs : List ℤ) → length vs ≡ length ts → 1 ≤ length ts
-    → encode (record { tolerance = x; ticks = ts; values = vs }) ≡ startOf x (record { tick = tick ts 0; level = level (value vs 0) }) ++ restOf ts vs 0
-unfolding encode samplesOnto restOf
-encode-parts x [] vs e h = absurd (not-suc-le-zero h)
-encode-parts x (t ∷ ts) [] e h = absurd (omega arith)
-encode-parts x (t ∷ ts) (v ∷ vs) e h =
-    let m : Command = toleranceCommand x in
-    command-append m _ ∙ ap (λ (y : List ℕ). commandOnto m [] ++ y) (command-append (First t (level v)) _)
-    ∙ sym (append-assoc (commandOnto m []) (commandOnto (First t (level v)) []) _)
-    ∙ ap (λ (y : List ℕ). y ++ restOf (t ∷ ts) (v ∷ vs) 0) (sym (command-append m (commandOnto (First t (level v)) [])))
+samples-parts : (ts : List ℕ) (vs : List ℤ) → length vs ≡ length ts → 1 ≤ length ts → samplesOnto ts vs ≡ commandOnto (First (tick ts 0) (level (value vs 0))) [] ++ restOf ts vs 0
+unfolding samplesOnto restOf
+samples-parts [] vs e h = absurd (not-suc-le-zero h)
+samples-parts (t ∷ ts) [] e h = absurd (omega arith)
+samples-parts (t ∷ ts) (v ∷ vs) e h = command-append (First t (level v)) _
 
-pub start-length : (x : Parts) (s : Sample) → length (startOf x s) ≡ startSize x
-start-length x s = command-length (toleranceCommand x) _ ∙ omega (arith, command-length (First (s .tick) (s .level)) [])
+-- a record is its tolerance's command and the samples' commands
+pub record-parts : (x : Parts) (ts : List ℕ) (vs : List ℤ) (l : List ℕ) → encode (selected x ts vs l) ≡ commandOnto (toleranceCommand x) [] ++ keptSamples ts vs l
+unfolding encode
+record-parts x ts vs l = command-append (toleranceCommand x) (keptSamples ts vs l)
+
+-- so is its length
+pub record-length : (x : Parts) (ts : List ℕ) (vs : List ℤ) (l : List ℕ) → length (encode (selected x ts vs l)) ≡ sizeOf (toleranceCommand x) + length (keptSamples ts vs l)
+unfolding encode
+record-length x ts vs l = command-length (toleranceCommand x) (keptSamples ts vs l)
+
+pub whole-length : {ts : List ℕ} {vs : List ℤ} {l : List ℕ} {n m k : ℕ} (x : Parts) → n ≡ sizeOf (toleranceCommand x) → SamplesLength ts vs l m → k ≡ n + m → LengthOf x ts vs l k
+whole-length {ts} {vs} {l} x e s f = record { is = omega (arith, e, f, s .is, record-length x ts vs l); range = s .range }
 
 module _ {ts : List ℕ} {vs : List ℤ} {l : List ℕ} (kept : Kept ts vs l) where
-  -- the record is its start, with the first kept sample, and the rest
-  pub record-parts : (x : Parts) {s : Sample} → SampleAt ts vs l 0 s → encode (selected x ts vs l) ≡ startOf x s ++ restOf (keptTicks ts l) (keptValues vs l) 0
-  record-parts x p =
+  -- the samples' commands are that of the first kept sample, and the rest
+  pub kept-parts : {s : Sample} → SampleAt ts vs l 0 s → keptSamples ts vs l ≡ commandOnto (First (s .tick) (s .level)) [] ++ restOf (keptTicks ts l) (keptValues vs l) 0
+  kept-parts p =
       let t = kept-trace kept in
-      rw (p .tick-is, p .level-is .is) (encode-parts x (keptTicks ts l) (keptValues vs l) (t .same) (t .some))
+      rw (p .tick-is, p .level-is .is) (samples-parts (keptTicks ts l) (keptValues vs l) (t .same) (t .some))
 
-  -- so is its length
-  pub record-length : (x : Parts) → length (encode (selected x ts vs l)) ≡ startSize x + length (restOf (keptTicks ts l) (keptValues vs l) 0)
-  record-length x =
+  pub kept-length : length (keptSamples ts vs l) ≡ 7 + length (restOf (keptTicks ts l) (keptValues vs l) 0)
+  kept-length =
       let t = kept-trace kept in
-      let s : Sample = record { tick = tick (keptTicks ts l) 0; level = level (value (keptValues vs l) 0) } in
-      ap length (encode-parts x (keptTicks ts l) (keptValues vs l) (t .same) (t .some)) ∙ length-append (startOf x s) (restOf (keptTicks ts l) (keptValues vs l) 0) ∙ omega (arith, start-length x s)
+      let m : Command = First (tick (keptTicks ts l) 0) (level (value (keptValues vs l) 0)) in
+      ap length (samples-parts (keptTicks ts l) (keptValues vs l) (t .same) (t .some)) ∙ length-append (commandOnto m []) (restOf (keptTicks ts l) (keptValues vs l) 0) ∙ omega (arith, command-length m [])
 
-  pub whole-length : {n m k : ℕ} (x : Parts) → n ≡ startSize x → RestLength ts vs l m → k ≡ n + m → LengthOf x ts vs l k
-  whole-length x e r f = record { is = omega (arith, e, f, r .is, record-length x); range = r .range }
+  pub samples-length : {n k : ℕ} → RestLength ts vs l n → k ≡ 7 + n → SamplesLength ts vs l k
+  samples-length r e = record { is = omega (arith, e, r .is, kept-length); range = r .range }
 
   step-bytes : (i : ℕ) → i + 1 < length l → {m : Command} → m ≡ stepAt (keptTicks ts l) (keptValues vs l) i
       → restOf (keptTicks ts l) (keptValues vs l) i ≡ commandOnto m [] ++ restOf (keptTicks ts l) (keptValues vs l) (i + 1)
@@ -118,7 +122,7 @@ module _ {ts : List ℕ} {vs : List ℤ} {l : List ℕ} (kept : Kept ts vs l) wh
   rest-most (suc n) i e = omega (arith, step-length kept i (omega arith) refl, step-size (tick (keptTicks ts l) i) (level (value (keptValues vs l) i)) (tick (keptTicks ts l) (i + 1)) (level (value (keptValues vs l) (i + 1))), rest-most n (i + 1) (omega arith))
 
   pub record-most : (x : Parts) → length (encode (selected x ts vs l)) ≤ mostBytes x (length l)
-  record-most x = omega (arith, record-length kept x, rest-most (length l - 1) 0 (omega (arith, list-some kept)), list-some kept)
+  record-most x = omega (arith, record-length x ts vs l, kept-length kept, rest-most (length l - 1) 0 (omega (arith, list-some kept)), list-some kept)
 
 -- with parts that differ too
 pub most-bytes : (x : Parts) (n : ℕ) → mostBytes x n ≤ 21 + 6 * n

@@ -6,9 +6,10 @@
 --   ContentWritten             what is answered, and what the buffer then holds
 -- For the kernels:
 --   keptTicks, keptValues, SampleAt, SampleOk   the kept samples; one of them; its ranges
+--   keptSamples                                 their commands
 --   StepBetween, StepOk, stepAt, MoveFrom       the steps between them
---   startOf, startSize, restOf                  the record up to its first sample; its bytes; the record from a sample on
---   RestLength, LengthOf                        the bytes after the first sample; the record's length
+--   restOf                                      the record from a sample on
+--   RestLength, SamplesLength, LengthOf         the bytes after the first sample; those after the tolerance; the record's length
 --   mostBytes                                   the most bytes of a record of so many samples
 -- Laws are in SelectedLaws and WritingLaws. Assumes nothing.
 use mathlib.Core.Path.{_≡_}
@@ -28,9 +29,9 @@ use Rattle.tolerance.specs.declared.Parts.{Parts}
 use Rattle.trace.specs.Trace.{tick, value, Trace}
 use Rattle.trace.specs.Level.{level, LevelOf}
 use Rattle.format.specs.declared.Command.{Command}
-use Rattle.format.specs.declared.Command.the-variants.{First, End}
+use Rattle.format.specs.declared.Command.the-variants.{End}
 use Rattle.format.specs.Command.{sizeOf, commandOnto, Operands}
-use Rattle.format.specs.Format.{Content, Accepted, toleranceCommand, stepTo, stepsOnto, encode}
+use Rattle.format.specs.Format.{Content, Accepted, toleranceCommand, stepTo, stepsOnto, samplesOnto, encode}
 use Rattle.writer.specs.declared.Answer.{Answer}
 use Rattle.writer.specs.declared.Answer.the-variants.{Written, Refused}
 use Rattle.writer.specs.declared.Sample.{Sample}
@@ -103,11 +104,9 @@ pub record MoveFrom (ts : List ℕ) (vs : List ℤ) (l : List ℕ) (i : ℕ) (m 
 
 -- ---- the record in parts
 
-abbrev pub startOf : Parts → Sample → List ℕ
-startOf x s = commandOnto (toleranceCommand x) (commandOnto (First (s .tick) (s .level)) [])
-
-abbrev pub startSize : Parts → ℕ
-startSize x = sizeOf (toleranceCommand x) + 7
+-- the samples' commands: the first sample, the steps and the end
+abbrev pub keptSamples : List ℕ → List ℤ → List ℕ → List ℕ
+keptSamples ts vs l = samplesOnto (keptTicks ts l) (keptValues vs l)
 
 -- the steps after sample i, and the end
 unfoldable pub restOf : List ℕ → List ℤ → ℕ → List ℕ
@@ -118,11 +117,16 @@ pub record RestLength (ts : List ℕ) (vs : List ℤ) (l : List ℕ) (n : ℕ) :
   pub is : n ≡ length (restOf (keptTicks ts l) (keptValues vs l) 0)
   pub range : (k : ℕ) → mag (value (keptValues vs l) k) < 32768
 
+-- n bytes follow the tolerance
+pub record SamplesLength (ts : List ℕ) (vs : List ℤ) (l : List ℕ) (n : ℕ) : Type 0 where
+  pub is : n ≡ length (keptSamples ts vs l)
+  pub range : (k : ℕ) → mag (value (keptValues vs l) k) < 32768
+
 -- n is the record's length
 pub record LengthOf (x : Parts) (ts : List ℕ) (vs : List ℤ) (l : List ℕ) (n : ℕ) : Type 0 where
   pub is : n ≡ length (encode (selected x ts vs l))
   pub range : (k : ℕ) → mag (value (keptValues vs l) k) < 32768
 
--- a start, and at most 6 bytes for each step and 3 for the end
+-- the tolerance, 7 bytes for the first sample, at most 6 for each step, and 3 for the end
 abbrev pub mostBytes : Parts → ℕ → ℕ
-mostBytes x n = startSize x + 6 * n - 3
+mostBytes x n = sizeOf (toleranceCommand x) + 4 + 6 * n

@@ -7,8 +7,9 @@ ghost use lib.Dec.{leb};
 ghost use lib.ListN.{length};
 ghost use Rattle.lists.specs.Overwrite.{overwrite};
 ghost use Rattle.tolerance.specs.Meaning.{HeldParts};
-ghost use Rattle.format.specs.Format.{encode};
-ghost use Rattle.writer.specs.Writing.{Kept, keptTicks, keptValues, selected, SampleAt, SampleOk, LengthOf, RestLength, startSize, startOf, restOf, mostBytes, ContentWritten};
+ghost use Rattle.format.specs.Command.{sizeOf};
+ghost use Rattle.format.specs.Format.{toleranceCommand, encode};
+ghost use Rattle.writer.specs.Writing.{Kept, keptTicks, keptValues, keptSamples, selected, SampleAt, restOf, RestLength, SamplesLength, LengthOf, mostBytes, ContentWritten};
 use commands::put_command;
 use commands::put_tolerance;
 use commands::size;
@@ -39,10 +40,10 @@ pub struct Move {
 pub mod commands;
 pub mod samples;
 
-// The bytes of the steps after the first kept sample, and of the end.
-fn rest_length(ticks: &[u32], values: &[i16], list: &[u16]) -> usize
+// The bytes of the samples' commands: the first sample, the steps and the end.
+fn samples_length(ticks: &[u32], values: &[i16], list: &[u16]) -> usize
     requires { ⌜ Kept (now ticks) (now values) (now list) ⌝ }
-    ensures { λ n. ⌜ RestLength (now (ticks .entry)) (now (values .entry)) (now (list .entry)) n × (n ≤ 69632) ⌝ }
+    ensures { λ n. ⌜ SamplesLength (now (ticks .entry)) (now (values .entry)) (now (list .entry)) n × (n ≤ 69632) ⌝ }
 {
     let n = list.len();
     let mut s = sample_at(ticks, values, list, 0);
@@ -55,17 +56,17 @@ fn rest_length(ticks: &[u32], values: &[i16], list: &[u16]) -> usize
         s = m.to;
         i += 1;
     }
-    total + 3
+    7 + total + 3
 }
 
-// The bytes of the tolerance and the first sample.
-fn start_size(held: Parts) -> usize
-    ensures { λ n. ⌜ (n ≡ startSize held) × (n ≤ 24) ⌝ }
+// The bytes of the tolerance's command.
+fn tolerance_size(held: Parts) -> usize
+    ensures { λ n. ⌜ (n ≡ sizeOf (toleranceCommand held)) × (n ≤ 17) ⌝ }
 {
     if tolerance::agree(held) {
-        return 16;
+        return 9;
     }
-    24
+    17
 }
 
 // The length of the record.
@@ -73,17 +74,7 @@ fn record_length(ticks: &[u32], values: &[i16], list: &[u16], held: Parts) -> us
     requires { ⌜ Kept (now ticks) (now values) (now list) ⌝ }
     ensures { λ n. ⌜ LengthOf held (now (ticks .entry)) (now (values .entry)) (now (list .entry)) n ⌝ }
 {
-    start_size(held) + rest_length(ticks, values, list)
-}
-
-// The tolerance and the first sample go to the start of part. Returns their bytes.
-fn put_start(part: &mut [u8], held: Parts, s: Sample) -> usize
-    requires { ⌜ (startSize held ≤ length (now part)) × HeldParts held × SampleOk s ⌝ }
-    ensures { λ n. ⌜ (now (part .exit) ≡ overwrite (startOf held s) (now (part .entry))) × (n ≡ startSize held) ⌝ }
-{
-    let at = put_tolerance(part, held);
-    put_command(&mut part[at..], Command::First(s.tick, s.level));
-    at + 7
+    tolerance_size(held) + samples_length(ticks, values, list)
 }
 
 // The steps after the first kept sample, and the end, go to the start of part. Returns their bytes.
@@ -107,14 +98,24 @@ fn put_steps(part: &mut [u8], ticks: &[u32], values: &[i16], list: &[u16], first
     at + 3
 }
 
+// The samples' commands go to the start of part. Returns their bytes.
+fn put_samples(part: &mut [u8], ticks: &[u32], values: &[i16], list: &[u16]) -> usize
+    requires { ⌜ Kept (now ticks) (now values) (now list) × (length (keptSamples (now ticks) (now values) (now list)) ≤ length (now part)) ⌝ }
+    ensures { λ n. ⌜ (now (part .exit) ≡ overwrite (keptSamples (now (ticks .entry)) (now (values .entry)) (now (list .entry))) (now (part .entry))) × SamplesLength (now (ticks .entry)) (now (values .entry)) (now (list .entry)) n ⌝ }
+{
+    let s = sample_at(ticks, values, list, 0);
+    put_command(part, Command::First(s.tick, s.level));
+    let rest = put_steps(&mut part[7..], ticks, values, list, s);
+    7 + rest
+}
+
 // The record goes to the start of part. Returns its length.
 fn put_record(part: &mut [u8], ticks: &[u32], values: &[i16], list: &[u16], held: Parts) -> usize
     requires { ⌜ Kept (now ticks) (now values) (now list) × HeldParts held × (length (encode (selected held (now ticks) (now values) (now list))) ≤ length (now part)) ⌝ }
     ensures { λ n. ⌜ (now (part .exit) ≡ overwrite (encode (selected held (now (ticks .entry)) (now (values .entry)) (now (list .entry)))) (now (part .entry))) × LengthOf held (now (ticks .entry)) (now (values .entry)) (now (list .entry)) n ⌝ }
 {
-    let s = sample_at(ticks, values, list, 0);
-    let at = put_start(part, held, s);
-    let rest = put_steps(&mut part[at..], ticks, values, list, s);
+    let at = put_tolerance(part, held);
+    let rest = put_samples(&mut part[at..], ticks, values, list);
     at + rest
 }
 
@@ -146,7 +147,7 @@ fn most_bytes(held: Parts, samples: usize) -> usize
     requires { ⌜ samples ≤ 4096 ⌝ }
     ensures { λ n. ⌜ n ≡ mostBytes held samples ⌝ }
 {
-    start_size(held) + 6 * samples - 3
+    tolerance_size(held) + 4 + 6 * samples
 }
 
 // Whether a buffer has room for n bytes from a place on.

@@ -1,11 +1,11 @@
--- `writer::rest_length` meets its contract: at each turn the bytes of the steps up to a kept sample are counted. Assumes nothing.
+-- `writer::samples_length` meets its contract: at each turn the bytes of the steps up to a kept sample are counted. Assumes nothing.
 use Prim.Native.Nat.{_-_}
 use native.Mathlib.Omega.{arith}
 use borrow.Author.Needs.{needs}
 use Rattle.writer.proofs.SelectedLaws.{list-some, list-few}
-use Rattle.writer.proofs.WritingLaws.{Counted, count-begins, counts, count-ends}
-use Rattle.writer.proofs.rest_length.Statement.{statement}
-use Rattle.writer.proofs.rest_length.Tie as tie
+use Rattle.writer.proofs.WritingLaws.{samples-length, Counted, count-begins, counts, count-ends}
+use Rattle.writer.proofs.samples_length.Statement.{statement}
+use Rattle.writer.proofs.samples_length.Tie as tie
 
 abbrev Inv-loop : tie.InvT-loop
 Inv-loop ticks values list n s₀ total₀ i₀ s total i = Counted ticks values list s total i
@@ -51,14 +51,19 @@ add-result c =
     let l = c .before in
     omega (arith, l .loop .inv .small, l .loop .inv .within, list-few (l .before .before .before .before .pre))
 
+add-result-2 : tie.Need-add-result-2 Inv-loop μ-loop
+add-result-2 c =
+    let l = c .before in
+    omega (arith, l .loop .inv .small, l .loop .inv .within, list-few (l .before .before .before .before .pre))
+
 returns : tie.Need-returns Inv-loop μ-loop
 returns c =
     let l = c .before in
     let k = l .before .before .before .before .pre in
-    (count-ends k (l .loop .inv) (c .loop-test .left), omega (arith, l .loop .inv .small, l .loop .inv .within, list-few k))
+    (samples-length k (count-ends k (l .loop .inv) (c .loop-test .left)) (omega arith), omega (arith, l .loop .inv .small, l .loop .inv .within, list-few k))
 
-pub rest-length-spec : {M : Type 1} → statement M
-rest-length-spec =
+pub samples-length-spec : {M : Type 1} → statement M
+samples-length-spec =
     tie.close
     (tie.spec
     Inv-loop
@@ -73,4 +78,5 @@ rest-length-spec =
     loop-less
     loop-again
     add-result
+    add-result-2
     returns)
