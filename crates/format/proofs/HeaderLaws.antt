@@ -74,7 +74,7 @@ sides-are-sides x h e = rw (held-is-held (x .up) (h .up), held-is-held (x .down)
 -- ---- a held tolerance as it is written is read
 
 module _ (x : Parts) (h : HeldParts x) where
-  pub tolerance-operands : Operands (toleranceCommand x)
+  tolerance-operands : Operands (toleranceCommand x)
   tolerance-operands = by-test (agree x)
       (λ e. subst Operands (sym (agree-command x e)) (omega (arith, h .up), omega (arith, h .up)))
       (λ e. subst Operands (sym (sides-command x e)) ((omega (arith, h .up), omega (arith, h .up)), (omega (arith, h .down), omega (arith, h .down))))

@@ -1,6 +1,6 @@
 -- Laws of the samples that a kept list selects of a trace, as the writer takes them.
 -- Assumes nothing.
-use mathlib.Core.Path.{sym, _∙_}
+use mathlib.Core.Path.{_≡_, sym, _∙_}
 use mathlib.Core.List.{List}
 use Prim.Native.Nat.{ℕ, _+_, _-_, _≤_, _<_}
 use native.Mathlib.Numerals.{add-one}
@@ -21,7 +21,7 @@ use Rattle.trace.proofs.Level.{short}
 use Rattle.tolerance.specs.declared.Parts.{Parts}
 use Rattle.tolerance.specs.Meaning.{HeldParts}
 use Rattle.format.specs.Format.{Legal}
-use Rattle.writer.specs.Writing.{Kept, keptTicks, keptValues, selected, SampleAt, SampleOk, StepBetween}
+use Rattle.writer.specs.Writing.{Kept, keptTicks, keptValues, selected, SampleAt, StepBetween, stepFrom, stepAt}
 use Rattle.writer.specs.declared.Sample.{Sample}
 
 module _ {ts : List ℕ} {vs : List ℤ} {l : List ℕ} (kept : Kept ts vs l) where
@@ -67,8 +67,5 @@ module _ {ts : List ℕ} {vs : List ℤ} {l : List ℕ} (kept : Kept ts vs l) wh
           to = short (q .level-is);
         }
 
-  pub sample-ok : ((k : ℕ) → tick ts k ≤ 4294967295) → {i : ℕ} {s : Sample} → SampleAt ts vs l i s → SampleOk s
-  sample-ok a {i} p = record {
-    tick-bound = omega (arith, p .tick-is, select-all 0 ts (λ (t : ℕ). t ≤ 4294967295) (omega arith) a l i);
-    level-bound = short (p .level-is);
-  }
+  pub step-same : {i : ℕ} {a b : Sample} → SampleAt ts vs l i a → SampleAt ts vs l (i + 1) b → stepFrom a b ≡ stepAt (keptTicks ts l) (keptValues vs l) i
+  step-same p q = rw (p .tick-is, p .level-is .is, q .tick-is, q .level-is .is)

@@ -29,15 +29,19 @@ use Rattle.trace.specs.Trace.{tick, value}
 use Rattle.trace.specs.Level.{level}
 use Rattle.format.specs.declared.Command.{Command}
 use Rattle.format.specs.declared.Command.the-variants.{First, Short, Long, End}
+use Rattle.format.specs.Number.{bytesOnto}
 use Rattle.format.specs.Command.{sizeOf, choose, commandOnto}
 use Rattle.format.specs.Format.{Content, Legal, short, toleranceCommand, stepTo, stepsOnto, samplesOnto, encode}
 use Rattle.format.proofs.CommandLaws.{command-append, command-length}
 use Rattle.format.proofs.HeaderLaws.{tolerance-size}
 use Rattle.format.proofs.ParseEncode.{parse-encode}
 use Rattle.writer.specs.declared.Sample.{Sample}
-use Rattle.writer.specs.declared.Move.{Move}
-use Rattle.writer.specs.Writing.{Kept, keptTicks, keptValues, selected, writeRow, WrittenAt, SampleAt, stepAt, MoveFrom, keptSamples, restOf, RestLength, SamplesLength, LengthOf, mostBytes}
-use Rattle.writer.proofs.SelectedLaws.{list-some, kept-trace}
+use Rattle.writer.specs.Writing.{Kept, keptTicks, keptValues, selected, writeRow, WrittenAt, SampleAt, stepFrom, stepAt, keptSamples, restOf, RestLength, SamplesLength, LengthOf, mostBytes}
+use Rattle.writer.proofs.SelectedLaws.{list-some, kept-trace, step-same}
+
+-- the second operand of a command is written as x, which is y
+pub operand-is : {x y : ℕ} {p : List ℕ} (o : List ℕ) (kind i a j : ℕ) → x ≡ y → p ≡ overwrite (kind ∷ bytesOnto i a (bytesOnto j x [])) o → p ≡ overwrite (kind ∷ bytesOnto i a (bytesOnto j y [])) o
+operand-is o kind i a j e h = h ∙ ap (λ (z : ℕ). overwrite (kind ∷ bytesOnto i a (bytesOnto j z [])) o) e
 
 -- ---- a record's parts
 
@@ -88,14 +92,13 @@ module _ {ts : List ℕ} {vs : List ℤ} {l : List ℕ} (kept : Kept ts vs l) wh
   pub samples-length : {n k : ℕ} → RestLength ts vs l n → k ≡ 7 + n → SamplesLength ts vs l k
   samples-length r e = record { is = omega (arith, e, r .is, kept-length); range = r .range }
 
-  step-bytes : (i : ℕ) → i + 1 < length l → {m : Command} → m ≡ stepAt (keptTicks ts l) (keptValues vs l) i
-      → restOf (keptTicks ts l) (keptValues vs l) i ≡ commandOnto m [] ++ restOf (keptTicks ts l) (keptValues vs l) (i + 1)
-  step-bytes i h e = rw e (rest-step (keptTicks ts l) (keptValues vs l) (kept-trace kept .same) i (rw (select-length 0 ts l) h))
+  module _ {i : ℕ} {a b : Sample} (h : i + 1 < length l) (p : SampleAt ts vs l i a) (q : SampleAt ts vs l (i + 1) b) where
+    step-bytes : restOf (keptTicks ts l) (keptValues vs l) i ≡ commandOnto (stepFrom a b) [] ++ restOf (keptTicks ts l) (keptValues vs l) (i + 1)
+    step-bytes = rw (step-same kept p q) (rest-step (keptTicks ts l) (keptValues vs l) (kept-trace kept .same) i (rw (select-length 0 ts l) h))
 
-  step-length : (i : ℕ) → i + 1 < length l → {m : Command} → m ≡ stepAt (keptTicks ts l) (keptValues vs l) i
-      → length (restOf (keptTicks ts l) (keptValues vs l) i) ≡ sizeOf m + length (restOf (keptTicks ts l) (keptValues vs l) (i + 1))
-  step-length i h {m} e =
-      ap length (step-bytes i h e) ∙ length-append (commandOnto m []) (restOf (keptTicks ts l) (keptValues vs l) (i + 1)) ∙ omega (arith, command-length m [])
+    step-length : length (restOf (keptTicks ts l) (keptValues vs l) i) ≡ sizeOf (stepFrom a b) + length (restOf (keptTicks ts l) (keptValues vs l) (i + 1))
+    step-length =
+        ap length step-bytes ∙ length-append (commandOnto (stepFrom a b) []) (restOf (keptTicks ts l) (keptValues vs l) (i + 1)) ∙ omega (arith, command-length (stepFrom a b) [])
 
   end-bytes : (i : ℕ) → length l ≤ i + 1 → restOf (keptTicks ts l) (keptValues vs l) i ≡ commandOnto (End (length l)) []
   end-bytes i h =
@@ -113,13 +116,20 @@ step-size t l t′ l′ = go (short l (t′ - t) l′)
     go true = omega arith
     go false = omega arith
 
-pub move-size : {ts : List ℕ} {vs : List ℤ} {l : List ℕ} {i : ℕ} {m : Move} → MoveFrom ts vs l i m → sizeOf (m .step) ≤ 6
-move-size {ts} {vs} {l} {i} m = rw (m .step-is) (step-size (tick (keptTicks ts l) i) (level (value (keptValues vs l) i)) (tick (keptTicks ts l) (i + 1)) (level (value (keptValues vs l) (i + 1))))
-
 module _ {ts : List ℕ} {vs : List ℤ} {l : List ℕ} (kept : Kept ts vs l) where
   rest-most : (n i : ℕ) → i + 1 + n ≡ length l → length (restOf (keptTicks ts l) (keptValues vs l) i) ≤ 6 * n + 3
   rest-most zero i e = omega (arith, end-length kept i (omega arith))
-  rest-most (suc n) i e = omega (arith, step-length kept i (omega arith) refl, step-size (tick (keptTicks ts l) i) (level (value (keptValues vs l) i)) (tick (keptTicks ts l) (i + 1)) (level (value (keptValues vs l) (i + 1))), rest-most n (i + 1) (omega arith))
+  rest-most (suc n) i e =
+      let m : Command = stepAt (keptTicks ts l) (keptValues vs l) i in
+      let r = restOf (keptTicks ts l) (keptValues vs l) (i + 1) in
+      let f = ap length (rest-step (keptTicks ts l) (keptValues vs l) (kept-trace kept .same) i (rw (select-length 0 ts l) (omega arith))) in
+      omega (
+        arith,
+        f ∙ length-append (commandOnto m []) r,
+        command-length m [],
+        step-size (tick (keptTicks ts l) i) (level (value (keptValues vs l) i)) (tick (keptTicks ts l) (i + 1)) (level (value (keptValues vs l) (i + 1))),
+        rest-most n (i + 1) (omega arith),
+      )
 
   pub record-most : (x : Parts) → length (encode (selected x ts vs l)) ≤ mostBytes x (length l)
   record-most x = omega (arith, record-length x ts vs l, kept-length kept, rest-most (length l - 1) 0 (omega (arith, list-some kept)), list-some kept)
@@ -133,7 +143,7 @@ most-bytes x n = omega (arith, tolerance-size x)
 pub record Counted (ts : List ℕ) (vs : List ℤ) (l : List ℕ) (s : Sample) (total i : ℕ) : Type 0 where
   pub within : i < length l
   pub sample : SampleAt ts vs l i s
-  pub small : total ≤ 17 * i
+  pub small : total ≤ 6 * i
   pub is : length (restOf (keptTicks ts l) (keptValues vs l) 0) ≡ total + length (restOf (keptTicks ts l) (keptValues vs l) i)
   pub range : (k : ℕ) → k < i + 1 → mag (value (keptValues vs l) k) < 32768
 
@@ -147,14 +157,14 @@ module _ {ts : List ℕ} {vs : List ℤ} {l : List ℕ} (kept : Kept ts vs l) wh
     range = below-more _ _ (λ k h. absurd (omega arith)) (p .level-is .range);
   }
 
-  pub counts : {s : Sample} {total i : ℕ} → Counted ts vs l s total i → i + 1 < length l → {m : Move} → MoveFrom ts vs l i m → {k : ℕ} → k ≡ sizeOf (m .step) → k ≤ 17
-      → Counted ts vs l (m .to) (total + k) (i + 1)
-  counts {i = i} c h m e small = record {
+  pub counts : {s : Sample} {total i : ℕ} → Counted ts vs l s total i → i + 1 < length l → {b : Sample} → SampleAt ts vs l (i + 1) b → {k : ℕ} → k ≡ sizeOf (stepFrom s b) → k ≤ 6
+      → Counted ts vs l b (total + k) (i + 1)
+  counts c h q e small = record {
     within = h;
-    sample = m .to-is;
+    sample = q;
     small = omega (arith, c .small);
-    is = c .is ∙ omega (arith, step-length kept i h (m .step-is));
-    range = below-more _ _ (c .range) (m .to-is .level-is .range);
+    is = c .is ∙ omega (arith, step-length kept h (c .sample) q);
+    range = below-more _ _ (c .range) (q .level-is .range);
   }
 
   pub count-ends : {s : Sample} {total i : ℕ} → Counted ts vs l s total i → length l ≤ i + 1 → RestLength ts vs l (total + 3)
@@ -187,21 +197,21 @@ module _ {ts : List ℕ} {vs : List ℤ} {l : List ℕ} (kept : Kept ts vs l) wh
     pub same-long : length part ≡ length o
     same-long = ap length (g .over) ∙ overwrite-length w o (omega (arith, g .room, g .long, total))
 
-    -- there is room for the next step
-    pub step-room : i + 1 < length l → {m : Move} → MoveFrom ts vs l i m → at + sizeOf (m .step) ≤ length part
-    step-room h m = omega (arith, same-long, g .room, total, step-length kept i h (m .step-is))
+    module _ (h : i + 1 < length l) {b : Sample} (q : SampleAt ts vs l (i + 1) b) where
+      -- there is room for the next step
+      pub step-room : at + sizeOf (stepFrom s b) ≤ length part
+      step-room = omega (arith, same-long, g .room, total, step-length kept h (g .sample) q)
 
-    pub puts : i + 1 < length l → {m : Move} → MoveFrom ts vs l i m → {k : ℕ} → k ≡ sizeOf (m .step)
-        → {ys : List ℕ} → ys ≡ overwrite (commandOnto (m .step) []) (take (length part - at) (drop at part))
-        → Putting ts vs l o (putMid at (length part - at) part ys) (m .to) (at + k) (i + 1) (w ++ commandOnto (m .step) [])
-    puts h {m = mv} m e {ys} y = record {
-      within = h;
-      sample = m .to-is;
-      rest = g .rest ∙ ap (λ (x : List ℕ). w ++ x) (step-bytes kept i h (m .step-is)) ∙ sym (append-assoc w (commandOnto (mv .step) []) (restOf (keptTicks ts l) (keptValues vs l) (i + 1)));
-      over = written-part part o w (commandOnto (mv .step) []) ys at (g .over) (g .long) y;
-      long = length-append w (commandOnto (mv .step) []) ∙ omega (arith, g .long, command-length (mv .step) []);
-      room = g .room;
-    }
+      pub puts : {k : ℕ} → k ≡ sizeOf (stepFrom s b) → {ys : List ℕ} → ys ≡ overwrite (commandOnto (stepFrom s b) []) (take (length part - at) (drop at part))
+          → Putting ts vs l o (putMid at (length part - at) part ys) b (at + k) (i + 1) (w ++ commandOnto (stepFrom s b) [])
+      puts e {ys} y = record {
+        within = h;
+        sample = q;
+        rest = g .rest ∙ ap (λ (x : List ℕ). w ++ x) (step-bytes kept h (g .sample) q) ∙ sym (append-assoc w (commandOnto (stepFrom s b) []) (restOf (keptTicks ts l) (keptValues vs l) (i + 1)));
+        over = written-part part o w (commandOnto (stepFrom s b) []) ys at (g .over) (g .long) y;
+        long = length-append w (commandOnto (stepFrom s b) []) ∙ omega (arith, g .long, command-length (stepFrom s b) []);
+        room = g .room;
+      }
 
     -- and for the end
     pub end-room : length l ≤ i + 1 → at + 3 ≤ length part

@@ -5,9 +5,9 @@
 --   WrittenAt, WriteDeclined   what holds of each answer
 --   ContentWritten             what is answered, and what the buffer then holds
 -- For the kernels:
---   keptTicks, keptValues, SampleAt, SampleOk   the kept samples; one of them; its ranges
+--   keptTicks, keptValues, SampleAt             the kept samples; one of them
 --   keptSamples                                 their commands
---   StepBetween, StepOk, stepAt, MoveFrom       the steps between them
+--   StepBetween, stepFrom, stepAt               the steps between them
 --   restOf                                      the record from a sample on
 --   RestLength, SamplesLength, LengthOf         the bytes after the first sample; those after the tolerance; the record's length
 --   mostBytes                                   the most bytes of a record of so many samples
@@ -30,12 +30,11 @@ use Rattle.trace.specs.Trace.{tick, value, Trace}
 use Rattle.trace.specs.Level.{level, LevelOf}
 use Rattle.format.specs.declared.Command.{Command}
 use Rattle.format.specs.declared.Command.the-variants.{End}
-use Rattle.format.specs.Command.{sizeOf, commandOnto, Operands}
+use Rattle.format.specs.Command.{sizeOf, commandOnto}
 use Rattle.format.specs.Format.{Content, Accepted, toleranceCommand, stepTo, stepsOnto, samplesOnto, encode}
 use Rattle.writer.specs.declared.Answer.{Answer}
 use Rattle.writer.specs.declared.Answer.the-variants.{Written, Refused}
 use Rattle.writer.specs.declared.Sample.{Sample}
-use Rattle.writer.specs.declared.Move.{Move}
 
 pub record Kept (ts : List ℕ) (vs : List ℤ) (l : List ℕ) : Type 0 where
   pub trace : Trace ts vs
@@ -79,28 +78,19 @@ pub record SampleAt (ts : List ℕ) (vs : List ℤ) (l : List ℕ) (i : ℕ) (s 
   pub tick-is : s .tick ≡ tick (keptTicks ts l) i
   pub level-is : LevelOf (value (keptValues vs l) i) (s .level)
 
-pub record SampleOk (s : Sample) : Type 0 where
-  pub tick-bound : s .tick ≤ 4294967295
-  pub level-bound : s .level ≤ 65535
-
 pub record StepBetween (a b : Sample) : Type 0 where
   pub rise : a .tick < b .tick
   pub span : b .tick ≤ a .tick + 1048575
   pub from : a .level ≤ 65535
   pub to : b .level ≤ 65535
 
-pub record StepOk (a b : Sample) (m : Command) : Type 0 where
-  pub is : m ≡ stepTo (a .tick) (a .level) (b .tick) (b .level)
-  pub operands : Operands m
+-- the step from one sample to the next
+abbrev pub stepFrom : Sample → Sample → Command
+stepFrom a b = stepTo (a .tick) (a .level) (b .tick) (b .level)
 
 -- the step from sample i to the next
 abbrev pub stepAt : List ℕ → List ℤ → ℕ → Command
 stepAt ts vs i = stepTo (tick ts i) (level (value vs i)) (tick ts (i + 1)) (level (value vs (i + 1)))
-
-pub record MoveFrom (ts : List ℕ) (vs : List ℤ) (l : List ℕ) (i : ℕ) (m : Move) : Type 0 where
-  pub step-is : m .step ≡ stepAt (keptTicks ts l) (keptValues vs l) i
-  pub operands : Operands (m .step)
-  pub to-is : SampleAt ts vs l (i + 1) (m .to)
 
 -- ---- the record in parts
 

@@ -1,5 +1,5 @@
 // Writes the record of the samples that a list keeps of a trace (document 01, "The record"; document 02, "Above and below") into an event
-// buffer. Commands are written in commands, and samples are walked in samples.
+// buffer. Commands are written in commands, and kept samples are read in samples.
 ghost use mathlib.Core.Path.{_≡_};
 ghost use mathlib.Core.Bool.{_&&_};
 ghost use Prim.Native.Nat.{_+_, _-_, _≤_};
@@ -10,12 +10,12 @@ ghost use Rattle.tolerance.specs.Meaning.{HeldParts};
 ghost use Rattle.format.specs.Command.{sizeOf};
 ghost use Rattle.format.specs.Format.{toleranceCommand, encode};
 ghost use Rattle.writer.specs.Writing.{Kept, keptTicks, keptValues, keptSamples, selected, SampleAt, restOf, RestLength, SamplesLength, LengthOf, mostBytes, ContentWritten};
-use commands::put_command;
+use commands::put_end;
+use commands::put_first;
+use commands::put_step;
 use commands::put_tolerance;
-use commands::size;
-use format::Command;
+use commands::step_size;
 use refusal::Refusal;
-use samples::move_to;
 use samples::sample_at;
 use tolerance::Parts;
 
@@ -31,29 +31,22 @@ pub struct Sample {
     pub level: u64,
 }
 
-// A step, and the sample that it leads to.
-pub struct Move {
-    pub step: Command,
-    pub to: Sample,
-}
-
 pub mod commands;
 pub mod samples;
 
 // The bytes of the samples' commands: the first sample, the steps and the end.
 fn samples_length(ticks: &[u32], values: &[i16], list: &[u16]) -> usize
     requires { ⌜ Kept (now ticks) (now values) (now list) ⌝ }
-    ensures { λ n. ⌜ SamplesLength (now (ticks .entry)) (now (values .entry)) (now (list .entry)) n × (n ≤ 69632) ⌝ }
+    ensures { λ n. ⌜ SamplesLength (now (ticks .entry)) (now (values .entry)) (now (list .entry)) n × (n ≤ 24586) ⌝ }
 {
     let n = list.len();
     let mut s = sample_at(ticks, values, list, 0);
     let mut total: usize = 0;
     let mut i: usize = 0;
     while i + 1 < n {
-        let m = move_to(ticks, values, list, i, s);
-        let step = m.step;
-        total += size(step);
-        s = m.to;
+        let to = sample_at(ticks, values, list, i + 1);
+        total += step_size(s, to);
+        s = to;
         i += 1;
     }
     7 + total + 3
@@ -87,14 +80,12 @@ fn put_steps(part: &mut [u8], ticks: &[u32], values: &[i16], list: &[u16], first
     let mut at: usize = 0;
     let mut i: usize = 0;
     while i + 1 < n {
-        let m = move_to(ticks, values, list, i, s);
-        let step = m.step;
-        put_command(&mut part[at..], step);
-        at += size(step);
-        s = m.to;
+        let to = sample_at(ticks, values, list, i + 1);
+        at += put_step(&mut part[at..], s, to);
+        s = to;
         i += 1;
     }
-    put_command(&mut part[at..], Command::End(n as u64));
+    put_end(&mut part[at..], n as u64);
     at + 3
 }
 
@@ -104,14 +95,14 @@ fn put_samples(part: &mut [u8], ticks: &[u32], values: &[i16], list: &[u16]) -> 
     ensures { λ n. ⌜ (now (part .exit) ≡ overwrite (keptSamples (now (ticks .entry)) (now (values .entry)) (now (list .entry))) (now (part .entry))) × SamplesLength (now (ticks .entry)) (now (values .entry)) (now (list .entry)) n ⌝ }
 {
     let s = sample_at(ticks, values, list, 0);
-    put_command(part, Command::First(s.tick, s.level));
+    put_first(part, s);
     let rest = put_steps(&mut part[7..], ticks, values, list, s);
     7 + rest
 }
 
 // The record goes to the start of part. Returns its length.
 fn put_record(part: &mut [u8], ticks: &[u32], values: &[i16], list: &[u16], held: Parts) -> usize
-    requires { ⌜ Kept (now ticks) (now values) (now list) × HeldParts held × (length (encode (selected held (now ticks) (now values) (now list))) ≤ length (now part)) ⌝ }
+    requires { ⌜ Kept (now ticks) (now values) (now list) × (length (encode (selected held (now ticks) (now values) (now list))) ≤ length (now part)) ⌝ }
     ensures { λ n. ⌜ (now (part .exit) ≡ overwrite (encode (selected held (now (ticks .entry)) (now (values .entry)) (now (list .entry)))) (now (part .entry))) × LengthOf held (now (ticks .entry)) (now (values .entry)) (now (list .entry)) n ⌝ }
 {
     let at = put_tolerance(part, held);

@@ -24,12 +24,12 @@ module _ (c : tie.After-put-tolerance) where
   samples = keptSamples (s .args .ticks .now) (s .args .values .now) (s .args .list .now)
 
   room : c .put-tolerance .result + length samples ≤ length (c .put-tolerance .last .0)
-  room = omega (arith, record-length (s .args .held) (s .args .ticks .now) (s .args .values .now) (s .args .list .now), c .put-tolerance .ensures .1, c .put-tolerance .kept .0, s .pre .2)
+  room = omega (arith, record-length (s .args .held) (s .args .ticks .now) (s .args .values .now) (s .args .list .now), c .put-tolerance .ensures .1, c .put-tolerance .kept .0, s .pre .1)
 
 put-tolerance-requires : tie.Need-put-tolerance-requires
 put-tolerance-requires c κs =
     let s = c .before .before .before .before in
-    (omega (arith, record-length (s .args .held) (s .args .ticks .now) (s .args .values .now) (s .args .list .now), s .pre .2), s .pre .1)
+    omega (arith, record-length (s .args .held) (s .args .ticks .now) (s .args .values .now) (s .args .list .now), s .pre .1)
 
 sub-put-samples : tie.Need-sub-put-samples
 sub-put-samples c = omega (arith, room (c .before .before))

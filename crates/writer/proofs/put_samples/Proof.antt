@@ -7,12 +7,13 @@ use lib.ListN.{length}
 use borrow.Author.Needs.{needs}
 use Rattle.lists.specs.Overwrite.{overwrite}
 use Rattle.lists.proofs.PartLaws.{part-length, written-part}
+use Rattle.trace.proofs.Level.{short}
 use Rattle.format.specs.declared.Command.{Command}
 use Rattle.format.specs.declared.Command.the-variants.{First}
 use Rattle.format.specs.Command.{commandOnto}
 use Rattle.format.proofs.CommandLaws.{command-length}
 use Rattle.writer.specs.Writing.{keptTicks, keptValues, keptSamples, restOf}
-use Rattle.writer.proofs.SelectedLaws.{list-some, sample-ok}
+use Rattle.writer.proofs.SelectedLaws.{list-some}
 use Rattle.writer.proofs.WritingLaws.{kept-parts, kept-length, samples-length}
 use Rattle.writer.proofs.put_samples.Statement.{statement}
 use Rattle.writer.proofs.put_samples.Tie as tie
@@ -37,17 +38,16 @@ module _ (c : tie.After-sample-at) where
 sample-at-requires : tie.Need-sample-at-requires
 sample-at-requires c κs = let k = c .before .before .before .pre .0 in (k, list-some k)
 
-put-command-requires : tie.Need-put-command-requires
-put-command-requires c κs =
+put-first-requires : tie.Need-put-first-requires
+put-first-requires c κs =
     let a = c .before in
-    let ok = sample-ok (s a .pre .0) (λ k. omega (arith, a .before .before .shared-slice-known .given k)) (a .sample-at .ensures) in
-    (omega (arith, room a), (ok .tick-bound, ok .level-bound), omega arith)
+    (omega (arith, room a), short (a .sample-at .ensures .level-is))
 
 sub-put-steps : tie.Need-sub-put-steps
-sub-put-steps c = let p = c .before .before in omega (arith, room (p .before .before), p .put-command .kept .0)
+sub-put-steps c = let p = c .before .before in omega (arith, room (p .before .before), p .put-first .kept .0)
 
 part-put-steps-start : tie.Need-part-put-steps-start
-part-put-steps-start c = let p = c .before .before in omega (arith, room (p .before .before), p .put-command .kept .0)
+part-put-steps-start c = let p = c .before .before in omega (arith, room (p .before .before), p .put-first .kept .0)
 
 part-put-steps-end : tie.Need-part-put-steps-end
 part-put-steps-end c = search needs
@@ -56,7 +56,7 @@ put-steps-requires : tie.Need-put-steps-requires
 put-steps-requires c κs =
     let p = c .before .before .before in
     let a = p .before .before in
-    (s a .pre .0, a .sample-at .ensures, rw (part-length (p .put-command .last .0) 7) (omega (arith, room a, p .put-command .kept .0)))
+    (s a .pre .0, a .sample-at .ensures, rw (part-length (p .put-first .last .0) 7) (omega (arith, room a, p .put-first .kept .0)))
 
 add-result : tie.Need-add-result
 add-result c =
@@ -73,7 +73,7 @@ returns c =
     let p = q .before .before .before .before in
     let a = p .before .before in
     let o = s a .args .part .now in (
-      written-part (p .put-command .last .0) o (commandOnto (first a) []) (rest a) (q .put-steps .last .0) 7 (p .put-command .ensures) (command-length (first a) []) (q .put-steps .ensures .0)
+      written-part (p .put-first .last .0) o (commandOnto (first a) []) (rest a) (q .put-steps .last .0) 7 (p .put-first .ensures) (command-length (first a) []) (q .put-steps .ensures .0)
           ∙ ap (λ (x : List ℕ). overwrite x o) (sym (parts a)),
       samples-length (s a .pre .0) (q .put-steps .ensures .1) refl,
     )
@@ -83,7 +83,7 @@ put-samples-spec =
     tie.close
     (tie.spec
     sample-at-requires
-    put-command-requires
+    put-first-requires
     sub-put-steps
     part-put-steps-start
     part-put-steps-end

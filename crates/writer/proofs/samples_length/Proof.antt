@@ -2,7 +2,7 @@
 use Prim.Native.Nat.{_-_}
 use native.Mathlib.Omega.{arith}
 use borrow.Author.Needs.{needs}
-use Rattle.writer.proofs.SelectedLaws.{list-some, list-few}
+use Rattle.writer.proofs.SelectedLaws.{list-some, list-few, step-between}
 use Rattle.writer.proofs.WritingLaws.{samples-length, Counted, count-begins, counts, count-ends}
 use Rattle.writer.proofs.samples_length.Statement.{statement}
 use Rattle.writer.proofs.samples_length.Tie as tie
@@ -22,29 +22,35 @@ loop-holds c = count-begins (c .before .before .before .pre) (c .sample-at .ensu
 add-loop : tie.Need-add-loop Inv-loop μ-loop
 add-loop c = omega (arith, c .loop .inv .within, list-few (c .before .before .before .before .pre))
 
-move-to-requires : tie.Need-move-to-requires Inv-loop μ-loop
-move-to-requires c κs = (c .before .before .before .before .before .pre, c .loop-test .taken, c .before .loop .inv .sample)
+add-sample-at : tie.Need-add-sample-at Inv-loop μ-loop
+add-sample-at c = search needs
 
-size-requires : tie.Need-size-requires Inv-loop μ-loop
-size-requires c κs = search needs
+sample-at-requires-2 : tie.Need-sample-at-requires-2 Inv-loop μ-loop
+sample-at-requires-2 c κs = (c .before .before .before .before .before .pre, c .loop-test .taken)
+
+step-size-requires : tie.Need-step-size-requires Inv-loop μ-loop
+step-size-requires c κs =
+    let l = c .before .before in
+    step-between (l .before .before .before .before .pre) (c .before .loop-test .taken) (l .loop .inv .sample) (c .sample-at2 .ensures)
 
 add-total : tie.Need-add-total Inv-loop μ-loop
 add-total c =
     let l = c .before .before .before in
-    omega (arith, l .loop .inv .small, l .loop .inv .within, list-few (l .before .before .before .before .pre), c .size .ensures .1)
+    omega (arith, l .loop .inv .small, l .loop .inv .within, list-few (l .before .before .before .before .pre), c .step-size .ensures .1)
 
 add-i : tie.Need-add-i Inv-loop μ-loop
 add-i c =
-    let l = c .before .before .before .before in
+    let l = c .before .before .before in
     omega (arith, l .loop .inv .within, list-few (l .before .before .before .before .pre))
 
 loop-less : tie.Need-loop-less Inv-loop μ-loop
-loop-less c = omega (arith, c .before .before .before .loop-test .taken)
+loop-less c = omega (arith, c .before .before .loop-test .taken)
 
 loop-again : tie.Need-loop-again Inv-loop μ-loop
 loop-again c =
-    let l = c .before .before .before .before in
-    counts (l .before .before .before .before .pre) (l .loop .inv) (c .before .before .before .loop-test .taken) (c .before .before .move-to .ensures) (c .before .size .ensures .0) (c .before .size .ensures .1)
+    let a = c .before in
+    let l = a .before .before in
+    counts (l .before .before .before .before .pre) (l .loop .inv) (a .before .loop-test .taken) (a .sample-at2 .ensures) (c .step-size .ensures .0) (c .step-size .ensures .1)
 
 add-result : tie.Need-add-result Inv-loop μ-loop
 add-result c =
@@ -71,8 +77,9 @@ samples-length-spec =
     sample-at-requires
     loop-holds
     add-loop
-    move-to-requires
-    size-requires
+    add-sample-at
+    sample-at-requires-2
+    step-size-requires
     add-total
     add-i
     loop-less

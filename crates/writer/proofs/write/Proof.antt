@@ -50,7 +50,7 @@ part-put-record-end : tie.Need-part-put-record-end
 part-put-record-end c = search needs
 
 put-record-requires : tie.Need-put-record-requires
-put-record-requires c κs = let s = start (c .before) in (s .pre .0, s .pre .1, simp part-length (omega (arith, enough (c .before))))
+put-record-requires c κs = let s = start (c .before) in (s .pre .0, simp part-length (omega (arith, enough (c .before))))
 
 same-length : tie.Need-same-length
 same-length c = search needs

@@ -51,7 +51,7 @@ part-put-record-end c = search needs
 put-record-requires : tie.Need-put-record-requires
 put-record-requires c κs =
     let a = c .before .before .before in
-    (s a .pre .0, s a .pre .1, simp part-length (omega (arith, long a, c .before .if2 .left)))
+    (s a .pre .0, simp part-length (omega (arith, long a, c .before .if2 .left)))
 
 same-length : tie.Need-same-length
 same-length c = search needs

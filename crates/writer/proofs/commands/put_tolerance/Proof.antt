@@ -1,11 +1,12 @@
 -- `writer::commands::put_tolerance` meets its contract: each way writes the command that says its parts. Assumes nothing.
-use mathlib.Core.Path.{_≡_, sym, _∙_, subst}
+use mathlib.Core.Path.{_≡_, sym, _∙_}
+use Prim.Native.Nat.{_≤_}
 use native.Mathlib.Omega.{arith}
+use lib.ListN.{length}
 use borrow.Author.Needs.{needs}
 use Rattle.format.specs.declared.Command.the-variants.{Tolerance, Sides}
-use Rattle.format.specs.Command.{Operands}
 use Rattle.format.specs.Format.{toleranceCommand}
-use Rattle.format.proofs.HeaderLaws.{agree-command, sides-command, tolerance-operands}
+use Rattle.format.proofs.HeaderLaws.{agree-command, sides-command}
 use Rattle.writer.proofs.commands.put_tolerance.Statement.{statement}
 use Rattle.writer.proofs.commands.put_tolerance.Tie as tie
 
@@ -18,11 +19,12 @@ two c = sides-command _ (sym (c .before .agree .ensures) ∙ c .if1 .left)
 agree-requires : tie.Need-agree-requires
 agree-requires c κs = search needs
 
-put-command-requires : tie.Need-put-command-requires
-put-command-requires c κs =
+put-operands-requires : tie.Need-put-operands-requires
+put-operands-requires c κs =
     let t = c .before .before in
     let s = t .before .before .before in
-    (rw (one t) at (s .pre .0), subst Operands (one t) (tolerance-operands (s .args .x) (s .pre .1)), omega arith)
+    let w : 9 ≤ length (s .args .part .now) = rw (one t) at (s .pre) in
+    (omega arith, omega arith, omega arith)
 
 same-length : tie.Need-same-length
 same-length c = search needs
@@ -31,10 +33,10 @@ returns : tie.Need-returns
 returns c =
     let p = c .before .before in
     let t = p .before .before .before in
-    (rw (one t) (p .put-command .ensures), rw (one t))
+    (rw (one t) (p .put-operands .ensures), rw (one t))
 
 put-sides-requires : tie.Need-put-sides-requires
-put-sides-requires c κs = let e = c .before in rw (two e) at (e .before .before .before .pre .0)
+put-sides-requires c κs = let e = c .before in rw (two e) at (e .before .before .before .pre)
 
 same-length-2 : tie.Need-same-length-2
 same-length-2 c = search needs
@@ -50,7 +52,7 @@ put-tolerance-spec =
     tie.close
     (tie.spec
     agree-requires
-    put-command-requires
+    put-operands-requires
     same-length
     returns
     put-sides-requires
