@@ -9,7 +9,7 @@ use Prim.Native.Nat.{ℕ, _+_, _≤_}
 use native.Mathlib.Omega.{arith}
 use borrow.Author.Tests.{not-true}
 use lib.IntN.{ℤ}
-use lib.ListN.{length, drop}
+use lib.ListN.{drop}
 use Rattle.lists.proofs.Tests.{and-first, and-second, by-test}
 use Rattle.ratio.specs.declared.Ratio.{Ratio}
 use Rattle.tolerance.specs.declared.Parts.{Parts}
@@ -24,7 +24,7 @@ use Rattle.format.specs.declared.Command.the-variants.{Tolerance, Sides,
 use Rattle.format.specs.declared.Header.{Header}
 use Rattle.format.specs.declared.Header.the-variants.{Start, Fault as NoHeader}
 use Rattle.format.proofs.NumberLaws.{bytes-drop}
-use Rattle.format.proofs.CommandLaws.{Starts, Read, read, command-read, command-length, command-rest}
+use Rattle.format.proofs.CommandLaws.{Starts, Read, read, command-read}
 use Rattle.format.proofs.RuleLaws.{is-held-true, held-is-held}
 
 -- ---- the command of a tolerance

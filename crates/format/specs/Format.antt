@@ -22,7 +22,7 @@
 --   Accepted                         what holds of an accepted record and its content
 --   SameRecord                       two records are the same: both parts of their tolerances agree, and their kept samples
 -- Where a fault lies is said without the parser in Fault.
--- Laws are in RuleLaws, ToleranceLaws, ParseEncode, EncodeParse, FaultLaws and SameLaws; examples are in proofs/Examples. Assumes nothing.
+-- Laws are in RuleLaws, HeaderLaws, ParseEncode, EncodeParse, FaultLaws and SameLaws; examples are in proofs/Examples. Assumes nothing.
 use mathlib.Core.Path.{_≡_}
 use mathlib.Core.Bool.{Bool, not, _&&_}
 use mathlib.Core.List.{List, [], _∷_}

@@ -1,6 +1,6 @@
 -- `tolerance::of_ratio` meets its contract: each answer is what `held` picks where the test is as its way found it. Assumes nothing.
 use mathlib.Core.Path.{_≡_, sym, ap, _∙_}
-use mathlib.Core.Bool.{true, false}
+use mathlib.Core.Bool.{true}
 use borrow.Author.Needs.{needs}
 use Rattle.tolerance.specs.Meaning.{allowedRatio, alike}
 use Rattle.tolerance.specs.declared.Meaning.the-variants.{Exact}

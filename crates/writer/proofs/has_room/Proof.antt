@@ -1,6 +1,5 @@
 -- `writer::has_room` meets its contract. Assumes nothing.
 use borrow.Author.Tests.{le-leb, lt-leb}
-use borrow.Author.Needs.{needs}
 use Rattle.writer.proofs.has_room.Statement.{statement}
 use Rattle.writer.proofs.has_room.Tie as tie
 
