@@ -19,7 +19,7 @@ shared-slice-read-if1-2 : tie.Need-shared-slice-read-if1-2
 shared-slice-read-if1-2 c = search needs
 
 returns : tie.Need-returns
-returns c = better-longer _ _ _ _ _ (c .if1 .taken)
+returns c = better-longer _ _ _ _ _ (omega (arith, c .if1 .taken))
 
 returns-2 : tie.Need-returns-2
 returns-2 c = better-valid _ _ _ _ _ (omega (arith, c .if1 .left)) refl
