@@ -23,10 +23,10 @@ use Rattle.engine.specs.declared.Holding.{Holding}
 use Rattle.engine.specs.declared.Holding.the-variants.{Held as IsHeld, Refused as HoldRefused}
 use Rattle.trace.specs.declared.Side.{Side}
 use Rattle.trace.specs.declared.Side.the-variants.{On, Above, Below, Gap}
-use Rattle.engine.specs.declared.Measured as M
-use Rattle.engine.specs.declared.Measured.the-variants.{Link, Refused as NotMeasured}
-use Rattle.engine.specs.declared.Verdict as E
-use Rattle.engine.specs.declared.Verdict.the-variants.{Yes, No, Refused}
+use Rattle.judging.specs.declared.Measured as M
+use Rattle.judging.specs.declared.Measured.the-variants.{Link, Refused as NotMeasured}
+use Rattle.judging.specs.declared.Verdict as E
+use Rattle.judging.specs.declared.Verdict.the-variants.{Yes, No, Refused}
 use Rattle.engine.specs.declared.Reduced.{Reduced}
 use Rattle.engine.specs.declared.Reduced.the-variants.{Kept as IsKept, Refused as NotKept}
 use Rattle.engine.specs.declared.Scanned as N

@@ -257,11 +257,11 @@ pub fn side_of(s: trace::Side) -> u32
     }
 }
 
-pub fn measured_of(a: engine::Measured) -> Measured
+pub fn measured_of(a: judging::Measured) -> Measured
     ensures { λ r. ⌜ r ≡ measuredOf a ⌝ }
 {
     match a {
-        engine::Measured::Link(m) => {
+        judging::Measured::Link(m) => {
             let error = m.error;
             let side = m.side;
             Measured {
@@ -273,7 +273,7 @@ pub fn measured_of(a: engine::Measured) -> Measured
                 sample: m.sample as u64,
             }
         }
-        engine::Measured::Refused(x) => Measured {
+        judging::Measured::Refused(x) => Measured {
             number: refusal::number(x),
             side: 0,
             value: refusal::returned(x) as u64,
@@ -284,11 +284,11 @@ pub fn measured_of(a: engine::Measured) -> Measured
     }
 }
 
-pub fn judged_of(v: engine::Verdict) -> Judged
+pub fn judged_of(v: judging::Verdict) -> Judged
     ensures { λ r. ⌜ r ≡ judgedOf v ⌝ }
 {
     match v {
-        engine::Verdict::Yes => Judged {
+        judging::Verdict::Yes => Judged {
             number: 0,
             passed: 1,
             value: 0,
@@ -297,7 +297,7 @@ pub fn judged_of(v: engine::Verdict) -> Judged
             sample: 0,
             side: 0,
         },
-        engine::Verdict::No(k, m) => {
+        judging::Verdict::No(k, m) => {
             let error = m.error;
             let side = m.side;
             Judged {
@@ -310,7 +310,7 @@ pub fn judged_of(v: engine::Verdict) -> Judged
                 side: side_of(side),
             }
         }
-        engine::Verdict::Refused(x) => Judged {
+        judging::Verdict::Refused(x) => Judged {
             number: refusal::number(x),
             passed: 0,
             value: refusal::returned(x) as u64,

@@ -22,7 +22,7 @@ use Rattle.format.specs.Format.{encode}
 use Rattle.writer.specs.Writing.{Kept, selected, writeRow, WrittenAt, WriteDeclined}
 use Rattle.limits.specs.Prepare.{commonRows, criterionOf, partsOf, ReadyAt}
 use Rattle.limits.proofs.PrepareLaws.{limits-held}
-use Rattle.engine.specs.Judge.{judgeRows}
+use Rattle.judging.specs.Judge.{judgeRows}
 use Rattle.engine.specs.Write.{contentOf, writeRows, Recorded, ListReady}
 
 -- an allowed tolerance is held in lowest terms

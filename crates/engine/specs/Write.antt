@@ -26,7 +26,7 @@ use Rattle.writer.specs.Writing.{selected, writeRow}
 use Rattle.engine.specs.declared.Written.{Written}
 use Rattle.engine.specs.declared.Written.the-variants.{Count, Refused as Declined}
 use Rattle.limits.specs.Prepare.{criterionOf, partsOf, ReadyAt}
-use Rattle.engine.specs.Judge.{judgeRows}
+use Rattle.judging.specs.Judge.{judgeRows}
 
 abbrev pub contentOf : List ℕ → List ℤ → List ℕ → Limits → Content
 contentOf ts vs l t = selected (partsOf (criterionOf t)) ts vs l

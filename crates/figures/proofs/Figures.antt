@@ -32,9 +32,9 @@ use Rattle.reduction.specs.Galloping.{gallopList, gallopTotal}
 use Rattle.shortest.specs.Shortest.{minimumList}
 use Rattle.closest.specs.Closest.{leastError}
 use Rattle.proposed.specs.Proposed.{badAt, listRow, firstInvalid}
-use Rattle.engine.specs.declared.Verdict.the-variants.{Yes, No}
+use Rattle.judging.specs.declared.Verdict.the-variants.{Yes, No}
 use Rattle.limits.specs.Prepare.{unlimited, commonRows, criterionOf}
-use Rattle.engine.specs.Judge.{judgeRows, listVerdict, judgeOf}
+use Rattle.judging.specs.Judge.{judgeRows, listVerdict, judgeOf}
 use Rattle.engine.specs.Write.{contentOf}
 
 -- ticks 0 to 4

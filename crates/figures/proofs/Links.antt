@@ -33,11 +33,11 @@ use Rattle.closest.specs.Closest.{obeyingList, leastError}
 use Rattle.allowance.specs.Rows.{allowedRows, leastRows}
 use Rattle.proposed.specs.Proposed.{badAt, listRow, endsRow, firstInvalid, firstWorst, listSample, listStray}
 use Rattle.limits.specs.declared.Limits.{Limits}
-use Rattle.engine.specs.declared.Measured.the-variants.{Link as Measured}
-use Rattle.engine.specs.declared.Verdict.the-variants.{No}
+use Rattle.judging.specs.declared.Measured.the-variants.{Link as Measured}
+use Rattle.judging.specs.declared.Verdict.the-variants.{No}
 use Rattle.limits.specs.Prepare.{commonRows, criterionOf, outputRows}
-use Rattle.engine.specs.Measure.{measureRows, measuredBy}
-use Rattle.engine.specs.Judge.{judgeRows, listVerdict, judgeOf}
+use Rattle.judging.specs.Measure.{measureRows, measuredBy}
+use Rattle.judging.specs.Judge.{judgeRows, listVerdict, judgeOf}
 use Rattle.engine.specs.Write.{writeRows}
 use Rattle.engine.specs.Report.{crateRows}
 

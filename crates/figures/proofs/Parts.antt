@@ -36,8 +36,8 @@ use Rattle.proposed.specs.Proposed.{badAt, listRow, firstInvalid}
 use Rattle.limits.specs.Prepare.{unlimited, commonRows, criterionOf}
 use Rattle.tolerances.specs.declared.Tolerances.{Tolerances}
 use Rattle.tolerances.specs.Tolerances.{badAt as badTolerance, severalRows, scanRows}
-use Rattle.engine.specs.declared.Verdict.the-variants.{No}
-use Rattle.engine.specs.Judge.{judgeRows, listVerdict, judgeOf}
+use Rattle.judging.specs.declared.Verdict.the-variants.{No}
+use Rattle.judging.specs.Judge.{judgeRows, listVerdict, judgeOf}
 use Rattle.pedestals.specs.declared.Cause.the-variants.{Call}
 use Rattle.pedestals.specs.declared.Check.the-variants.{Refused as NotCompared}
 use Rattle.pedestals.specs.Compare.{runOf, runsRow, compareRows}

@@ -16,13 +16,13 @@ use Rattle.summed.specs.Sum.{sumsOf, partsSum}
 use Rattle.engine.specs.declared.Reduced.the-variants.{Kept}
 use Rattle.engine.specs.declared.Probed.the-variants.{Kept as KeptBy}
 use Rattle.engine.specs.declared.Closest.the-variants.{Kept as KeptAt}
-use Rattle.engine.specs.declared.Verdict.the-variants.{Yes}
+use Rattle.judging.specs.declared.Verdict.the-variants.{Yes}
 use Rattle.limits.specs.Prepare.{criterionOf}
 use Rattle.engine.specs.Reduce.{WalkOutcome, GallopOutcome}
 use Rattle.engine.specs.Minimum.{MinimumOutcome}
 use Rattle.engine.specs.Least.{LeastOutcome}
 use Rattle.engine.specs.Sum.{SumOutcome}
-use Rattle.engine.specs.Judge.{JudgeOutcome}
+use Rattle.judging.specs.Judge.{JudgeOutcome}
 use Rattle.promises.proofs.Standing.{walk-stands, gallop-stands, minimum-stands, judge-stands, least-stands, sum-stands}
 
 module _ (ts : List ℕ) (vs : List ℤ) (t : Limits) where

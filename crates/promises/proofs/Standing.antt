@@ -24,13 +24,13 @@ use Rattle.summed.proofs.SumLaws.{joined-twice}
 use Rattle.engine.specs.declared.Reduced.the-variants.{Kept}
 use Rattle.engine.specs.declared.Probed.the-variants.{Kept as KeptBy}
 use Rattle.engine.specs.declared.Closest.the-variants.{Kept as KeptAt}
-use Rattle.engine.specs.declared.Verdict.the-variants.{Yes}
+use Rattle.judging.specs.declared.Verdict.the-variants.{Yes}
 use Rattle.limits.specs.Prepare.{commonRows, criterionOf, outputRows}
 use Rattle.engine.specs.Reduce.{okOf, WalkOutcome, GallopOutcome}
 use Rattle.engine.specs.Minimum.{MinimumOutcome}
 use Rattle.engine.specs.Least.{LeastOutcome}
 use Rattle.engine.specs.Sum.{SumOutcome}
-use Rattle.engine.specs.Judge.{judgeRows, JudgeOutcome}
+use Rattle.judging.specs.Judge.{judgeRows, JudgeOutcome}
 use Rattle.limits.proofs.PrepareLaws.{common-trace}
 use Rattle.engine.proofs.WriteLaws.{common-held}
 

@@ -37,10 +37,10 @@ use Rattle.summed.proofs.RowLaws.{rows-addable, addable-fine}
 use Rattle.engine.specs.declared.Reduced.{Reduced}
 use Rattle.engine.specs.declared.Reduced.the-variants.{Kept, Refused as Declined}
 use Rattle.limits.specs.declared.Limits.{Limits}
-use Rattle.engine.specs.declared.Verdict.{Verdict}
-use Rattle.engine.specs.declared.Verdict.the-variants.{Yes}
+use Rattle.judging.specs.declared.Verdict.{Verdict}
+use Rattle.judging.specs.declared.Verdict.the-variants.{Yes}
 use Rattle.limits.specs.Prepare.{limitRows, commonRows, criterionOf}
-use Rattle.engine.specs.Judge.{judgeRows, JudgeOutcome}
+use Rattle.judging.specs.Judge.{judgeRows, JudgeOutcome}
 use Rattle.engine.specs.Write.{linkRow}
 use Rattle.engine.specs.Sum.{Summed, SumOutcome}
 use Rattle.engine.proofs.SumLaws.{sum-outcome}

@@ -5,7 +5,7 @@ use Rattle.writer.specs.declared.Answer as W
 use Rattle.writer.specs.Writing.{selected}
 use Rattle.writer.specs.Writing as Writing
 use Rattle.limits.specs.Prepare.{partsOf}
-use Rattle.engine.proofs.JudgeLaws.{invalid-bound}
+use Rattle.judging.proofs.JudgeLaws.{invalid-bound}
 use Rattle.engine.proofs.WriteLaws.{kept-at, link-declines, recorded, declined}
 use borrow.Author.Needs.{needs}
 use Rattle.engine.proofs.write.write_list.Statement.{statement}

@@ -25,10 +25,10 @@ use Rattle.measures.specs.Measure.{Offends}
 use Rattle.measures.proofs.MeasureLaws.{fault-offends}
 use Rattle.proposed.specs.Proposed.{entry, listRow, invalidAt, firstInvalid, faultAt}
 use Rattle.proposed.proofs.ProposedLaws.{row-kept, kept-link, all-valid}
-use Rattle.engine.specs.declared.Verdict.{Verdict}
-use Rattle.engine.specs.declared.Verdict.the-variants.{Yes, No, Refused as Declined}
+use Rattle.judging.specs.declared.Verdict.{Verdict}
+use Rattle.judging.specs.declared.Verdict.the-variants.{Yes, No, Refused as Declined}
 use Rattle.limits.specs.Prepare.{commonRows, criterionOf}
-use Rattle.engine.specs.Judge.{judgeRows, listVerdict, declineOr, judgeOf, judgedAt, JudgeOutcome}
+use Rattle.judging.specs.Judge.{judgeRows, listVerdict, declineOr, judgeOf, judgedAt, JudgeOutcome}
 use Rattle.limits.proofs.PrepareLaws.{common-trace}
 
 -- ---- the verdict

@@ -1,12 +1,12 @@
--- `engine::judge::judge` meets its contract. Assumes nothing.
+-- `judging::judge::judge` meets its contract. Assumes nothing.
 use borrow.Author.Needs.{needs}
 use mathlib.Core.Path.{subst, ap, _∙_}
 use Rattle.trace.specs.declared.Criterion.{Criterion}
 use Rattle.limits.specs.Prepare.{Prepared, ReadyAt}
-use Rattle.engine.specs.Judge.{judgedAt}
-use Rattle.engine.proofs.JudgeLaws.{common-fine, judge-refused, judge-outcome}
-use Rattle.engine.proofs.judge.judge.Statement.{statement}
-use Rattle.engine.proofs.judge.judge.Tie as tie
+use Rattle.judging.specs.Judge.{judgedAt}
+use Rattle.judging.proofs.JudgeLaws.{common-fine, judge-refused, judge-outcome}
+use Rattle.judging.proofs.judge.judge.Statement.{statement}
+use Rattle.judging.proofs.judge.judge.Tie as tie
 
 prepare-requires : tie.Need-prepare-requires
 prepare-requires c κs = search needs

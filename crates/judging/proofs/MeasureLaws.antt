@@ -17,10 +17,9 @@ use Rattle.trace.proofs.TraceLaws.{rows-trace}
 use Rattle.measures.proofs.MeasureLaws.{measure-strays}
 use Rattle.proposed.specs.Proposed.{endsRow}
 use Rattle.proposed.proofs.ProposedLaws.{ends-linked}
-use Rattle.engine.specs.declared.Measured.{Measured}
-use Rattle.engine.specs.declared.Measured.the-variants.{Link, Refused as Declined}
-use Rattle.engine.specs.Checks.{ownRows}
-use Rattle.engine.specs.Measure.{measureRows, declineMeasure, measuredBy, measuredAt, MeasureOutcome}
+use Rattle.judging.specs.declared.Measured.{Measured}
+use Rattle.judging.specs.declared.Measured.the-variants.{Link, Refused as Declined}
+use Rattle.judging.specs.Measure.{ownRows, measureRows, declineMeasure, measuredBy, measuredAt, MeasureOutcome}
 
 -- ---- the answer, where a check passes and where it does not
 

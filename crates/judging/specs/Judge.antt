@@ -24,8 +24,8 @@ use Rattle.measures.specs.declared.Measure.{Measure}
 use Rattle.trace.specs.Link.{valid}
 use Rattle.measures.specs.Measure.{Offends}
 use Rattle.proposed.specs.Proposed.{entry, listRow, firstInvalid, faultAt}
-use Rattle.engine.specs.declared.Verdict.{Verdict}
-use Rattle.engine.specs.declared.Verdict.the-variants.{Yes, No, Refused as Declined}
+use Rattle.judging.specs.declared.Verdict.{Verdict}
+use Rattle.judging.specs.declared.Verdict.the-variants.{Yes, No, Refused as Declined}
 use Rattle.limits.specs.Prepare.{commonRows, criterionOf}
 
 unfoldable pub judgeRows : List ℕ → List ℤ → List ℕ → Limits → Checked

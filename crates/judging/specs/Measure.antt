@@ -1,4 +1,5 @@
 -- The outcome of `measure` (document 02, "Where the line strays").
+--   ownRows          the first of the rows 1, 2, 3 that applies to ticks and values
 --   measureRows      the first of the rows 1, 2, 3, 6 that applies
 --   declineMeasure   a refusal, or else the measure
 --   measuredBy       what `measure` answers
@@ -14,12 +15,16 @@ use Rattle.refusal.specs.declared.Checked.{Checked}
 use Rattle.refusal.specs.declared.Checked.the-variants.{Fine, Refused}
 use Rattle.refusal.specs.Table.{_thenCheck_}
 use Rattle.measures.specs.declared.Measure.{Measure}
+use Rattle.trace.specs.Trace.{traceRows}
 use Rattle.trace.specs.Link.{Linked}
 use Rattle.measures.specs.Measure.{measureOf, Strays}
 use Rattle.proposed.specs.Proposed.{endsRow}
-use Rattle.engine.specs.declared.Measured.{Measured}
-use Rattle.engine.specs.declared.Measured.the-variants.{Link, Refused as Declined}
-use Rattle.engine.specs.Checks.{ownRows}
+use Rattle.judging.specs.declared.Measured.{Measured}
+use Rattle.judging.specs.declared.Measured.the-variants.{Link, Refused as Declined}
+
+-- a trace has at most 4,096 samples
+abbrev pub ownRows : List ℕ → List ℤ → Checked
+ownRows ts vs = traceRows 4096 ts vs
 
 unfoldable pub measureRows : List ℕ → List ℤ → ℕ → ℕ → Checked
 measureRows ts vs i j = ownRows ts vs thenCheck endsRow (length ts) i j

@@ -1,10 +1,10 @@
--- `engine::measure::measure_at` meets its contract. Assumes nothing.
+-- `judging::measure::measure_at` meets its contract. Assumes nothing.
 use mathlib.Core.Path.{sym, _∙_}
 use borrow.Author.Needs.{needs}
 use Rattle.proposed.proofs.ProposedLaws.{ends-linked}
-use Rattle.engine.proofs.MeasureLaws.{measured-fine, measured-refused}
-use Rattle.engine.proofs.measure.measure_at.Statement.{statement}
-use Rattle.engine.proofs.measure.measure_at.Tie as tie
+use Rattle.judging.proofs.MeasureLaws.{measured-fine, measured-refused}
+use Rattle.judging.proofs.measure.measure_at.Statement.{statement}
+use Rattle.judging.proofs.measure.measure_at.Tie as tie
 
 check-ends-requires : tie.Need-check-ends-requires
 check-ends-requires c κs = search needs

@@ -1,11 +1,11 @@
--- `engine::measure::measure` meets its contract. Assumes nothing.
+-- `judging::measure::measure` meets its contract. Assumes nothing.
 use mathlib.Core.Path.{sym, _∙_}
 use native.Mathlib.Omega.{arith}
 use borrow.Author.Needs.{needs}
 use Rattle.trace.proofs.TraceLaws.{rows-trace}
-use Rattle.engine.proofs.MeasureLaws.{own-fine, own-refused, measure-outcome}
-use Rattle.engine.proofs.measure.measure.Statement.{statement}
-use Rattle.engine.proofs.measure.measure.Tie as tie
+use Rattle.judging.proofs.MeasureLaws.{own-fine, own-refused, measure-outcome}
+use Rattle.judging.proofs.measure.measure.Statement.{statement}
+use Rattle.judging.proofs.measure.measure.Tie as tie
 
 check-requires : tie.Need-check-requires
 check-requires c κs = search needs

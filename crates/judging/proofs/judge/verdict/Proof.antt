@@ -1,10 +1,10 @@
--- `engine::judge::verdict` meets its contract. Assumes nothing.
+-- `judging::judge::verdict` meets its contract. Assumes nothing.
 use mathlib.Core.Path.{sym}
 use native.Mathlib.Omega.{arith}
-use Rattle.engine.proofs.JudgeLaws.{invalid-bound, verdict-yes, no-made}
+use Rattle.judging.proofs.JudgeLaws.{invalid-bound, verdict-yes, no-made}
 use borrow.Author.Needs.{needs}
-use Rattle.engine.proofs.judge.verdict.Statement.{statement}
-use Rattle.engine.proofs.judge.verdict.Tie as tie
+use Rattle.judging.proofs.judge.verdict.Statement.{statement}
+use Rattle.judging.proofs.judge.verdict.Tie as tie
 
 first-invalid-requires : tie.Need-first-invalid-requires
 first-invalid-requires c κs = search needs

@@ -1,10 +1,10 @@
--- `engine::judge::judge_at` meets its contract. Assumes nothing.
+-- `judging::judge::judge_at` meets its contract. Assumes nothing.
 use mathlib.Core.Path.{sym, _∙_}
 use Rattle.proposed.proofs.ProposedLaws.{row-kept}
-use Rattle.engine.proofs.JudgeLaws.{list-fine, list-refused}
+use Rattle.judging.proofs.JudgeLaws.{list-fine, list-refused}
 use borrow.Author.Needs.{needs}
-use Rattle.engine.proofs.judge.judge_at.Statement.{statement}
-use Rattle.engine.proofs.judge.judge_at.Tie as tie
+use Rattle.judging.proofs.judge.judge_at.Statement.{statement}
+use Rattle.judging.proofs.judge.judge_at.Tie as tie
 
 check-requires : tie.Need-check-requires
 check-requires c κs = search needs
