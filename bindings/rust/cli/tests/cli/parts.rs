@@ -898,6 +898,23 @@ fn budgets() {
     }
 }
 
+/// The sentences are README's.
+#[test]
+fn as_documented() {
+    let readme = fs::read_to_string(shipped("README.md")).unwrap();
+    let begins = "> From the first";
+    let mut paragraphs = readme.lines().filter(|line| line.starts_with(begins));
+    let paragraph = paragraphs.nth(1).unwrap().trim_start_matches("> ");
+    let (_, sentences) = TWO.split_once('\n').unwrap();
+    let tolerance = "tolerance 2 above and 3/2 (1.5) below";
+    let filled = paragraph
+        .replace("tolerance U above and D below", tolerance)
+        .replace("U + D", "3.5")
+        .replace("at most U ", "at most 2 ")
+        .replace("at most D ", "at most 1.5 ");
+    assert_eq!(sentences.trim_end(), filled);
+}
+
 /// Heights read off the lines of any record: the greatest value is at most the part above too low, the least at
 /// most the part below too high, and each bound is reached.
 #[test]
