@@ -259,8 +259,8 @@ kovrelna_held kovrelna_hold(kovrelna_tolerance tolerance);
 
 /* ---- Limits ---- */
 
-/* What a link is asked to meet: a tolerance, and a gap limit from 1 to 1,048,575 ticks. Exactly so
- * many ticks apart is no hole. Other gap limits are refused as 15. */
+/* What a link is asked to meet: a tolerance, with both its parts, and a gap limit from 1 to 1,048,575
+ * ticks. Exactly so many ticks apart is no hole. Other gap limits are refused as 15. */
 typedef struct kovrelna_limits {
   kovrelna_tolerance tolerance;
   uint32_t gap;

@@ -35,7 +35,7 @@ use Rattle.pedestals.specs.declared.Cause.the-variants.{Call, Trace}
 use Rattle.pedestals.specs.declared.Single.the-variants.{At as One, Refused as NotOne}
 use Rattle.pedestals.specs.declared.Check.{Check}
 use Rattle.pedestals.specs.declared.Check.the-variants.{Fine, Refused}
-use Rattle.pedestals.specs.Compare.{Run, ticksOf, valuesOf, heldRatio, called, inChannel, _then_, factorRow, runsRow, oneRow, channelRow, channelRows, roomsRow, compareRows}
+use Rattle.pedestals.specs.Compare.{Run, ticksOf, valuesOf, called, inChannel, _then_, factorRow, runsRow, oneRow, channelRow, channelRows, roomsRow, compareRows}
 use Rattle.pedestals.specs.Checking.{OwnChecked, partsRow, SecondChecked, ChannelChecked, ChannelsChecked, DividedRuns, EarlierChecked, RunsChecked, CallChecked, RestChecked, Called, HeldOne, Passed}
 
 -- a refusal is no pass

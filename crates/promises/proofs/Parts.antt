@@ -6,7 +6,7 @@
 --   half-of-smaller         no kept list within half of the smaller part that obeys the gap limit has fewer samples
 -- Assumes nothing.
 use mathlib.Core.Path.{_≡_, ap, fun-ext}
-use mathlib.Core.Bool.{Bool, true, _&&_}
+use mathlib.Core.Bool.{true}
 use mathlib.Core.List.{List}
 use Prim.Native.Nat.{ℕ, suc, _-_, _*_, _≤_}
 use lib.IntN.{ℤ}

@@ -1,5 +1,5 @@
 -- `trace::cones::is_closed_by` meets its contract. Assumes nothing.
-use mathlib.Core.Path.{sym, ap, _∙_}
+use mathlib.Core.Path.{sym, _∙_}
 use borrow.Author.Needs.{needs}
 use borrow.Author.Tests.{not-true, not-false}
 use Rattle.trace.proofs.ConeLaws.{closed-high, closed-low}

@@ -1,6 +1,6 @@
 -- `trace::edges::climb_to` meets its contract: the change of value and its product with q fit an `i64`. Assumes nothing.
 use mathlib.Core.Path.{sym, subst}
-use mir.Syntax.{w16, w64}
+use mir.Syntax.{w64}
 use mir.Val.{SFits}
 use mir.Facts.{sfits-widen, toZ-ofZ}
 use borrow.Author.Needs.{needs}
