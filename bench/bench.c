@@ -8,12 +8,15 @@
  *   7.5, with walk's list; for measure with the link from the first sample to the last; for sum with
  *   another trace and walk's list of it; for scan at 16 tolerances from 0.5 to 8; for view_add with
  *   the last sample at k = 32, and with all of them; for least with allowance 20; for report and
- *   pedestals on crates of pulse traces.
+ *   pedestals on crates of pulse traces; last, under the names with parts, at 7.5 above and 10/3
+ *   below, for scan at 16 times 1/2 above and 1/3 below.
  * bench trace, bench part: prints that trace, and the part of it for least.
- * bench once KIND FUNCTION [NUMBER]: calls one function once, so that instructions can be counted;
- *   report and pedestals with so many samples a channel, 4,096 unless given; scan and its peers with
- *   the set of tolerances of this number, 0 unless given; view_add and its peer at this k, 32 unless
- *   given, where the names with run add all samples. */
+ * bench once KIND FUNCTION [NUMBER [PARTS]]: calls one function once, so that instructions can be
+ *   counted; report and pedestals with so many samples a channel, 4,096 unless given; scan and its
+ *   peers with the set of tolerances of this number, 0 unless given, 2 and 3 with unequal parts;
+ *   view_add and its peer at this k, 32 unless given, where the names with run add all samples. With
+ *   PARTS the others have the unequal parts of this number, from 0 to 3, and walk's list in place of
+ *   all samples. */
 #define _POSIX_C_SOURCE 199309L
 #include "kovrelna.h"
 #include "peers.h"
@@ -29,45 +32,51 @@
 enum { SAMPLES = 4096, REPETITIONS = 201, CALLS = 3, SLOW_REPETITIONS = 15 };
 
 /* The functions that are compared, under one signature. */
-typedef reduced reducer(const uint32_t *, const int16_t *, size_t, int64_t, int64_t, uint32_t,
-                        uint16_t *);
+typedef reduced reducer(const uint32_t *, const int16_t *, size_t, parts, uint32_t, uint16_t *);
 
 static void fail(const char *what) {
   fprintf(stderr, "bench: %s\n", what);
   exit(1);
 }
 
-static kovrelna_limits limits_of(int64_t p, int64_t q, uint32_t gap) {
-  return kovrelna_limited(kovrelna_ratio((uint64_t)p, (uint64_t)q), gap);
+static int is_one(parts t) { return t.above.p == t.below.p && t.above.q == t.below.q; }
+
+/* The tolerance as the library takes it: a ratio, or parts where they differ. */
+static kovrelna_tolerance lent(parts t) {
+  uint64_t p = (uint64_t)t.above.p, q = (uint64_t)t.above.q;
+  if (is_one(t)) return kovrelna_ratio(p, q);
+  return kovrelna_parts(p, q, (uint64_t)t.below.p, (uint64_t)t.below.q);
 }
+
+static kovrelna_limits limits_of(parts t, uint32_t gap) { return kovrelna_limited(lent(t), gap); }
 
 typedef kovrelna_answer kept_call(const uint32_t *, size_t, const int16_t *, size_t,
                                   kovrelna_limits, uint16_t *, size_t);
 
 static reduced library_kept(kept_call *call, const uint32_t *ticks, const int16_t *values, size_t n,
-                            int64_t p, int64_t q, uint32_t gap, uint16_t *out) {
-  kovrelna_answer kept = call(ticks, n, values, n, limits_of(p, q, gap), out, n);
+                            parts t, uint32_t gap, uint16_t *out) {
+  kovrelna_answer kept = call(ticks, n, values, n, limits_of(t, gap), out, n);
   reduced answer = {(size_t)kept.value, 0};
   if (kept.number != 0) fail("the library refused a trace");
   return answer;
 }
 
-static reduced library_walk(const uint32_t *ticks, const int16_t *values, size_t n, int64_t p,
-                            int64_t q, uint32_t gap, uint16_t *out) {
-  return library_kept(kovrelna_walk, ticks, values, n, p, q, gap, out);
+static reduced library_walk(const uint32_t *ticks, const int16_t *values, size_t n, parts t,
+                            uint32_t gap, uint16_t *out) {
+  return library_kept(kovrelna_walk, ticks, values, n, t, gap, out);
 }
 
-static reduced library_gallop(const uint32_t *ticks, const int16_t *values, size_t n, int64_t p,
-                              int64_t q, uint32_t gap, uint16_t *out) {
-  kovrelna_galloped kept = kovrelna_gallop(ticks, n, values, n, limits_of(p, q, gap), out, n);
+static reduced library_gallop(const uint32_t *ticks, const int16_t *values, size_t n, parts t,
+                              uint32_t gap, uint16_t *out) {
+  kovrelna_galloped kept = kovrelna_gallop(ticks, n, values, n, limits_of(t, gap), out, n);
   reduced answer = {(size_t)kept.value, kept.probes};
   if (kept.number != 0) fail("the library refused a trace");
   return answer;
 }
 
-static reduced library_minimum(const uint32_t *ticks, const int16_t *values, size_t n, int64_t p,
-                               int64_t q, uint32_t gap, uint16_t *out) {
-  return library_kept(kovrelna_minimum, ticks, values, n, p, q, gap, out);
+static reduced library_minimum(const uint32_t *ticks, const int16_t *values, size_t n, parts t,
+                               uint32_t gap, uint16_t *out) {
+  return library_kept(kovrelna_minimum, ticks, values, n, t, gap, out);
 }
 
 enum {
@@ -155,16 +164,23 @@ static void make_dropout(void) {
 
 /* ---- Measuring ---- */
 
-static const int64_t TOLERANCES[][2] = {{2, 1}, {15, 2}, {40, 1}};
+static const parts TOLERANCES[] = {{{2, 1}, {2, 1}}, {{15, 2}, {15, 2}}, {{40, 1}, {40, 1}}};
+/* Unequal parts, with unequal denominators and with equal ones. */
+static const parts UNEQUAL[] = {{{2, 1}, {3, 2}}, {{15, 2}, {10, 3}}, {{15, 2}, {5, 2}},
+                                {{10, 3}, {40, 1}}};
+/* The position of the usual one, 7.5 above, in either list. */
+enum { USUAL = 1 };
+
+static double number_of(ratio x) { return (double)x.p / (double)x.q; }
 
 typedef struct row {
   const char *kind;
-  double tolerance;
+  parts tolerance;
   reduced answers[REDUCERS];
   double times[REDUCERS][REPETITIONS]; /* nanoseconds a sample */
 } row;
 
-static row rows[COUNT(KINDS) * COUNT(TOLERANCES)];
+static row rows[COUNT(KINDS) * COUNT(TOLERANCES)], unequal_rows[COUNT(KINDS) * COUNT(UNEQUAL)];
 
 /* Nanoseconds of processor time, so that other load counts little. */
 static double now(void) {
@@ -194,9 +210,8 @@ static double median(const row *r, int x, int y) {
 
 static uint16_t lists[REDUCERS][SAMPLES];
 
-static reduced call(int x, size_t kind, const int64_t *tolerance) {
-  return REDUCER[x].call(ticks[kind], values[kind], SAMPLES, tolerance[0], tolerance[1],
-                         KINDS[kind].gap, lists[x]);
+static reduced call(int x, size_t kind, parts tolerance) {
+  return REDUCER[x].call(ticks[kind], values[kind], SAMPLES, tolerance, KINDS[kind].gap, lists[x]);
 }
 
 static void same(const reduced *answers, int x, int y) {
@@ -206,14 +221,15 @@ static void same(const reduced *answers, int x, int y) {
     fail("the library and the peer differ");
 }
 
-static void measure(row *r, size_t kind, const int64_t *tolerance) {
+static void measure(row *r, size_t kind, parts tolerance) {
   int repetition, x, k;
   r->kind = KINDS[kind].name;
-  r->tolerance = (double)tolerance[0] / (double)tolerance[1];
+  r->tolerance = tolerance;
   for (repetition = 0; repetition < REPETITIONS; repetition++) {
     for (x = 0; x < REDUCERS; x++) {
       double start = now();
       if (repetition >= REDUCER[x].repetitions) continue;
+      if (x == DOUGLAS_PEUCKER_C && !is_one(tolerance)) continue;
       for (k = 0; k < REDUCER[x].calls; k++) r->answers[x] = call(x, kind, tolerance);
       r->times[x][repetition] = (now() - start) / REDUCER[x].calls / SAMPLES;
     }
@@ -222,9 +238,9 @@ static void measure(row *r, size_t kind, const int64_t *tolerance) {
   same(r->answers, GALLOP, GALLOP_C);
   same(r->answers, MINIMUM, MINIMUM_C);
   same(r->answers, MINIMUM, MINIMUM_C_NOSTOP);
-  if (!kovrelna_judge(ticks[kind], SAMPLES, values[kind], SAMPLES, lists[DOUGLAS_PEUCKER_C],
-                      r->answers[DOUGLAS_PEUCKER_C].kept,
-                      limits_of(tolerance[0], tolerance[1], KINDS[kind].gap))
+  if (is_one(tolerance) &&
+      !kovrelna_judge(ticks[kind], SAMPLES, values[kind], SAMPLES, lists[DOUGLAS_PEUCKER_C],
+                      r->answers[DOUGLAS_PEUCKER_C].kept, limits_of(tolerance, KINDS[kind].gap))
            .passed)
     fail("the list of Douglas-Peucker has an invalid link");
 }
@@ -242,12 +258,13 @@ typedef struct summand {
   size_t kept;
 } summand;
 
-/* A kept list of a trace, its record and a copy of it; the measure of the link over the whole trace;
+/* A kept list of a trace, its record at a tolerance and a copy of it; the measure of the link over the whole trace;
  * codes, a range table and their values; another trace with the same ticks, the sums of both and the
  * joined list. */
 typedef struct kept_record {
   const uint32_t *ticks;
   const int16_t *values;
+  parts tolerance;
   uint32_t gap;
   link_measure measure;
   uint8_t codes[SAMPLES];
@@ -264,19 +281,16 @@ typedef struct kept_record {
   size_t joined_kept;
 } kept_record;
 
-/* Records are written with this tolerance, p/q. */
-enum { RECORD_P = 15, RECORD_Q = 2 };
-
 static size_t library_write(kept_record *r) {
   kovrelna_answer answer =
       kovrelna_write(r->ticks, SAMPLES, r->values, SAMPLES, r->list, r->kept,
-                     limits_of(RECORD_P, RECORD_Q, r->gap), r->bytes, BYTES, 0);
+                     limits_of(r->tolerance, r->gap), r->bytes, BYTES, 0);
   return answer.number == 0 ? (size_t)answer.value : 0;
 }
 
 static size_t plain_write(kept_record *r) {
-  return write_c(r->ticks, r->values, SAMPLES, r->list, r->kept, RECORD_P, RECORD_Q, r->gap,
-                 r->bytes, BYTES);
+  return write_c(r->ticks, r->values, SAMPLES, r->list, r->kept, r->tolerance, r->gap, r->bytes,
+                 BYTES);
 }
 
 static size_t library_read(kept_record *r) {
@@ -301,13 +315,13 @@ static size_t plain_same(kept_record *r) {
 /* How many samples are kept, if the list passes. */
 static size_t library_judge(kept_record *r) {
   kovrelna_judged answer = kovrelna_judge(r->ticks, SAMPLES, r->values, SAMPLES, r->list, r->kept,
-                                          limits_of(RECORD_P, RECORD_Q, r->gap));
+                                          limits_of(r->tolerance, r->gap));
   return answer.passed ? r->kept : 0;
 }
 
 static size_t plain_judge(kept_record *r) {
   judged answer =
-      judge_c(r->ticks, r->values, SAMPLES, r->list, r->kept, RECORD_P, RECORD_Q, r->gap);
+      judge_c(r->ticks, r->values, SAMPLES, r->list, r->kept, r->tolerance, r->gap);
   return answer.passed ? r->kept : 0;
 }
 
@@ -414,10 +428,10 @@ static const struct {
 static double record_times[RECORDERS][REPETITIONS]; /* microseconds a call */
 
 /* Lists all samples or those that walk keeps, and returns how many. */
-static size_t make_list(const uint32_t *tick, const int16_t *value, uint32_t gap, int all,
-                        uint16_t *list) {
+static size_t make_list(const uint32_t *tick, const int16_t *value, parts tolerance, uint32_t gap,
+                        int all, uint16_t *list) {
   size_t k;
-  if (!all) return walk_c(tick, value, SAMPLES, RECORD_P, RECORD_Q, gap, list).kept;
+  if (!all) return walk_c(tick, value, SAMPLES, tolerance, gap, list).kept;
   for (k = 0; k < SAMPLES; k++) list[k] = (uint16_t)k;
   return SAMPLES;
 }
@@ -428,16 +442,18 @@ static void make_other(kept_record *r, int all) {
   size_t k;
   memcpy(other->ticks, r->ticks, sizeof(other->ticks));
   for (k = 0; k < SAMPLES; k++) other->values[k] = r->values[(k + SHIFT) % SAMPLES];
-  other->kept = make_list(other->ticks, other->values, r->gap, all, other->list);
+  other->kept = make_list(other->ticks, other->values, r->tolerance, r->gap, all, other->list);
 }
 
 /* The record of all samples or of walk's list, written by this writer. */
-static void make_record(kept_record *r, size_t kind, int all, size_t (*write)(kept_record *)) {
+static void make_record(kept_record *r, size_t kind, parts tolerance, int all,
+                        size_t (*write)(kept_record *)) {
   size_t k;
   r->ticks = ticks[kind];
   r->values = values[kind];
+  r->tolerance = tolerance;
   r->gap = KINDS[kind].gap;
-  r->kept = make_list(r->ticks, r->values, r->gap, all, r->list);
+  r->kept = make_list(r->ticks, r->values, tolerance, r->gap, all, r->list);
   make_other(r, all);
   for (k = 0; k < SAMPLES; k++) r->codes[k] = (uint8_t)(7 * k + (size_t)r->values[k]);
   for (k = 0; k < CODES; k++) r->table[k] = (int16_t)(k * (k + 1) / 2);
@@ -459,7 +475,7 @@ static int same_measure(const link_measure *a, const link_measure *b) {
 /* Lists of every second sample, every fourth, and so on, at the record's tolerance and at the
  * greatest: judge and its peer say the same of the first invalid link. */
 static void same_verdicts(const kept_record *r) {
-  static const int64_t tolerances[][2] = {{RECORD_P, RECORD_Q}, {65535, 1}};
+  const parts greatest = {{65535, 1}, {65535, 1}}, tolerances[] = {r->tolerance, greatest};
   uint16_t list[SAMPLES];
   size_t t, step;
   for (step = 2; step <= SAMPLES; step *= 2) {
@@ -467,10 +483,9 @@ static void same_verdicts(const kept_record *r) {
     for (k = 0; k < SAMPLES - 1; k += step) list[kept++] = (uint16_t)k;
     list[kept++] = SAMPLES - 1;
     for (t = 0; t < COUNT(tolerances); t++) {
-      int64_t p = tolerances[t][0], q = tolerances[t][1];
       kovrelna_judged a = kovrelna_judge(r->ticks, SAMPLES, r->values, SAMPLES, list, kept,
-                                         limits_of(p, q, r->gap));
-      judged b = judge_c(r->ticks, r->values, SAMPLES, list, kept, p, q, r->gap);
+                                         limits_of(tolerances[t], r->gap));
+      judged b = judge_c(r->ticks, r->values, SAMPLES, list, kept, tolerances[t], r->gap);
       link_measure measure = measure_from(a.p, a.q, a.sample, a.side);
       if (a.number != 0 || (int)a.passed != b.passed || a.value != b.link ||
           !same_measure(&measure, &b.measure))
@@ -514,10 +529,10 @@ static int is_expanded(const kept_record *r, int by_table) {
 }
 
 /* Times every call on the record of all samples or of walk's list. */
-static void measure_records(kept_record *r, size_t kind, int all) {
+static void measure_records(kept_record *r, size_t kind, parts tolerance, int all) {
   link_measure measure;
   int repetition, x, k;
-  make_record(r, kind, all, plain_write);
+  make_record(r, kind, tolerance, all, plain_write);
   same_verdicts(r);
   plain_measure(r);
   measure = r->measure;
@@ -544,6 +559,13 @@ static void measure_records(kept_record *r, size_t kind, int all) {
   }
 }
 
+/* Of a call and its peer: both times and their ratio. */
+static void print_recorder(int x) {
+  printf(" %9.2f %7.2f %7.2f", median_of(record_times[x], NULL, REPETITIONS),
+         median_of(record_times[x + 1], NULL, REPETITIONS),
+         median_of(record_times[x], record_times[x + 1], REPETITIONS));
+}
+
 static void print_records(void) {
   static kept_record r;
   int x, all;
@@ -560,14 +582,30 @@ static void print_records(void) {
          SAMPLES);
   for (kind = 0; kind < COUNT(KINDS); kind++) {
     for (all = 0; all <= 1; all++) {
-      measure_records(&r, kind, all);
+      measure_records(&r, kind, TOLERANCES[USUAL], all);
       printf("%-8s %7zu %7zu", KINDS[kind].name, r.kept, r.length);
-      for (x = 0; x < EXPAND_TABLE_C; x += 2)
-        printf(" %9.2f %7.2f %7.2f", median_of(record_times[x], NULL, REPETITIONS),
-               median_of(record_times[x + 1], NULL, REPETITIONS),
-               median_of(record_times[x], record_times[x + 1], REPETITIONS));
+      for (x = 0; x < EXPAND_TABLE_C; x += 2) print_recorder(x);
       printf(" %7.2f %7.2f\n", median_of(record_times[EXPAND_TABLE_C], NULL, REPETITIONS),
              median_of(record_times[EXPAND], record_times[EXPAND_TABLE_C], REPETITIONS));
+    }
+  }
+}
+
+static void print_unequal_records(void) {
+  static const int timed[] = {WRITE, READ, SAME, JUDGE};
+  static kept_record r;
+  size_t kind, t, x;
+  printf("\nWalk's list at unequal parts: written to a record, read, compared with a copy, judged.\n"
+         "Microseconds a call.\n"
+         "            above   below samples   bytes     write       C   ratio      read       C   ratio"
+         "      same       C   ratio     judge       C   ratio\n");
+  for (kind = 0; kind < COUNT(KINDS); kind++) {
+    for (t = 0; t < COUNT(UNEQUAL); t++) {
+      measure_records(&r, kind, UNEQUAL[t], 0);
+      printf("%-8s %8.2f %7.2f %7zu %7zu", KINDS[kind].name, number_of(UNEQUAL[t].above),
+             number_of(UNEQUAL[t].below), r.kept, r.length);
+      for (x = 0; x < COUNT(timed); x++) print_recorder(timed[x]);
+      puts("");
     }
   }
 }
@@ -576,24 +614,33 @@ static void print_records(void) {
 
 enum { SCANNED = KOVRELNA_TOLERANCES_MAX };
 
-/* The tolerances of a scan are the multiples of p/q from 1 to 16 times. */
-static const ratio STEPS[] = {{1, 2}, {5, 2}};
+/* The tolerances of a scan are the multiples of these from 1 to 16 times; then of unequal parts, with
+ * unequal denominators and with equal ones. */
+static const parts STEPS[] = {
+    {{1, 2}, {1, 2}}, {{5, 2}, {5, 2}}, {{1, 2}, {1, 3}}, {{3, 2}, {5, 2}}};
+enum { EQUAL_STEPS = 2 };
 
 /* 16 tolerances as the library and as C takes them. */
 typedef struct scan_set {
   kovrelna_tolerances lent;
-  ratio ratios[SCANNED];
+  parts parts[SCANNED];
 } scan_set;
 
-static scan_set make_set(ratio step) {
+/* So many times p/q, of which q is 2 or 3. */
+static ratio multiple(int64_t times, ratio x) {
+  x.p *= times;
+  if (x.p % x.q == 0) x.p /= x.q, x.q = 1;
+  return x;
+}
+
+static scan_set make_set(parts step) {
   scan_set set;
   int64_t a;
   set.lent.count = SCANNED;
   for (a = 0; a < SCANNED; a++) {
-    ratio times = {(a + 1) * step.p, step.q};
-    if (times.p % times.q == 0) times.p /= times.q, times.q = 1;
-    set.ratios[a] = times;
-    set.lent.list[a] = kovrelna_ratio((uint64_t)times.p, (uint64_t)times.q);
+    set.parts[a].above = multiple(a + 1, step.above);
+    set.parts[a].below = multiple(a + 1, step.below);
+    set.lent.list[a] = lent(set.parts[a]);
   }
   return set;
 }
@@ -617,13 +664,13 @@ static void library_scan(size_t kind, const scan_set *set, scan_lists *to) {
 static void library_walks(size_t kind, const scan_set *set, scan_lists *to) {
   size_t a;
   for (a = 0; a < SCANNED; a++)
-    to->kept[a] = library_walk(ticks[kind], values[kind], SAMPLES, set->ratios[a].p,
-                               set->ratios[a].q, KINDS[kind].gap, to->out + a * SAMPLES)
+    to->kept[a] = library_walk(ticks[kind], values[kind], SAMPLES, set->parts[a], KINDS[kind].gap,
+                               to->out + a * SAMPLES)
                       .kept;
 }
 
 static void plain_scan(size_t kind, const scan_set *set, scan_lists *to) {
-  if (scan_c(ticks[kind], values[kind], SAMPLES, set->ratios, SCANNED, KINDS[kind].gap, to->out,
+  if (scan_c(ticks[kind], values[kind], SAMPLES, set->parts, SCANNED, KINDS[kind].gap, to->out,
              SCANNED * SAMPLES, to->kept)
           .number != 0)
     fail("the peer refused a scan");
@@ -680,6 +727,14 @@ static scan_row measure_scan(size_t kind, const scan_set *set) {
   return row;
 }
 
+/* Of a scan at the multiples of this step. */
+static void print_scan(size_t kind, parts step) {
+  scan_set set = make_set(step);
+  scan_row row = measure_scan(kind, &set);
+  printf(" %9.2f %8.2f %7.2f %7.2f %7.2f\n", row.times[SCAN], row.times[SCAN_WALKS],
+         row.ratios[SCAN_WALKS], row.times[SCAN_C], row.ratios[SCAN_C]);
+}
+
 static void print_scans(void) {
   size_t kind, s;
   printf("\nscan, %d samples at %d tolerances, beside walk at each and beside C. Microseconds for\n"
@@ -687,13 +742,20 @@ static void print_scans(void) {
          "             from      to  kovrelna 16 walks   ratio       C   ratio\n",
          SAMPLES, SCANNED);
   for (kind = 0; kind < COUNT(KINDS); kind++) {
-    for (s = 0; s < COUNT(STEPS); s++) {
-      scan_set set = make_set(STEPS[s]);
-      scan_row row = measure_scan(kind, &set);
-      double step = (double)STEPS[s].p / (double)STEPS[s].q;
-      printf("%-8s %8.2f %7.2f %9.2f %8.2f %7.2f %7.2f %7.2f\n", KINDS[kind].name, step,
-             SCANNED * step, row.times[SCAN], row.times[SCAN_WALKS], row.ratios[SCAN_WALKS],
-             row.times[SCAN_C], row.ratios[SCAN_C]);
+    for (s = 0; s < EQUAL_STEPS; s++) {
+      double step = number_of(STEPS[s].above);
+      printf("%-8s %8.2f %7.2f", KINDS[kind].name, step, SCANNED * step);
+      print_scan(kind, STEPS[s]);
+    }
+  }
+  printf("\nThe same at unequal parts: the first above and below, and the last\n"
+         "            above   below      to      to  kovrelna 16 walks   ratio       C   ratio\n");
+  for (kind = 0; kind < COUNT(KINDS); kind++) {
+    for (s = EQUAL_STEPS; s < COUNT(STEPS); s++) {
+      double above = number_of(STEPS[s].above), below = number_of(STEPS[s].below);
+      printf("%-8s %8.2f %7.2f %7.2f %7.2f", KINDS[kind].name, above, below, SCANNED * above,
+             SCANNED * below);
+      print_scan(kind, STEPS[s]);
     }
   }
 }
@@ -962,43 +1024,42 @@ static void make_crates(size_t kind, size_t samples) {
   }
 }
 
-static void library_report(size_t n, const int64_t *tolerance) {
-  kovrelna_totals found = kovrelna_report(
-      today.ticks, n, today.values, n, today.lengths, CHANNELS,
-      limits_of(tolerance[0], tolerance[1], crate_gap), crate_rows, CHANNELS);
+static void library_report(size_t n, parts tolerance) {
+  kovrelna_totals found =
+      kovrelna_report(today.ticks, n, today.values, n, today.lengths, CHANNELS,
+                      limits_of(tolerance, crate_gap), crate_rows, CHANNELS);
   totals[0].samples = (size_t)found.samples;
   totals[0].kept = (size_t)found.kept;
   totals[0].p = (int64_t)found.p;
   totals[0].q = (int64_t)found.q;
 }
 
-static void plain_report(size_t n, const int64_t *tolerance) {
-  totals[1] = report_c(today.ticks, today.values, n, today.lengths, CHANNELS, tolerance[0],
-                       tolerance[1], crate_gap, crate_rows_c, CHANNELS);
+static void plain_report(size_t n, parts tolerance) {
+  totals[1] = report_c(today.ticks, today.values, n, today.lengths, CHANNELS, tolerance, crate_gap,
+                       crate_rows_c, CHANNELS);
 }
 
-static void library_pedestals(size_t n, const int64_t *tolerance) {
+static void library_pedestals(size_t n, parts tolerance) {
   kovrelna_compared found = kovrelna_pedestals(
       today.ticks, n, today.values, n, today.lengths, CHANNELS, before.ticks, n, before.values, n,
-      before.lengths, CHANNELS, kovrelna_ratio((uint64_t)tolerance[0], (uint64_t)tolerance[1]),
-      FACTOR, moved[0], CHANNELS, noisy[0], CHANNELS);
+      before.lengths, CHANNELS, lent(tolerance), FACTOR, moved[0], CHANNELS, noisy[0], CHANNELS);
   comparisons[0].number = found.number;
   comparisons[0].moved = (size_t)found.moved;
   comparisons[0].noisy = (size_t)found.noisy;
 }
 
-static void plain_pedestals(size_t n, const int64_t *tolerance) {
+static void plain_pedestals(size_t n, parts tolerance) {
   crate_run first = {today.ticks, today.values, n, today.lengths, CHANNELS};
   crate_run second = {before.ticks, before.values, n, before.lengths, CHANNELS};
-  comparisons[1] = pedestals_c(&first, &second, tolerance[0], tolerance[1], FACTOR, moved[1],
-                               CHANNELS, noisy[1], CHANNELS);
+  comparisons[1] = pedestals_c(&first, &second, tolerance.above.p, tolerance.above.q, FACTOR,
+                               moved[1], CHANNELS, noisy[1], CHANNELS);
 }
 
 enum { REPORT, REPORT_C, PEDESTALS, PEDESTALS_C, CRATE_CALLS };
 
 static const struct {
   const char *name;
-  void (*call)(size_t, const int64_t *);
+  void (*call)(size_t, parts);
 } CRATE_CALL[CRATE_CALLS] = {{"kovrelna_report", library_report},
                              {"report_c", plain_report},
                              {"kovrelna_pedestals", library_pedestals},
@@ -1031,7 +1092,7 @@ typedef struct crate_row {
 } crate_row;
 
 /* Times call x and its peer, the next, on crates of so many samples a channel. */
-static crate_row measure_crates(int x, size_t kind, size_t samples, const int64_t *tolerance) {
+static crate_row measure_crates(int x, size_t kind, size_t samples, parts tolerance) {
   static double list[2][REPETITIONS];
   crate_row row;
   int calls = samples < SAMPLES ? SMALL_CALLS : 1, repetition, y, k;
@@ -1050,11 +1111,11 @@ static crate_row measure_crates(int x, size_t kind, size_t samples, const int64_
   return row;
 }
 
-static void print_report(size_t kind, size_t samples, const int64_t *tolerance) {
+static void print_report(size_t kind, size_t samples, parts tolerance) {
   crate_row row = measure_crates(REPORT, kind, samples, tolerance);
-  printf("%-8s %7zu %9.2f %7zu %9.2f %7.2f %7.2f\n", KINDS[kind].name, samples,
-         (double)tolerance[0] / (double)tolerance[1], totals[0].kept, row.times[0], row.times[1],
-         row.ratio);
+  printf("%-8s %7zu %9.2f", KINDS[kind].name, samples, number_of(tolerance.above));
+  if (!is_one(tolerance)) printf(" %7.2f", number_of(tolerance.below));
+  printf(" %7zu %9.2f %7.2f %7.2f\n", totals[0].kept, row.times[0], row.times[1], row.ratio);
 }
 
 static void print_reports(void) {
@@ -1064,7 +1125,11 @@ static void print_reports(void) {
          CHANNELS, SAMPLES);
   for (kind = 0; kind < COUNT(KINDS); kind++)
     for (t = 0; t < COUNT(TOLERANCES); t++) print_report(kind, SAMPLES, TOLERANCES[t]);
-  print_report(PULSE, SMALL, TOLERANCES[1]);
+  print_report(PULSE, SMALL, TOLERANCES[USUAL]);
+  printf("\nThe same at unequal parts\n"
+         "         samples     above   below    kept  kovrelna       C   ratio\n");
+  for (kind = 0; kind < COUNT(KINDS); kind++)
+    for (t = 0; t < COUNT(UNEQUAL); t++) print_report(kind, SAMPLES, UNEQUAL[t]);
 }
 
 /* Samples a channel of the runs that are compared. */
@@ -1079,7 +1144,7 @@ static void print_pedestals(void) {
          CHANNELS, FACTOR);
   for (kind = 0; kind < 2; kind++) {
     for (s = 0; s < COUNT(RUNS); s++) {
-      crate_row row = measure_crates(PEDESTALS, kind, RUNS[s], TOLERANCES[1]);
+      crate_row row = measure_crates(PEDESTALS, kind, RUNS[s], TOLERANCES[USUAL]);
       printf("%-8s %7zu %7zu %7zu %9.2f %7.2f %7.2f\n", KINDS[kind].name, RUNS[s],
              comparisons[0].moved, comparisons[0].noisy, row.times[0], row.times[1], row.ratio);
     }
@@ -1100,32 +1165,50 @@ static void print_times(void) {
          __VERSION__);
   printf("\nwalk     tolerance    kept  kovrelna       C   ratio\n");
   for (r = rows; r < end; r++)
-    printf("%-8s %9.2f %7zu %9.2f %7.2f %7.2f\n", r->kind, r->tolerance, r->answers[WALK].kept,
-           median(r, WALK, -1), median(r, WALK_C, -1), median(r, WALK, WALK_C));
+    printf("%-8s %9.2f %7zu %9.2f %7.2f %7.2f\n", r->kind, number_of(r->tolerance.above),
+           r->answers[WALK].kept, median(r, WALK, -1), median(r, WALK_C, -1),
+           median(r, WALK, WALK_C));
   printf("\ngallop   tolerance    kept  kovrelna       C   ratio  gallop/walk  probes\n");
   for (r = rows; r < end; r++)
-    printf("%-8s %9.2f %7zu %9.2f %7.2f %7.2f %12.2f %7llu\n", r->kind, r->tolerance,
-           r->answers[GALLOP].kept, median(r, GALLOP, -1), median(r, GALLOP_C, -1),
+    printf("%-8s %9.2f %7zu %9.2f %7.2f %7.2f %12.2f %7llu\n", r->kind,
+           number_of(r->tolerance.above), r->answers[GALLOP].kept, median(r, GALLOP, -1), median(r, GALLOP_C, -1),
            median(r, GALLOP, GALLOP_C), median(r, GALLOP, WALK),
            (unsigned long long)r->answers[GALLOP].probes);
   printf("\nminimum  tolerance    kept  kovrelna       C   ratio  C, no stop   ratio\n");
   for (r = rows; r < end; r++)
-    printf("%-8s %9.2f %7zu %9.2f %7.2f %7.2f %11.2f %7.2f\n", r->kind, r->tolerance,
-           r->answers[MINIMUM].kept, milliseconds * median(r, MINIMUM, -1),
+    printf("%-8s %9.2f %7zu %9.2f %7.2f %7.2f %11.2f %7.2f\n", r->kind,
+           number_of(r->tolerance.above), r->answers[MINIMUM].kept, milliseconds * median(r, MINIMUM, -1),
            milliseconds * median(r, MINIMUM_C, -1), median(r, MINIMUM, MINIMUM_C),
            milliseconds * median(r, MINIMUM_C_NOSTOP, -1), median(r, MINIMUM, MINIMUM_C_NOSTOP));
   printf("\nDouglas-Peucker (DP) in C, vertical distance\n"
          "         tolerance    kept  walk keeps       C  walk/DP\n");
   for (r = rows; r < end; r++)
-    printf("%-8s %9.2f %7zu %11zu %7.2f %8.3f\n", r->kind, r->tolerance,
+    printf("%-8s %9.2f %7zu %11zu %7.2f %8.3f\n", r->kind, number_of(r->tolerance.above),
            r->answers[DOUGLAS_PEUCKER_C].kept, r->answers[WALK].kept,
            median(r, DOUGLAS_PEUCKER_C, -1), median(r, WALK, DOUGLAS_PEUCKER_C));
 }
 
+static void print_unequal_times(void) {
+  static const int reducers[] = {WALK, GALLOP, MINIMUM};
+  const row *r, *end = unequal_rows + COUNT(unequal_rows);
+  size_t m;
+  for (m = 0; m < COUNT(reducers); m++) {
+    int x = reducers[m], peer = x + 1;
+    double unit = x == MINIMUM ? 1e-6 * SAMPLES : 1;
+    printf("\n%s at unequal parts\n"
+           "            above   below    kept  kovrelna       C   ratio\n",
+           REDUCER[x].name + strlen("kovrelna_"));
+    for (r = unequal_rows; r < end; r++)
+      printf("%-8s %8.2f %7.2f %7zu %9.2f %7.2f %7.2f\n", r->kind, number_of(r->tolerance.above),
+             number_of(r->tolerance.below), r->answers[x].kept, unit * median(r, x, -1),
+             unit * median(r, peer, -1), median(r, x, peer));
+  }
+}
+
 /* What walk, gallop and minimum keep, and minimum at half the tolerance. */
 static void print_kept(void) {
-  static const int64_t tolerances[][2] = {{1, 2}, {1, 1}, {2, 1}, {5, 2}, {5, 1}, {15, 2}, {15, 1},
-                                          {40, 1}};
+  static const ratio tolerances[] = {{1, 2}, {1, 1}, {2, 1}, {5, 2}, {5, 1}, {15, 2}, {15, 1},
+                                     {40, 1}};
   static const int reducers[] = {WALK, GALLOP, MINIMUM};
   size_t kind, t, m;
   printf("Kept numbers, traces of %d samples\n"
@@ -1133,7 +1216,8 @@ static void print_kept(void) {
          SAMPLES);
   for (kind = 0; kind < COUNT(KINDS); kind++) {
     for (t = 0; t < COUNT(tolerances); t++) {
-      const int64_t *whole = tolerances[t], half[] = {whole[0], 2 * whole[1]};
+      const ratio one = tolerances[t], by_half = {one.p, 2 * one.q};
+      const parts whole = {one, one}, half = {by_half, by_half};
       reduced answers[REDUCERS];
       for (m = 0; m < COUNT(reducers); m++) {
         int x = reducers[m], peer = x + 1;
@@ -1141,9 +1225,9 @@ static void print_kept(void) {
         answers[peer] = call(peer, kind, whole);
         same(answers, x, peer);
       }
-      printf("%-8s %9.2f %7zu %7zu %8zu %16zu\n", KINDS[kind].name,
-             (double)whole[0] / (double)whole[1], answers[WALK].kept, answers[GALLOP].kept,
-             answers[MINIMUM].kept, call(MINIMUM, kind, half).kept);
+      printf("%-8s %9.2f %7zu %7zu %8zu %16zu\n", KINDS[kind].name, number_of(one),
+             answers[WALK].kept, answers[GALLOP].kept, answers[MINIMUM].kept,
+             call(MINIMUM, kind, half).kept);
     }
   }
 }
@@ -1164,7 +1248,8 @@ static void print_shortest(void) {
     for (x = WALK; x <= WALK_C; x++) {
       double start = now();
       for (k = 0; k < MANY; k++)
-        REDUCER[x].call(ticks[PULSE], values[PULSE], 2, 15, 2, KINDS[PULSE].gap, lists[x]);
+        REDUCER[x].call(ticks[PULSE], values[PULSE], 2, TOLERANCES[USUAL], KINDS[PULSE].gap,
+                        lists[x]);
       times[x][repetition] = 1e-3 * (now() - start) / MANY;
     }
   }
@@ -1173,9 +1258,31 @@ static void print_shortest(void) {
 }
 
 /* A line of a call on crates of the pulse trace. */
-static void print_crates(const char *name, int x, size_t samples) {
-  crate_row row = measure_crates(x, 0, samples, TOLERANCES[1]);
+static void print_crates(const char *name, int x, size_t samples, parts tolerance) {
+  crate_row row = measure_crates(x, 0, samples, tolerance);
   print_line(name, row.times[0], row.ratio);
+}
+
+/* The lines of the calls at unequal parts. */
+static void print_unequal_summary(void) {
+  static const char *const reducers[] = {"kovrelna_walk_parts", "kovrelna_gallop_parts",
+                                         "kovrelna_minimum_parts"};
+  static kept_record r;
+  scan_set set = make_set(STEPS[EQUAL_STEPS]);
+  scan_row scan;
+  int x;
+  measure(&rows[0], 0, UNEQUAL[USUAL]);
+  for (x = WALK; x <= MINIMUM; x += 2)
+    print_line(reducers[x / 2], 1e-3 * SAMPLES * median(&rows[0], x, -1),
+               median(&rows[0], x, x + 1));
+  scan = measure_scan(0, &set);
+  print_line("kovrelna_scan_parts", scan.times[SCAN], scan.ratios[SCAN_C]);
+  print_crates("kovrelna_report_parts", REPORT, SAMPLES, UNEQUAL[USUAL]);
+  measure_records(&r, 0, UNEQUAL[USUAL], 0);
+  print_line("kovrelna_judge_parts", median_of(record_times[JUDGE], NULL, REPETITIONS),
+             median_of(record_times[JUDGE], record_times[JUDGE_C], REPETITIONS));
+  print_line("kovrelna_write_parts", median_of(record_times[WRITE], NULL, REPETITIONS),
+             median_of(record_times[WRITE], record_times[WRITE_C], REPETITIONS));
 }
 
 static void print_summary(void) {
@@ -1185,7 +1292,7 @@ static void print_summary(void) {
   view_row view;
   least_row least;
   int x;
-  measure(&rows[0], 0, TOLERANCES[1]);
+  measure(&rows[0], 0, TOLERANCES[USUAL]);
   for (x = WALK; x <= MINIMUM; x += 2)
     print_line(REDUCER[x].name, 1e-3 * SAMPLES * median(&rows[0], x, -1),
                median(&rows[0], x, x + 1));
@@ -1196,15 +1303,16 @@ static void print_summary(void) {
   print_line(VIEWER[VIEW_ADD].run, 1e3 * view.all[VIEW_ADD], view.all_ratio);
   least = measure_least(0, 20);
   print_line(LEASTER[LEAST].name, 1e3 * least.times[LEAST], least.ratio);
-  print_crates(CRATE_CALL[REPORT].name, REPORT, SAMPLES);
-  print_crates("kovrelna_small", REPORT, SMALL);
-  print_crates(CRATE_CALL[PEDESTALS].name, PEDESTALS, RUNS[0]);
-  print_crates("kovrelna_small_runs", PEDESTALS, RUNS[2]);
-  measure_records(&r, 0, 0);
+  print_crates(CRATE_CALL[REPORT].name, REPORT, SAMPLES, TOLERANCES[USUAL]);
+  print_crates("kovrelna_small", REPORT, SMALL, TOLERANCES[USUAL]);
+  print_crates(CRATE_CALL[PEDESTALS].name, PEDESTALS, RUNS[0], TOLERANCES[USUAL]);
+  print_crates("kovrelna_small_runs", PEDESTALS, RUNS[2], TOLERANCES[USUAL]);
+  measure_records(&r, 0, TOLERANCES[USUAL], 0);
   for (x = 0; x < EXPAND_TABLE_C; x += 2)
     print_line(RECORDER[x].name, median_of(record_times[x], NULL, REPETITIONS),
                median_of(record_times[x], record_times[x + 1], REPETITIONS));
   print_shortest();
+  print_unequal_summary();
 }
 
 /* A line for each sample. */
@@ -1220,19 +1328,21 @@ int main(int argc, char **argv) {
   make_traces();
   make_dropout();
   make_few();
-  if ((argc == 4 || argc == 5) && strcmp(argv[1], "once") == 0) {
+  if (argc >= 4 && argc <= 6 && strcmp(argv[1], "once") == 0) {
     static kept_record record;
-    size_t samples = argc == 5 ? (size_t)atoi(argv[4]) : SAMPLES;
-    size_t number = argc == 5 ? (size_t)atoi(argv[4]) : 0;
-    uint32_t k = argc == 5 ? (uint32_t)atoi(argv[4]) : KOVRELNA_VIEW_K_MAX;
+    size_t samples = argc >= 5 ? (size_t)atoi(argv[4]) : SAMPLES;
+    size_t number = argc >= 5 ? (size_t)atoi(argv[4]) : 0;
+    uint32_t k = argc >= 5 ? (uint32_t)atoi(argv[4]) : KOVRELNA_VIEW_K_MAX;
+    parts tolerance = argc == 6 ? UNEQUAL[(size_t)atoi(argv[5]) % COUNT(UNEQUAL)] : TOLERANCES[USUAL];
     scan_set set = make_set(STEPS[number % COUNT(STEPS)]);
     for (kind = 0; kind < COUNT(KINDS); kind++) {
       if (strcmp(argv[2], KINDS[kind].name) != 0) continue;
       for (x = 0; x < REDUCERS; x++)
-        if (strcmp(argv[3], REDUCER[x].name) == 0) call(x, kind, TOLERANCES[1]);
+        if (strcmp(argv[3], REDUCER[x].name) == 0) call(x, kind, tolerance);
       for (x = 0; x < RECORDERS; x++) {
         if (strcmp(argv[3], RECORDER[x].name) != 0) continue;
-        make_record(&record, kind, 1, x == WRITE_C ? library_write : plain_write);
+        make_record(&record, kind, tolerance, is_one(tolerance),
+                    x == WRITE_C ? library_write : plain_write);
         RECORDER[x].call(&record);
       }
       for (x = 0; x < SCANNERS; x++)
@@ -1246,7 +1356,7 @@ int main(int argc, char **argv) {
       make_crates(kind, samples);
       for (x = 0; x < CRATE_CALLS; x++)
         if (strcmp(argv[3], CRATE_CALL[x].name) == 0)
-          CRATE_CALL[x].call(CHANNELS * samples, TOLERANCES[1]);
+          CRATE_CALL[x].call(CHANNELS * samples, tolerance);
     }
     return 0;
   }
@@ -1257,13 +1367,18 @@ int main(int argc, char **argv) {
   for (kind = 0; kind < COUNT(KINDS); kind++)
     for (t = 0; t < COUNT(TOLERANCES); t++)
       measure(&rows[kind * COUNT(TOLERANCES) + t], kind, TOLERANCES[t]);
+  for (kind = 0; kind < COUNT(KINDS); kind++)
+    for (t = 0; t < COUNT(UNEQUAL); t++)
+      measure(&unequal_rows[kind * COUNT(UNEQUAL) + t], kind, UNEQUAL[t]);
   print_times();
+  print_unequal_times();
   print_scans();
   print_views();
   print_least();
   print_reports();
   print_pedestals();
   print_records();
+  print_unequal_records();
   puts("");
   print_kept();
   return 0;

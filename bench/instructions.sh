@@ -8,7 +8,7 @@ fi
 kinds="pulse noise ramp zigzag spike dropout"
 
 # table SAMPLES CALL..: calls of so many samples in all; where `each` is set, so many a channel, the set
-# of tolerances of scan, or k of a view.
+# of tolerances of scan, or k of a view; where `parts` is set too, at these unequal parts.
 table() {
   samples=$1
   shift
@@ -30,7 +30,7 @@ table() {
       printf '%-20s' "$function"
       for kind in $kinds; do
         valgrind --tool=callgrind --callgrind-out-file=/dev/null --toggle-collect="$counted" \
-          "$bench" once "$kind" "$function" ${each:-} 2>&1 |
+          "$bench" once "$kind" "$function" ${each:-} ${parts:-} 2>&1 |
           awk -v samples="$samples" '/Collected/ { printf " %10.1f", $NF / samples }'
       done
       echo
@@ -43,6 +43,17 @@ echo
 echo "Instructions a sample, whole call, 4096 samples, tolerance 7.50; records and lists of all samples,"
 echo "and the link from the first to the last"
 table 4096 walk gallop minimum write read same judge measure sum expand expand_with
+each=4096
+for parts in 1 2; do
+  below="10/3"
+  [ "$parts" = 1 ] || below="5/2"
+  echo
+  echo "Instructions a sample, whole call, 4096 samples, 15/2 above and $below below; records and lists of"
+  echo "walk; last 64 channels of so many"
+  table 4096 walk gallop minimum write judge
+  table 262144 report
+done
+parts=""
 echo
 echo "Instructions a sample and tolerance, whole call, 4096 samples, 16 tolerances from 0.50 to 8;"
 echo "kovrelna_walks: walk at each"
@@ -51,6 +62,14 @@ table 65536 scan
 echo
 echo "The same, from 2.50 to 40"
 each=1
+table 65536 scan
+echo
+echo "The same, from 1/2 above and 1/3 below to 8 and 16/3"
+each=2
+table 65536 scan
+echo
+echo "The same, from 3/2 above and 5/2 below to 24 and 40"
+each=3
 table 65536 scan
 for each in 8 32; do
   echo

@@ -8,6 +8,10 @@ enum { VIEW_K = 32 };
 /* Samples that are searched for a hole at once, by vector instructions. */
 enum { BLOCK = 64 };
 
+/* For what is compiled once for equal parts, where both edges of a cone have one scale, and once for
+ * unequal ones. */
+#define FOR_PARTS static inline __attribute__((always_inline))
+
 static int is_trace(const uint32_t *ticks, size_t n) {
   unsigned stuck = 0;
   size_t k;
@@ -36,39 +40,68 @@ static size_t first_hole(const uint32_t *ticks, size_t a, size_t b, uint32_t gap
  * from i on that a hole follows, or the last. */
 static size_t past_links(size_t i, size_t e) { return (e == i ? i + 1 : e) + 1; }
 
-/* The slopes, as rise times q over run, of the lines from a start that pass every sample taken in
- * within p/q: from low to high. A rise is below 2^38 and a run below 2^20. */
+/* A tolerance: the part above, the part below, and each in units of the other's denominator,
+ * rounded up. */
+typedef struct band {
+  ratio up, down;
+  int64_t up_most, down_most;
+} band;
+
+static int64_t in_units(ratio part, int64_t q) { return (part.p * q + part.q - 1) / part.q; }
+
+static band band_of(parts t) {
+  band b = {t.above, t.below, in_units(t.above, t.below.q), in_units(t.below, t.above.q)};
+  return b;
+}
+
+static int is_one(parts t) { return t.above.p == t.below.p && t.above.q == t.below.q; }
+
+/* That of equal parts. */
+FOR_PARTS band one_band(ratio part) {
+  band b = {part, part, part.p, part.p};
+  return b;
+}
+
+/* The slopes of the lines from a start that pass every sample taken in within the band: from low to
+ * high. A low rise is in units of the part above's denominator and a high one in those of the part
+ * below's; it is below 2^38, and a run below 2^20. */
 typedef struct cone {
   int64_t high_rise, high_run, low_rise, low_run;
 } cone;
 
-static cone around(int64_t rise, int64_t run, int64_t p) {
-  cone c = {rise + p, run, rise - p, run};
+/* A sample as seen from the start of a cone: its rise in either unit. */
+typedef struct sight {
+  int64_t low_rise, high_rise, run;
+} sight;
+
+FOR_PARTS sight sight_of(int64_t change, int64_t run, band b) {
+  sight s = {b.up.q * change, b.down.q * change, run};
+  return s;
+}
+
+FOR_PARTS cone around(sight s, band b) {
+  cone c = {s.high_rise + b.down.p, s.run, s.low_rise - b.up.p, s.run};
   return c;
 }
 
-/* How far a slope is above the high edge, and below the low edge, times both runs. */
-static int64_t above(cone c, int64_t rise, int64_t run) {
-  return rise * c.high_run - c.high_rise * run;
-}
+/* How far a sample is above the high edge, and below the low edge, times both runs. */
+FOR_PARTS int64_t above(cone c, sight s) { return s.high_rise * c.high_run - c.high_rise * s.run; }
 
-static int64_t below(cone c, int64_t rise, int64_t run) {
-  return c.low_rise * run - rise * c.low_run;
-}
+FOR_PARTS int64_t below(cone c, sight s) { return c.low_rise * s.run - s.low_rise * c.low_run; }
 
 /* The cone with one more sample, which has these distances from its edges. */
-static cone narrowed(cone c, int64_t rise, int64_t run, int64_t p, int64_t over, int64_t under) {
-  int high = over + p * c.high_run < 0, low = under + p * c.low_run < 0;
-  c.high_rise = high ? rise + p : c.high_rise;
-  c.high_run = high ? run : c.high_run;
-  c.low_rise = low ? rise - p : c.low_rise;
-  c.low_run = low ? run : c.low_run;
+FOR_PARTS cone narrowed(cone c, sight s, band b, int64_t over, int64_t under) {
+  int high = over + b.down.p * c.high_run < 0, low = under + b.up.p * c.low_run < 0;
+  c.high_rise = high ? s.high_rise + b.down.p : c.high_rise;
+  c.high_run = high ? s.run : c.high_run;
+  c.low_rise = low ? s.low_rise - b.up.p : c.low_rise;
+  c.low_run = low ? s.run : c.low_run;
   return c;
 }
 
 /* Writes walk's list of a trace that is one, and returns its kept number. */
-static inline size_t walk_list(const uint32_t *ticks, const int16_t *values, size_t n, int64_t p,
-                               int64_t q, uint32_t gap, uint16_t *out) {
+FOR_PARTS size_t walk_band(const uint32_t *ticks, const int16_t *values, size_t n, band b,
+                           uint32_t gap, uint16_t *out) {
   size_t i = 0, kept = 0;
   out[kept++] = 0;
   while (i < n - 1) {
@@ -76,12 +109,12 @@ static inline size_t walk_list(const uint32_t *ticks, const int16_t *values, siz
     while (i < past - 1) {
       size_t k = i + 1;
       int64_t tick = ticks[i], value = values[i];
-      cone c = around(q * (values[k] - value), ticks[k] - tick, p);
+      cone c = around(sight_of(values[k] - value, ticks[k] - tick, b), b);
       while (++k < past) {
-        int64_t run = ticks[k] - tick, rise = q * (values[k] - value);
-        int64_t over = above(c, rise, run), under = below(c, rise, run);
+        sight s = sight_of(values[k] - value, ticks[k] - tick, b);
+        int64_t over = above(c, s), under = below(c, s);
         if ((over > 0) | (under > 0)) break;
-        c = narrowed(c, rise, run, p, over, under);
+        c = narrowed(c, s, b, over, under);
       }
       i = k - 1;
       out[kept++] = (uint16_t)i;
@@ -90,50 +123,58 @@ static inline size_t walk_list(const uint32_t *ticks, const int16_t *values, siz
   return kept;
 }
 
-reduced walk_c(const uint32_t *ticks, const int16_t *values, size_t n, int64_t p, int64_t q,
-               uint32_t gap, uint16_t *out) {
+static inline size_t walk_list(const uint32_t *ticks, const int16_t *values, size_t n, parts t,
+                               uint32_t gap, uint16_t *out) {
+  if (is_one(t)) return walk_band(ticks, values, n, one_band(t.above), gap, out);
+  return walk_band(ticks, values, n, band_of(t), gap, out);
+}
+
+reduced walk_c(const uint32_t *ticks, const int16_t *values, size_t n, parts t, uint32_t gap,
+               uint16_t *out) {
   reduced answer = {0, 0};
-  if (is_trace(ticks, n)) answer.kept = walk_list(ticks, values, n, p, q, gap, out);
+  if (is_trace(ticks, n)) answer.kept = walk_list(ticks, values, n, t, gap, out);
   return answer;
 }
 
-/* Whether no line passes all samples and one more, which has these distances from the edges. */
-static int is_empty(cone c, int64_t p, int64_t over, int64_t under) {
-  return (over > p * c.high_run) | (under > p * c.low_run);
+/* Whether surely no line passes all samples and one more, which has these distances from the edges:
+ * its own low edge is above the high one, or its high edge below the low one. With equal
+ * denominators exactly then; otherwise its own edges are taken in the other's units, rounded outwards,
+ * so that no product exceeds 64 bits. */
+FOR_PARTS int is_empty(cone c, band b, int64_t over, int64_t under) {
+  return (over > b.up_most * c.high_run) | (under > b.down_most * c.low_run);
 }
 
 /* Whether the link from i to j is valid, where the cone has the samples after i and before `from`.
  * Takes in the samples up to j. */
-static int extend(cone *c, const uint32_t *ticks, const int16_t *values, size_t i, size_t from,
-                  size_t j, int64_t p, int64_t q) {
+FOR_PARTS int extend(cone *c, const uint32_t *ticks, const int16_t *values, size_t i, size_t from,
+                     size_t j, band b) {
   int64_t over = 0, under = 0;
   size_t k;
   for (k = from; k <= j; k++) {
-    int64_t run = ticks[k] - (int64_t)ticks[i], rise = q * (values[k] - values[i]);
-    over = above(*c, rise, run);
-    under = below(*c, rise, run);
-    if (is_empty(*c, p, over, under)) return 0;
-    *c = narrowed(*c, rise, run, p, over, under);
+    sight s = sight_of(values[k] - values[i], ticks[k] - (int64_t)ticks[i], b);
+    over = above(*c, s);
+    under = below(*c, s);
+    if (is_empty(*c, b, over, under)) return 0;
+    *c = narrowed(*c, s, b, over, under);
   }
   return (over <= 0) & (under <= 0);
 }
 
-reduced gallop_c(const uint32_t *ticks, const int16_t *values, size_t n, int64_t p, int64_t q,
-                 uint32_t gap, uint16_t *out) {
+FOR_PARTS reduced gallop_band(const uint32_t *ticks, const int16_t *values, size_t n, band b,
+                              uint32_t gap, uint16_t *out) {
   reduced answer = {0, 0};
   size_t i = 0;
-  if (!is_trace(ticks, n)) return answer;
   out[answer.kept++] = 0;
   while (i < n - 1) {
     size_t past = past_links(i, first_hole(ticks, i, n - 1, gap));
     while (i < past - 1) {
       size_t low = 1, high = 2;
-      int64_t run = ticks[i + 1] - (int64_t)ticks[i], rise = q * (values[i + 1] - values[i]);
-      cone c = around(rise, run, p);
+      int64_t run = ticks[i + 1] - (int64_t)ticks[i];
+      cone c = around(sight_of(values[i + 1] - values[i], run, b), b);
       for (;;) {
         cone wider = c;
         answer.probes++;
-        if (i + high >= past || !extend(&wider, ticks, values, i, i + low + 1, i + high, p, q))
+        if (i + high >= past || !extend(&wider, ticks, values, i, i + low + 1, i + high, b))
           break;
         c = wider;
         low = high;
@@ -143,7 +184,7 @@ reduced gallop_c(const uint32_t *ticks, const int16_t *values, size_t n, int64_t
         size_t middle = (low + high) / 2;
         cone wider = c;
         answer.probes++;
-        if (i + middle < past && extend(&wider, ticks, values, i, i + low + 1, i + middle, p, q)) {
+        if (i + middle < past && extend(&wider, ticks, values, i, i + low + 1, i + middle, b)) {
           c = wider;
           low = middle;
         } else {
@@ -157,34 +198,40 @@ reduced gallop_c(const uint32_t *ticks, const int16_t *values, size_t n, int64_t
   return answer;
 }
 
-static inline reduced minimum_by_table(const uint32_t *ticks, const int16_t *values, size_t n,
-                                       int64_t p, int64_t q, uint32_t gap, uint16_t *out,
-                                       int stop) {
+reduced gallop_c(const uint32_t *ticks, const int16_t *values, size_t n, parts t, uint32_t gap,
+                 uint16_t *out) {
+  reduced none = {0, 0};
+  if (!is_trace(ticks, n)) return none;
+  if (is_one(t)) return gallop_band(ticks, values, n, one_band(t.above), gap, out);
+  return gallop_band(ticks, values, n, band_of(t), gap, out);
+}
+
+FOR_PARTS reduced minimum_band(const uint32_t *ticks, const int16_t *values, size_t n, band b,
+                               uint32_t gap, uint16_t *out, int stop) {
   reduced answer = {0, 0};
   /* The links of the shortest list from each sample to the last, and the latest next sample. */
   uint16_t links[SAMPLES], next[SAMPLES];
   size_t i, k, past = n;
-  if (!is_trace(ticks, n)) return answer;
   links[n - 1] = 0;
   for (i = n - 1; i-- > 0;) {
     int64_t tick = ticks[i], value = values[i];
-    cone c = around(q * (values[i + 1] - value), ticks[i + 1] - tick, p);
+    cone c = around(sight_of(values[i + 1] - value, ticks[i + 1] - tick, b), b);
     size_t best = i + 1;
     unsigned fewest = links[best];
     /* Only the link of one step crosses a hole after sample i. */
     if (ticks[i + 1] - ticks[i] > gap) past = i + 1;
     for (k = i + 2; k < past; k++) {
-      int64_t run = ticks[k] - tick, rise = q * (values[k] - value);
-      int64_t over = above(c, rise, run), under = below(c, rise, run);
+      sight s = sight_of(values[k] - value, ticks[k] - tick, b);
+      int64_t over = above(c, s), under = below(c, s);
       if ((over <= 0) & (under <= 0)) {
         if (links[k] <= fewest) {
           fewest = links[k];
           best = k;
         }
-      } else if (stop && is_empty(c, p, over, under)) {
+      } else if (stop && is_empty(c, b, over, under)) {
         break;
       }
-      c = narrowed(c, rise, run, p, over, under);
+      c = narrowed(c, s, b, over, under);
     }
     links[i] = (uint16_t)(fewest + 1);
     next[i] = (uint16_t)best;
@@ -194,14 +241,22 @@ static inline reduced minimum_by_table(const uint32_t *ticks, const int16_t *val
   return answer;
 }
 
-reduced minimum_c(const uint32_t *ticks, const int16_t *values, size_t n, int64_t p, int64_t q,
-                  uint32_t gap, uint16_t *out) {
-  return minimum_by_table(ticks, values, n, p, q, gap, out, 1);
+FOR_PARTS reduced minimum_by_table(const uint32_t *ticks, const int16_t *values, size_t n, parts t,
+                                   uint32_t gap, uint16_t *out, int stop) {
+  reduced none = {0, 0};
+  if (!is_trace(ticks, n)) return none;
+  if (is_one(t)) return minimum_band(ticks, values, n, one_band(t.above), gap, out, stop);
+  return minimum_band(ticks, values, n, band_of(t), gap, out, stop);
 }
 
-reduced minimum_c_nostop(const uint32_t *ticks, const int16_t *values, size_t n, int64_t p,
-                         int64_t q, uint32_t gap, uint16_t *out) {
-  return minimum_by_table(ticks, values, n, p, q, gap, out, 0);
+reduced minimum_c(const uint32_t *ticks, const int16_t *values, size_t n, parts t, uint32_t gap,
+                  uint16_t *out) {
+  return minimum_by_table(ticks, values, n, t, gap, out, 1);
+}
+
+reduced minimum_c_nostop(const uint32_t *ticks, const int16_t *values, size_t n, parts t,
+                         uint32_t gap, uint16_t *out) {
+  return minimum_by_table(ticks, values, n, t, gap, out, 0);
 }
 
 /* How far sample k is above the line of the link from i to j, times the link's run. */
@@ -233,8 +288,8 @@ static inline farthest farthest_of(const uint32_t *ticks, const int16_t *values,
 }
 
 /* Marks the samples that Douglas-Peucker keeps of those after i and up to `end`. */
-static void divide(const uint32_t *ticks, const int16_t *values, size_t i, size_t end, int64_t p,
-                   int64_t q, unsigned char *keep) {
+static void divide(const uint32_t *ticks, const int16_t *values, size_t i, size_t end, ratio bound,
+                   unsigned char *keep) {
   /* The ends of the links that remain, from the last back. */
   uint16_t ends[SAMPLES];
   size_t open = 0;
@@ -242,7 +297,7 @@ static void divide(const uint32_t *ticks, const int16_t *values, size_t i, size_
   while (open > 0) {
     size_t j = ends[open - 1];
     farthest f = farthest_of(ticks, values, i, j);
-    if (f.distance * q > p * f.run) {
+    if (f.distance * bound.q > bound.p * f.run) {
       ends[open++] = (uint16_t)f.sample;
     } else {
       keep[j] = 1;
@@ -252,8 +307,8 @@ static void divide(const uint32_t *ticks, const int16_t *values, size_t i, size_
   }
 }
 
-reduced douglas_peucker_c(const uint32_t *ticks, const int16_t *values, size_t n, int64_t p,
-                          int64_t q, uint32_t gap, uint16_t *out) {
+reduced douglas_peucker_c(const uint32_t *ticks, const int16_t *values, size_t n, parts t,
+                          uint32_t gap, uint16_t *out) {
   reduced answer = {0, 0};
   unsigned char keep[SAMPLES];
   size_t i, end, k;
@@ -262,17 +317,15 @@ reduced douglas_peucker_c(const uint32_t *ticks, const int16_t *values, size_t n
   for (i = 0; i < n; i = end + 1) {
     end = first_hole(ticks, i, n - 1, gap);
     keep[i] = 1;
-    divide(ticks, values, i, end, p, q, keep);
+    divide(ticks, values, i, end, t.above, keep);
   }
   for (k = 0; k < n; k++)
     if (keep[k]) out[answer.kept++] = (uint16_t)k;
   return answer;
 }
 
-/* The fraction p/q, p below 2^38 and q from 1 to SPAN. */
-typedef struct fraction {
-  int64_t p, q;
-} fraction;
+/* A fraction has p below 2^38 and q from 1 to SPAN. */
+typedef ratio fraction;
 
 static int at_most(fraction x, fraction y) { return x.p * y.q <= y.p * x.q; }
 
@@ -353,16 +406,18 @@ static answered trace_refusal(const uint32_t *ticks, size_t n) {
   return answer_of(3, k);
 }
 
+static int is_allowed(ratio part) {
+  return part.q >= 1 && part.q <= SPAN && part.p >= 0 && part.p <= 65535 * part.q;
+}
+
 /* The position of the first tolerance that is not allowed, `count` if there is none. */
-static size_t first_refused(const ratio *tolerances, size_t count) {
+static size_t first_refused(const parts *tolerances, size_t count) {
   size_t a = 0;
-  while (a < count && tolerances[a].q >= 1 && tolerances[a].q <= SPAN && tolerances[a].p >= 0 &&
-         tolerances[a].p <= 65535 * tolerances[a].q)
-    a++;
+  while (a < count && is_allowed(tolerances[a].above) && is_allowed(tolerances[a].below)) a++;
   return a;
 }
 
-answered scan_c(const uint32_t *ticks, const int16_t *values, size_t n, const ratio *tolerances,
+answered scan_c(const uint32_t *ticks, const int16_t *values, size_t n, const parts *tolerances,
                 size_t count, uint32_t gap, uint16_t *restrict out, size_t room,
                 size_t *restrict kept) {
   answered trace = trace_refusal(ticks, n);
@@ -374,17 +429,17 @@ answered scan_c(const uint32_t *ticks, const int16_t *values, size_t n, const ra
   if (gap == 0 || gap > SPAN) return answer_of(15, 0);
   if (room < count * n) return answer_of(10, count * n);
   for (a = 0; a < count; a++)
-    kept[a] = walk_list(ticks, values, n, tolerances[a].p, tolerances[a].q, gap, out + a * n);
+    kept[a] = walk_list(ticks, values, n, tolerances[a], gap, out + a * n);
   return answer_of(0, count);
 }
 
-static channel_row row_of(const uint32_t *ticks, const int16_t *values, size_t n, int64_t p,
-                          int64_t q, uint32_t gap) {
+static channel_row row_of(const uint32_t *ticks, const int16_t *values, size_t n, parts t,
+                          uint32_t gap) {
   uint16_t list[SAMPLES];
   channel_row row = {0, 0, 0, 1, 0, 0};
   farthest worst;
   fraction error;
-  row.kept = walk_c(ticks, values, n, p, q, gap, list).kept;
+  row.kept = walk_c(ticks, values, n, t, gap, list).kept;
   if (row.kept == 0) {
     row.number = trace_refusal(ticks, n).number;
     return row;
@@ -410,15 +465,14 @@ static int is_crate(const size_t *lengths, size_t channels, size_t n) {
 }
 
 crate_totals report_c(const uint32_t *ticks, const int16_t *values, size_t n, const size_t *lengths,
-                      size_t channels, int64_t p, int64_t q, uint32_t gap, channel_row *rows,
-                      size_t room) {
+                      size_t channels, parts t, uint32_t gap, channel_row *rows, size_t room) {
   crate_totals totals = {0, 0, 0, 0};
   fraction worst = {0, 1};
   size_t k, at = 0;
   if (!is_crate(lengths, channels, n) || room < channels) return totals;
   for (k = 0; k < channels; k++) {
     fraction error;
-    rows[k] = row_of(ticks + at, values + at, lengths[k], p, q, gap);
+    rows[k] = row_of(ticks + at, values + at, lengths[k], t, gap);
     at += lengths[k];
     totals.samples += rows[k].samples;
     totals.kept += rows[k].kept;
@@ -564,9 +618,15 @@ typedef struct search {
   unsigned runs;
 } search;
 
+/* One tolerance: both parts. */
+static parts both(fraction x) {
+  parts t = {x, x};
+  return t;
+}
+
 /* Whether the minimum's list at x has at most m samples; x is then its error. */
 static int fits(search *s, fraction *x) {
-  size_t kept = minimum_c(s->ticks, s->values, s->n, x->p, x->q, s->gap, s->out).kept;
+  size_t kept = minimum_c(s->ticks, s->values, s->n, both(*x), s->gap, s->out).kept;
   s->runs++;
   if (kept > s->m) return 0;
   *x = list_error(s->ticks, s->values, s->out, kept);
@@ -622,7 +682,7 @@ least_found least_c(const uint32_t *ticks, const int16_t *values, size_t n, uint
     high = x;
     halve(&s, &low, &high);
   }
-  found.kept = minimum_c(ticks, values, n, high.p, high.q, gap, out).kept;
+  found.kept = minimum_c(ticks, values, n, both(high), gap, out).kept;
   found.p = high.p;
   found.q = high.q;
   found.runs = s.runs + 1;
@@ -675,17 +735,28 @@ answered view_add_c(uint32_t k, uint32_t *restrict count, uint16_t *restrict sam
   return answer_of(0, 0);
 }
 
-/* For a link of more than one step: one of one step is always valid. */
-static int is_valid(const uint32_t *ticks, const int16_t *values, size_t i, size_t j, int64_t p,
-                    int64_t q, uint32_t gap) {
+FOR_PARTS int is_within_band(const uint32_t *ticks, const int16_t *values, size_t i, size_t j,
+                             ratio up, ratio down) {
   int64_t run = ticks[j] - (int64_t)ticks[i], change = values[j] - values[i];
   size_t k;
-  if (first_hole(ticks, i, j, gap) < j) return 0;
   for (k = i + 1; k < j; k++) {
-    int64_t distance = (values[k] - values[i]) * run - change * (ticks[k] - (int64_t)ticks[i]);
-    if (q * distance > p * run || q * distance < -p * run) return 0;
+    int64_t height = (values[k] - values[i]) * run - change * (ticks[k] - (int64_t)ticks[i]);
+    if (up.q * height > up.p * run || down.q * height < -down.p * run) return 0;
   }
   return 1;
+}
+
+/* Whether each sample of a link is within its part. */
+static inline int is_within(const uint32_t *ticks, const int16_t *values, size_t i, size_t j,
+                            parts t) {
+  if (is_one(t)) return is_within_band(ticks, values, i, j, t.above, t.above);
+  return is_within_band(ticks, values, i, j, t.above, t.below);
+}
+
+/* For a link of more than one step: one of one step is always valid. */
+static int is_valid(const uint32_t *ticks, const int16_t *values, size_t i, size_t j, parts t,
+                    uint32_t gap) {
+  return first_hole(ticks, i, j, gap) == j && is_within(ticks, values, i, j, t);
 }
 
 static link_measure measure_of(const uint32_t *ticks, const int16_t *values, size_t i, size_t j) {
@@ -703,11 +774,11 @@ link_measure measure_c(const uint32_t *ticks, const int16_t *values, size_t n, s
   return measure_of(ticks, values, i, j);
 }
 
-/* The measure of an invalid link: where its error is at most p/q, a hole makes it so. */
+/* The measure of an invalid link: where it is within both parts, a hole makes it so. */
 static link_measure strayed(const uint32_t *ticks, const int16_t *values, size_t i, size_t j,
-                            int64_t p, int64_t q, uint32_t gap) {
+                            parts t, uint32_t gap) {
   link_measure m = measure_of(ticks, values, i, j);
-  if (m.p * q <= p * m.q) {
+  if (is_within(ticks, values, i, j, t)) {
     m.sample = first_hole(ticks, i, j, gap);
     m.side = SIDE_GAP;
   }
@@ -715,15 +786,15 @@ static link_measure strayed(const uint32_t *ticks, const int16_t *values, size_t
 }
 
 judged judge_c(const uint32_t *ticks, const int16_t *values, size_t n, const uint16_t *list,
-               size_t kept, int64_t p, int64_t q, uint32_t gap) {
+               size_t kept, parts t, uint32_t gap) {
   judged answer = {0, 0, {0, 0, 0, SIDE_ON}};
   size_t k;
   if (!is_trace(ticks, n) || !is_list(list, kept, n)) return answer;
   for (k = 1; k < kept; k++) {
     size_t i = list[k - 1], j = list[k];
-    if (j > i + 1 && !is_valid(ticks, values, i, j, p, q, gap)) {
+    if (j > i + 1 && !is_valid(ticks, values, i, j, t, gap)) {
       answer.link = k - 1;
-      answer.measure = strayed(ticks, values, i, j, p, q, gap);
+      answer.measure = strayed(ticks, values, i, j, t, gap);
       return answer;
     }
   }
@@ -777,8 +848,8 @@ static int is_short(int64_t advance, int64_t change) {
   return advance <= 255 && change >= -128 && change <= 127;
 }
 
-/* Bytes of each command. */
-enum { TOLERANCE = 9, FIRST = 7, SHORT = 3, LONG = 6, END = 3 };
+/* Bytes of each command, and of a ratio in that of the tolerance. */
+enum { TOLERANCE = 9, PARTS = 17, FIRST = 7, SHORT = 3, LONG = 6, END = 3, RATIO = 8 };
 
 static uint8_t *put(uint8_t *at, uint64_t number, int bytes) {
   while (bytes-- > 0) *at++ = (uint8_t)(number >> (8 * bytes));
@@ -791,20 +862,24 @@ static uint64_t get(const uint8_t *at, int bytes) {
   return number;
 }
 
+static uint8_t *put_ratio(uint8_t *at, ratio part) {
+  return put(put(at, (uint64_t)part.p, 5), (uint64_t)part.q, 3);
+}
+
 size_t write_c(const uint32_t *ticks, const int16_t *values, size_t n, const uint16_t *list,
-               size_t kept, int64_t p, int64_t q, uint32_t gap, uint8_t *buffer, size_t size) {
-  size_t length = TOLERANCE + FIRST + END, k;
+               size_t kept, parts t, uint32_t gap, uint8_t *buffer, size_t size) {
+  size_t length = (is_one(t) ? TOLERANCE : PARTS) + FIRST + END, k;
   uint8_t *at = buffer;
   if (!is_trace(ticks, n) || !is_list(list, kept, n)) return 0;
   for (k = 1; k < kept; k++) {
     size_t i = list[k - 1], j = list[k];
-    if (j > i + 1 && !is_valid(ticks, values, i, j, p, q, gap)) return 0;
+    if (j > i + 1 && !is_valid(ticks, values, i, j, t, gap)) return 0;
     length += is_short(ticks[j] - (int64_t)ticks[i], values[j] - values[i]) ? SHORT : LONG;
   }
   if (size < length) return 0;
-  *at++ = 0x54;
-  at = put(at, (uint64_t)p, 5);
-  at = put(at, (uint64_t)q, 3);
+  *at++ = is_one(t) ? 0x54 : 0x42;
+  at = put_ratio(at, t.above);
+  if (!is_one(t)) at = put_ratio(at, t.below);
   *at++ = 0x41;
   at = put(at, ticks[0], 4);
   at = put(at, (uint16_t)values[0], 2);
@@ -826,7 +901,9 @@ size_t write_c(const uint32_t *ticks, const int16_t *values, size_t n, const uin
   return length;
 }
 
-static int is_reduced(uint64_t p, uint64_t q) {
+/* Whether this is an allowed ratio in lowest terms. */
+static int is_ratio(const uint8_t *at) {
+  uint64_t p = get(at, 5), q = get(at + 5, 3);
   if (q < 1 || q > SPAN || p > 65535 * q) return 0;
   while (q != 0) {
     uint64_t rest = p % q;
@@ -848,16 +925,25 @@ static const uint8_t *take_step(const uint8_t *at, int64_t *tick, int64_t *value
   return at + LONG;
 }
 
+/* The bytes of the record's tolerance, 0 if it is faulty: two ratios differ. */
+static size_t header_of(const uint8_t *record, size_t length) {
+  if (length < TOLERANCE || !is_ratio(record + 1)) return 0;
+  if (record[0] == 0x54) return TOLERANCE;
+  if (record[0] != 0x42 || length < PARTS || !is_ratio(record + 1 + RATIO) ||
+      memcmp(record + 1, record + 1 + RATIO, RATIO) == 0)
+    return 0;
+  return PARTS;
+}
+
 /* The number of the record's samples, 0 if it is faulty. */
 static size_t samples_in(const uint8_t *record, size_t length) {
   const uint8_t *at, *end = record + length;
-  size_t samples = 1;
+  size_t samples = 1, header = header_of(record, length);
   int64_t first, tick, value;
-  if (length < TOLERANCE + FIRST + END || record[0] != 0x54 || record[TOLERANCE] != 0x41) return 0;
-  if (!is_reduced(get(record + 1, 5), get(record + 6, 3))) return 0;
-  at = record + TOLERANCE + FIRST;
-  first = tick = (int64_t)get(record + TOLERANCE + 1, 4);
-  value = (int16_t)get(record + TOLERANCE + 5, 2);
+  if (header == 0 || length < header + FIRST + END || record[header] != 0x41) return 0;
+  at = record + header + FIRST;
+  first = tick = (int64_t)get(record + header + 1, 4);
+  value = (int16_t)get(record + header + 5, 2);
   while ((end - at >= SHORT && at[0] == 0x53) || (end - at >= LONG && at[0] == 0x4C)) {
     int64_t from = tick, before = value;
     int is_short_step = at[0] == 0x53;
@@ -871,12 +957,13 @@ static size_t samples_in(const uint8_t *record, size_t length) {
 }
 
 size_t read_c(const uint8_t *record, size_t length, uint32_t *ticks, int16_t *values, size_t room) {
-  const uint8_t *steps = record + TOLERANCE + FIRST;
+  const uint8_t *first = record + (length > 0 && record[0] == 0x42 ? PARTS : TOLERANCE);
+  const uint8_t *steps = first + FIRST;
   size_t samples = samples_in(record, length), k;
   int64_t tick, value;
   if (samples == 0 || room < samples) return 0;
-  tick = (int64_t)get(record + TOLERANCE + 1, 4);
-  value = (int16_t)get(record + TOLERANCE + 5, 2);
+  tick = (int64_t)get(first + 1, 4);
+  value = (int16_t)get(first + 5, 2);
   ticks[0] = (uint32_t)tick;
   values[0] = (int16_t)value;
   for (k = 1; k < samples; k++) {

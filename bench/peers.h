@@ -1,12 +1,26 @@
 /* The library's calls in plain C, to compare with. A peer that takes a trace checks it as the
- * library does, and takes an allowed tolerance p/q in lowest terms and an allowed gap limit. A
- * reduction takes an output of n entries and writes the kept list; it looks for the next hole once
- * in each run of samples between holes. */
+ * library does, and takes an allowed tolerance and an allowed gap limit. A reduction takes an output
+ * of n entries and writes the kept list; it looks for the next hole once in each run of samples
+ * between holes.
+ *
+ * With equal parts of the tolerance a peer works with one denominator. With unequal ones the low edge
+ * of its cone is in units of the denominator of the part above, the high edge in those of the part
+ * below: no product exceeds 64 bits. */
 #ifndef PEERS_H
 #define PEERS_H
 
 #include <stddef.h>
 #include <stdint.h>
+
+/* The ratio p/q, in lowest terms. */
+typedef struct ratio {
+  int64_t p, q;
+} ratio;
+
+/* A tolerance: the part for samples above the line and that for those below it. */
+typedef struct parts {
+  ratio above, below;
+} parts;
 
 /* The kept number, 0 if the trace is refused, and gallop's probe total. */
 typedef struct reduced {
@@ -15,26 +29,26 @@ typedef struct reduced {
 } reduced;
 
 /* Walk, with the two edges of its cone. */
-reduced walk_c(const uint32_t *ticks, const int16_t *values, size_t n, int64_t p, int64_t q,
-               uint32_t gap, uint16_t *out);
+reduced walk_c(const uint32_t *ticks, const int16_t *values, size_t n, parts t, uint32_t gap,
+               uint16_t *out);
 
 /* Gallop; a probe goes on with the cone of the last valid link. */
-reduced gallop_c(const uint32_t *ticks, const int16_t *values, size_t n, int64_t p, int64_t q,
-                 uint32_t gap, uint16_t *out);
+reduced gallop_c(const uint32_t *ticks, const int16_t *values, size_t n, parts t, uint32_t gap,
+                 uint16_t *out);
 
 /* Minimum: a table from the last sample back. From each sample one cone takes in the later ones in
- * turn and tests the link to each; it stops where no line is left, and before a hole. */
-reduced minimum_c(const uint32_t *ticks, const int16_t *values, size_t n, int64_t p, int64_t q,
-                  uint32_t gap, uint16_t *out);
+ * turn and tests the link to each; it stops where surely no line is left, and before a hole. */
+reduced minimum_c(const uint32_t *ticks, const int16_t *values, size_t n, parts t, uint32_t gap,
+                  uint16_t *out);
 
 /* The same without the stop where no line is left. */
-reduced minimum_c_nostop(const uint32_t *ticks, const int16_t *values, size_t n, int64_t p,
-                         int64_t q, uint32_t gap, uint16_t *out);
+reduced minimum_c_nostop(const uint32_t *ticks, const int16_t *values, size_t n, parts t,
+                         uint32_t gap, uint16_t *out);
 
 /* Douglas-Peucker with vertical distance: both ends of each run, then the farthest sample of every
- * link that is not valid. */
-reduced douglas_peucker_c(const uint32_t *ticks, const int16_t *values, size_t n, int64_t p,
-                          int64_t q, uint32_t gap, uint16_t *out);
+ * link that is not valid. For equal parts alone. */
+reduced douglas_peucker_c(const uint32_t *ticks, const int16_t *values, size_t n, parts t,
+                          uint32_t gap, uint16_t *out);
 
 /* The kept number, 0 if the trace or the allowance is refused, the least error in lowest terms, and
  * how many lists the search for it found by minimum. */
@@ -70,8 +84,7 @@ typedef struct crate_totals {
 /* Reports on the channels whose traces of n samples come end to end: walk, the error of its list
  * and where that occurs, for each. Writes a row for each into the first of so many rows. */
 crate_totals report_c(const uint32_t *ticks, const int16_t *values, size_t n, const size_t *lengths,
-                      size_t channels, int64_t p, int64_t q, uint32_t gap, channel_row *rows,
-                      size_t room);
+                      size_t channels, parts t, uint32_t gap, channel_row *rows, size_t room);
 
 /* A run of a crate: channels whose traces of n samples come end to end. */
 typedef struct crate_run {
@@ -89,7 +102,7 @@ typedef struct compared {
   size_t value, moved, noisy;
 } compared;
 
-/* Compares two pedestal runs with noise factor k: checks all ticks, then sums all values once.
+/* Compares two pedestal runs at the tolerance p/q, with noise factor k: checks all ticks, then sums all values once.
  * Writes the channels into the first of so many entries of each list. */
 compared pedestals_c(const crate_run *today, const crate_run *before, int64_t p, int64_t q,
                      int64_t k, uint16_t *moved, size_t moved_room, uint16_t *noisy,
@@ -101,15 +114,10 @@ typedef struct answered {
   size_t value;
 } answered;
 
-/* A tolerance p/q in lowest terms. */
-typedef struct ratio {
-  int64_t p, q;
-} ratio;
-
 /* The same as walk at each tolerance, one after another: checks everything once, then writes each
  * list into a part of n entries, and its kept number into `kept`. The value is the number of
  * tolerances. The outputs overlap no other list, which the library assumes too. */
-answered scan_c(const uint32_t *ticks, const int16_t *values, size_t n, const ratio *tolerances,
+answered scan_c(const uint32_t *ticks, const int16_t *values, size_t n, const parts *tolerances,
                 size_t count, uint32_t gap, uint16_t *restrict out, size_t room,
                 size_t *restrict kept);
 
@@ -157,7 +165,7 @@ typedef struct judged {
 } judged;
 
 judged judge_c(const uint32_t *ticks, const int16_t *values, size_t n, const uint16_t *list,
-               size_t kept, int64_t p, int64_t q, uint32_t gap);
+               size_t kept, parts t, uint32_t gap);
 
 /* Expands range codes: each value is worked out from its code, as the library does it, or looked up
  * in a table, which the first call fills. Returns their number, 0 if there is none, there are too many
@@ -173,7 +181,7 @@ answered expand_with_c(const uint8_t *codes, size_t n, const int16_t *table, siz
 /* Writes the record of the kept list. Returns its length, 0 if the trace, the list or a link is
  * refused or the buffer has no room. */
 size_t write_c(const uint32_t *ticks, const int16_t *values, size_t n, const uint16_t *list,
-               size_t kept, int64_t p, int64_t q, uint32_t gap, uint8_t *buffer, size_t size);
+               size_t kept, parts t, uint32_t gap, uint8_t *buffer, size_t size);
 
 /* Checks the record, then reads its samples. Returns their number, 0 if the record is faulty or an
  * output has no room. */

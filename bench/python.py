@@ -10,6 +10,7 @@ import subprocess
 import sys
 import time
 from array import array
+from fractions import Fraction
 
 import kovrelna
 
@@ -91,6 +92,12 @@ def main():
     lists = kept, kovrelna.walk(ticks, others, 7.5)
     pair = ticks, values, array("I", ticks), others, *lists
     summed = f"two traces of {len(ticks):,} samples, lists of {len(kept)} and {len(lists[1])}"
+    parts = kovrelna.Parts(Fraction(15, 2), Fraction(10, 3))
+    unequal = f"{len(ticks):,} samples, 7.5 above and 10/3 below"
+    several = [kovrelna.Parts(Fraction(k, 2), Fraction(k, 3)) for k in range(1, 17)]
+    scanned_parts = f"{len(ticks):,} samples, {len(several)} times 1/2 above and 1/3 below"
+    other_kept = kovrelna.walk(ticks, values, parts)
+    listed_parts = f"a list of {len(other_kept)} of {unequal}"
     calls = {
         "walk": (samples, kovrelna.walk, *whole, 7.5),
         "gallop": (samples, kovrelna.gallop, *whole, 7.5),
@@ -112,6 +119,15 @@ def main():
         "shortest": ("2 samples", kovrelna.walk, *two, 7.5),
         "small": (f"{CHANNELS} channels of 2 samples", kovrelna.report, *crate(*whole, 2), 7.5),
         "small_runs": (f"{runs} of 16 samples", kovrelna.pedestals, *short, 7.5, 2),
+        "walk_parts": (unequal, kovrelna.walk, *whole, parts),
+        "gallop_parts": (unequal, kovrelna.gallop, *whole, parts),
+        "minimum_parts": (unequal, kovrelna.minimum, *whole, parts),
+        "scan_parts": (scanned_parts, kovrelna.scan, *whole, several),
+        "report_parts": (
+            f"{CHANNELS} channels of {unequal}", kovrelna.report, *crate(*whole, 4096), parts
+        ),
+        "judge_parts": (listed_parts, kovrelna.judge, *whole, other_kept, parts),
+        "write_parts": (listed_parts, kovrelna.write, *whole, other_kept, parts),
     }
     rounds = {name: [] for name in calls}
     for _ in range(ROUNDS):

@@ -11,10 +11,15 @@
  * vertical distance from value k to the straight line through samples i and j, an exact fraction.
  * The link's error is the greatest of these, 0 where nothing lies between.
  *
+ * A tolerance has two parts, U for samples above the line and D for those below it; one tolerance
+ * means both. A link is within it if each sample between that lies above the line lies at most U
+ * above it, and each that lies below at most D below it; equality is within. With equal parts that
+ * is so exactly if the link's error is at most the tolerance.
+ *
  * A hole is two neighbouring samples that lie more ticks apart than the gap limit. A link obeys the
  * gap limit if it goes one step, from sample i to i+1, or crosses no hole. It is valid if it obeys
- * the gap limit and its error is at most the tolerance; equality is valid. So a link of one step is
- * always valid, and a longer one never if it crosses a hole.
+ * the gap limit and is within the tolerance. So a link of one step is always valid, and a longer one
+ * never if it crosses a hole.
  *
  * A kept list begins with sample 0, rises strictly and ends with the last sample. Its links join
  * neighbouring entries and are counted from 0.
@@ -59,8 +64,9 @@ extern "C" {
 #define KOVRELNA_CHANNELS_MAX 64
 /* The largest gap limit, which is none: no two samples of a trace lie further apart. */
 #define KOVRELNA_GAP_MAX 1048575
-/* The most bytes of a record of so many samples, from 1 on, and of any record: 24,589. */
-#define KOVRELNA_RECORD_BYTES(samples) (13 + 6 * (samples))
+/* The most bytes of a record of so many samples, from 1 on, and of any record: 24,597. With equal
+ * parts of the tolerance it is 8 fewer. */
+#define KOVRELNA_RECORD_BYTES(samples) (21 + 6 * (samples))
 #define KOVRELNA_RECORD_MAX KOVRELNA_RECORD_BYTES(KOVRELNA_SAMPLES_MAX)
 
 /* ---- Refusals ----
@@ -82,8 +88,8 @@ enum kovrelna_refusal {
   /* The span is too long. Value: the first sample more than 1,048,575 ticks after sample 0; in
    * kovrelna_pedestals the channel. */
   KOVRELNA_REFUSED_SPAN = 3,
-  /* The tolerance is not allowed. Value: 0; in kovrelna_scan the position of the first such
-   * tolerance. */
+  /* The tolerance or one of its parts is not allowed; in kovrelna_pedestals also parts that differ.
+   * Value: 0; in kovrelna_scan the position of the first such tolerance. */
   KOVRELNA_REFUSED_TOLERANCE = 4,
   /* The allowance is below 2 or above 4,096. Value: 0. */
   KOVRELNA_REFUSED_ALLOWANCE = 5,
@@ -185,18 +191,21 @@ typedef struct kovrelna_answer {
 enum kovrelna_form {
   KOVRELNA_FORM_RATIO = 0,
   KOVRELNA_FORM_COUNTS = 1,
-  KOVRELNA_FORM_NOISE = 2
+  KOVRELNA_FORM_NOISE = 2,
+  KOVRELNA_FORM_PARTS = 3
 };
 
-/* A tolerance in one of three forms. Fields that its form does not name are not read.
+/* A tolerance in one of four forms. Fields that its form does not name are not read.
  *
  * form 0, ratio:  p/q; q from 1 to 1,048,575, p from 0 to 65,535 times q.
  * form 1, counts: x; from 0 to 65,535, and 64 times x is whole.
  * form 2, noise:  x times y, exactly; the noise x is from 0 to 1,023 and 64 times x is whole, the
  *                 multiple y is from 0 to 63 and 8 times y is whole.
+ * form 3, parts:  p/q for samples above the line, below_p/below_q for those below it; each as in
+ *                 form 0. They may be equal.
  *
- * Minus zero is zero. All else is refused as 4: other numbers, not-a-number, infinities, any other
- * form.
+ * Forms 0 to 2 give one tolerance, which is both parts. Minus zero is zero. All else is refused as 4:
+ * other numbers, in either part; not-a-number, infinities, any other form.
  */
 typedef struct kovrelna_tolerance {
   uint64_t form;
@@ -204,42 +213,54 @@ typedef struct kovrelna_tolerance {
   uint64_t q;
   double x;
   double y;
+  uint64_t below_p;
+  uint64_t below_q;
 } kovrelna_tolerance;
 
 /* The tolerance p/q. */
 static inline kovrelna_tolerance kovrelna_ratio(uint64_t p, uint64_t q) {
-  kovrelna_tolerance tolerance = {KOVRELNA_FORM_RATIO, p, q, 0.0, 0.0};
+  kovrelna_tolerance tolerance = {KOVRELNA_FORM_RATIO, p, q, 0.0, 0.0, 0, 0};
   return tolerance;
 }
 
 /* The tolerance of so many counts. */
 static inline kovrelna_tolerance kovrelna_counts(double counts) {
-  kovrelna_tolerance tolerance = {KOVRELNA_FORM_COUNTS, 0, 0, counts, 0.0};
+  kovrelna_tolerance tolerance = {KOVRELNA_FORM_COUNTS, 0, 0, counts, 0.0, 0, 0};
   return tolerance;
 }
 
 /* The tolerance of a channel's noise times the multiple wanted. */
 static inline kovrelna_tolerance kovrelna_noise(double noise, double multiple) {
-  kovrelna_tolerance tolerance = {KOVRELNA_FORM_NOISE, 0, 0, noise, multiple};
+  kovrelna_tolerance tolerance = {KOVRELNA_FORM_NOISE, 0, 0, noise, multiple, 0, 0};
   return tolerance;
 }
 
-/* number 0: p/q is the tolerance in lowest terms (zero is 0/1) and value is 0.
- * Otherwise: the refusal's number and value; p and q are 0. */
+/* The tolerance of p/q for samples above the line and below_p/below_q for those below it. */
+static inline kovrelna_tolerance kovrelna_parts(uint64_t p, uint64_t q, uint64_t below_p,
+                                                uint64_t below_q) {
+  kovrelna_tolerance tolerance = {KOVRELNA_FORM_PARTS, p, q, 0.0, 0.0, below_p, below_q};
+  return tolerance;
+}
+
+/* number 0: p/q is the part above and below_p/below_q the part below, each in lowest terms (zero is
+ * 0/1), and value is 0. So the parts are equal exactly if p is below_p and q is below_q.
+ * Otherwise: the refusal's number and value; all else is 0. */
 typedef struct kovrelna_held {
   uint32_t number;
   uint64_t value;
   uint64_t p;
   uint64_t q;
+  uint64_t below_p;
+  uint64_t below_q;
 } kovrelna_held;
 
-/* The tolerance as the reduced ratio under which it is held. Refusal: 4. */
+/* The tolerance as the two reduced ratios under which it is held. Refusal: 4. */
 kovrelna_held kovrelna_hold(kovrelna_tolerance tolerance);
 
 /* ---- Limits ---- */
 
-/* What a link is asked to meet: a tolerance, and a gap limit from 1 to 1,048,575 ticks. Exactly so
- * many ticks apart is no hole. Other gap limits are refused as 15. */
+/* What a link is asked to meet: a tolerance, with both its parts, and a gap limit from 1 to 1,048,575
+ * ticks. Exactly so many ticks apart is no hole. Other gap limits are refused as 15. */
 typedef struct kovrelna_limits {
   kovrelna_tolerance tolerance;
   uint32_t gap;
@@ -313,10 +334,19 @@ typedef struct kovrelna_judged {
   uint32_t side;
 } kovrelna_judged;
 
-/* Whether every link of the proposed list is valid on this trace. If not, of the first invalid link:
- * where its error p/q is above the tolerance, its measure, as kovrelna_measure gives it; otherwise
- * only the gap limit makes it invalid, the side is KOVRELNA_SIDE_GAP, p/q is its error, which may be
- * 0, and the sample is the one before its first hole. Refusals: 1, 2, 3, 4, 15, 6. */
+/* Whether every link of the proposed list is valid on this trace. If not, of the first invalid
+ * link: where it is not within the tolerance, its measure, as kovrelna_measure gives it; otherwise
+ * only the gap limit makes it invalid, the side is KOVRELNA_SIDE_GAP, p/q is its error, which may
+ * be 0, and the sample is the one before its first hole.
+ *
+ * The measure is of the plain distance, the same above and below. So with unequal parts the sample
+ * that it names may lie within its own part, where another that is nearer to the line lies on the
+ * other side and outside the part there. With ticks 0 1 2 3, values 1 0 1 -1, the part above 5 and
+ * the part below 0, the list 0 3 is a no at link 0 with 4/3, sample 2 and "above", though only
+ * sample 1, below by 1/3, makes the link invalid. With equal parts the sample named is outside the
+ * tolerance.
+ *
+ * Refusals: 1, 2, 3, 4, 15, 6. */
 kovrelna_judged kovrelna_judge(const uint32_t *ticks, size_t ticks_len,
                                const int16_t *values, size_t values_len,
                                const uint16_t *list, size_t list_len,
@@ -330,9 +360,12 @@ kovrelna_judged kovrelna_judge(const uint32_t *ticks, size_t ticks_len,
  *
  * Walk, gallop and minimum find one with every link valid. Refusals: 1, 2, 3, 4, 15, 10.
  *
- * The lists of walk and gallop have at most as many samples as any kept list whose links are all
- * valid at half the tolerance under the same gap limit. A list that does not obey the gap limit may
- * have fewer.
+ * The lists of walk and gallop have at most as many samples as any kept list that obeys the gap
+ * limit and whose links have every sample at most a above and at most b below their lines, for all
+ * fractions a and b, neither below 0, whose sum is at most the smaller of U and D. With equal parts,
+ * and a and b each half of them: at most as many as any kept list whose links are all valid at half
+ * the tolerance under the same gap limit. A list that does not obey the gap limit may have fewer, and
+ * so may one within U/2 and D/2 where U and D differ.
  */
 
 /* An answer, with the probe total; probes is 0 with a refusal. */
@@ -380,9 +413,10 @@ typedef struct kovrelna_closest {
 } kovrelna_closest;
 
 /* The least error over the kept lists of at most `allowance` samples that obey the gap limit, with
- * the list of kovrelna_minimum at that error as the tolerance under the same gap limit. No kept list
- * of this trace that obeys it and has at most so many samples has a lesser error. The trace has at
- * most 256 samples.
+ * the list of kovrelna_minimum at that error as the tolerance, in both parts, under the same gap
+ * limit. No kept list of this trace that obeys it and has at most so many samples has a lesser
+ * error. An error is the plain distance, the same above and below. The trace has at most 256
+ * samples.
  *
  * Refusals: 1 (also for more than 256 samples), 2, 3, 15, 5, 16, 10. The shortest kept list that
  * obeys the gap limit has both ends of the trace and the two samples beside each hole; 16 is refused
@@ -404,7 +438,7 @@ typedef struct kovrelna_tolerances {
  * refused as 19. */
 static inline kovrelna_tolerances kovrelna_tolerances_of(const kovrelna_tolerance *list,
                                                          size_t count) {
-  kovrelna_tolerances tolerances = {count, {{0, 0, 0, 0.0, 0.0}}};
+  kovrelna_tolerances tolerances = {count, {{0, 0, 0, 0.0, 0.0, 0, 0}}};
   size_t k;
   for (k = 0; k < count && k < KOVRELNA_TOLERANCES_MAX; k++) tolerances.list[k] = list[k];
   return tolerances;
@@ -420,7 +454,8 @@ typedef struct kovrelna_scanned {
 } kovrelna_scanned;
 
 /* What kovrelna_walk keeps at each of 1 to 16 tolerances under one gap limit, found in a single pass
- * over the trace. The tolerances may repeat, and come in any order and in any form.
+ * over the trace. The tolerances may repeat, and come in any order and in any form, each with parts
+ * of its own.
  *
  * The lists lie one after another in out, each in a part with an entry for each sample: for a trace
  * of n samples the entries from a n on, kept[a] of them, are the list of kovrelna_walk at tolerance
@@ -430,8 +465,8 @@ typedef struct kovrelna_scanned {
  * j as the last are the lists of kovrelna_walk of samples 0 to j.
  *
  * Refusals, in this order: 1, 2, 3; 19; 4 with the position of the first tolerance that is not
- * allowed; 15; 10 with the number of tolerances times that of samples, which is how many entries out
- * needs. */
+ * allowed, for either part; 15; 10 with the number of tolerances times that of samples, which is
+ * how many entries out needs. */
 kovrelna_scanned kovrelna_scan(const uint32_t *ticks, size_t ticks_len,
                                const int16_t *values, size_t values_len,
                                kovrelna_tolerances tolerances, uint32_t gap,
@@ -469,8 +504,9 @@ kovrelna_begun kovrelna_view_begin(uint64_t k);
  * sample last, so that the first addition is lent two samples. The value is 0.
  *
  * The new sample is put at the end of the list. If that makes 2 k + 1 inner samples, the one whose
- * neighbours in the list have the link with the least error is dropped, the earliest among equals: so
- * the new sample never is, and the one before it, the last until then, may be. No gap limit applies.
+ * neighbours in the list have the link with the least error is dropped, the earliest among equals:
+ * so the new sample never is, and the one before it, the last until then, may be. No gap limit and
+ * no tolerance applies: an error is the plain distance, the same above and below.
  *
  * For a view that was begun on the first sample and changed only by additions, with k and the earlier
  * samples unaltered, the list's error, that of its worst link, is at most twice that of every kept
@@ -500,10 +536,12 @@ kovrelna_answer kovrelna_view_add(kovrelna_view *view,
  * number. Written are the first entries of sums, one for each sample, and of joined, as many as the
  * kept number; the entries after them are as they were.
  *
- * If every link of list 1 is valid on trace 1 at a tolerance T1, and every link of list 2 on trace 2
- * at T2, under the same gap limit, then every link of the joined list is valid on the summed trace at
- * 2 (T1 + T2) under that gap limit. This holds for any fractions T1 and T2, whether they are allowed
- * as tolerances or not. It does not hold at T1 + T2.
+ * If every link of list 1 is valid on trace 1 at parts U1 above and D1 below, and every link of
+ * list 2 on trace 2 at U2 and D2, under the same gap limit, then every link of the joined list is
+ * valid on the summed trace at U1 + D1 + U2 + D2, above and below alike, under that gap limit. With
+ * equal parts T1 and T2 that is 2 (T1 + T2). This holds for any fractions, whether they are allowed
+ * as tolerances or not. It does not hold at U1 + U2 above and D1 + D2 below: with equal parts, not
+ * at T1 + T2.
  *
  * Refusals, in this order: 1, 2, 3 of trace 1; 1, 2, 3 of trace 2; 6 of list 1, for trace 1; 6 of
  * list 2, for trace 2; 17; 18; last 10 with the number of samples, as each output needs an entry for
@@ -526,8 +564,9 @@ kovrelna_answer kovrelna_sum(const uint32_t *ticks1, size_t ticks1_len,
 /* A channel's row. number 0: its samples, the kept number of kovrelna_walk, the error p/q of walk's
  * list in lowest terms (zero is 0/1), and the sample where that error occurs first: that of the
  * measure of the first link whose error is p/q, numbered in the channel's own trace; 0 where there
- * is no link. Otherwise the channel's trace is refused as 1, 2 or 3: number says which, p/q is 0/1,
- * and all else is 0. */
+ * is no link. The error is the plain distance, the same above and below: at most the greater part of
+ * the tolerance. Otherwise the channel's trace is refused as 1, 2 or 3: number says which, p/q is
+ * 0/1, and all else is 0. */
 typedef struct kovrelna_summary {
   size_t samples;
   size_t kept;
@@ -572,19 +611,19 @@ typedef struct kovrelna_compared {
 /* Compares two pedestal runs of a crate channel by channel: run 1, today's, and run 2, one before.
  * Each has lists of its own; the ticks of the two need not agree.
  *
- * A channel has n samples in either run; S is their sum and Q the sum of their squares. At tolerance
- * p/q it has moved if |S1 - S2| times q exceeds p times n: its means S/n differ by more than p/q. It
- * is noisy if n Q1 - S1 squared exceeds k squared times (n Q2 - S2 squared): its standard deviation
- * is more than k times that of run 2. Equality is neither.
+ * A channel has n samples in either run; S is their sum and Q the sum of their squares. At one
+ * tolerance p/q it has moved if |S1 - S2| times q exceeds p times n: its means S/n differ by more
+ * than p/q. It is noisy if n Q1 - S1 squared exceeds k squared times (n Q2 - S2 squared): its
+ * standard deviation is more than k times that of run 2. Equality is neither.
  *
  * The first entries of moved are exactly the channels that have moved, and those of noisy exactly
  * the noisy ones, counted from 0, in channel order; the entries after them are as they were.
  *
  * Refusals, in this order: 14 if k is below 1 or above 16; 11 for either run, or if the runs have
- * unequal channel counts; 4; then for channel 0, 1, ... in turn 1, 2 or 3 if its trace in run 1 is
- * refused, then the same of run 2, then 13 if the runs differ in its number of samples, each with
- * the channel as its value; last 10 with the number of channels, as each output needs an entry for
- * each. */
+ * unequal channel counts; 4, also for a tolerance whose parts differ; then for channel 0, 1, ... in
+ * turn 1, 2 or 3 if its trace in run 1 is refused, then the same of run 2, then 13 if the runs
+ * differ in its number of samples, each with the channel as its value; last 10 with the number of
+ * channels, as each output needs an entry for each. */
 kovrelna_compared kovrelna_pedestals(const uint32_t *ticks1, size_t ticks1_len,
                                      const int16_t *values1, size_t values1_len,
                                      const size_t *lengths1, size_t lengths1_len,
@@ -621,15 +660,17 @@ kovrelna_answer kovrelna_expand_with(const uint8_t *codes, size_t codes_len,
  * A record holds a tolerance and the kept samples of a trace. It consists of commands of one byte,
  * here hexadecimal, with fixed operands, high byte first, signed ones in two's complement:
  *
- * 54  tolerance: p (5 bytes), q (3)
+ * 54  tolerance with equal parts: p (5 bytes), q (3)
+ * 42  tolerance with unequal parts: p (5), q (3) of the part above, then p (5), q (3) of that below
  * 41  first sample: tick (4), value (2)
  * 53  short step: advance (1, from 1), change of value (1, signed)
  * 4C  long step: advance (3, from 1), new value (2)
  * 45  end: the number of samples given (2)
  *
- * They come in the order 54, 41, any steps, 45, and nothing more. The tolerance is allowed and in
- * lowest terms. A step is short exactly if its advance is at most 255 and its change from -128 to
- * 127. The samples obey the limits of a trace. So a record has at most 24,589 bytes.
+ * They come in the order 54 or 42, 41, any steps, 45, and nothing more. Each part of the tolerance
+ * is allowed and in lowest terms. A step is short exactly if its advance is at most 255 and its
+ * change from -128 to 127. The samples obey the limits of a trace. So a record has at most 24,597
+ * bytes.
  *
  * A fault lies at the first byte of the first command that breaks a rule or is cut off, at the first
  * byte after a whole 45 command, or at the record's end where a command is missing.
@@ -646,13 +687,16 @@ kovrelna_answer kovrelna_write(const uint32_t *ticks, size_t ticks_len,
                                kovrelna_limits limits,
                                uint8_t *buffer, size_t buffer_len, size_t place);
 
-/* number 0: value is the number of samples and p/q is the record's tolerance.
- * Otherwise: the refusal's number and value; p and q are 0. */
+/* number 0: value is the number of samples; p/q is the part above of the record's tolerance and
+ * below_p/below_q the part below, each in lowest terms.
+ * Otherwise: the refusal's number and value; all else is 0. */
 typedef struct kovrelna_content {
   uint32_t number;
   uint64_t value;
   uint64_t p;
   uint64_t q;
+  uint64_t below_p;
+  uint64_t below_q;
 } kovrelna_content;
 
 /* Reads a record: its samples fill the first entries of ticks and of values; the entries after them
@@ -670,10 +714,10 @@ typedef struct kovrelna_verdict {
   uint64_t value;
 } kovrelna_verdict;
 
-/* Whether two records are the same: their samples agree, and so do their tolerances. For accepted
- * records that is so exactly if their bytes agree. Whether the samples alone agree, kovrelna_read of
- * each shows. Refusals: 8 for the first record, then 9 for the second; 8 for two faulty records with
- * the same bytes. */
+/* Whether two records are the same: their samples agree, and so do both parts of their tolerances.
+ * For accepted records that is so exactly if their bytes agree. Whether the samples alone agree,
+ * kovrelna_read of each shows. Refusals: 8 for the first record, then 9 for the second; 8 for two
+ * faulty records with the same bytes. */
 kovrelna_verdict kovrelna_same(const uint8_t *first, size_t first_len,
                                const uint8_t *second, size_t second_len);
 

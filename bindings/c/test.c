@@ -187,12 +187,12 @@ static void take_back(struct list *list, enum placement placement) {
 /* The answer of any call; fields that it does not have are 0. */
 struct answer {
   uint32_t number;
-  uint64_t value, passed, probes, p, q, samples, kept, moved, noisy, sample, side;
+  uint64_t value, passed, probes, p, q, samples, kept, moved, noisy, sample, side, below_p, below_q;
 };
 
 /* Number and value; all else is 0. */
 static struct answer answered(uint32_t number, uint64_t value) {
-  struct answer answer = {number, value, 0, 0, 0, 0, 0, 0, 0, 0, 0, 0};
+  struct answer answer = {number, value, 0, 0, 0, 0, 0, 0, 0, 0, 0, 0, 0, 0};
   return answer;
 }
 
@@ -200,6 +200,14 @@ static struct answer with_ratio(uint32_t number, uint64_t value, uint64_t p, uin
   struct answer answer = answered(number, value);
   answer.p = p;
   answer.q = q;
+  return answer;
+}
+
+static struct answer with_parts(uint32_t number, uint64_t value, uint64_t p, uint64_t q,
+                                uint64_t below_p, uint64_t below_q) {
+  struct answer answer = with_ratio(number, value, p, q);
+  answer.below_p = below_p;
+  answer.below_q = below_q;
   return answer;
 }
 
@@ -320,7 +328,7 @@ static struct answer call_write(const struct list *lists, kovrelna_limits limits
 static struct answer call_read(const struct list *lists, kovrelna_limits limits, size_t place) {
   kovrelna_content from = kovrelna_read(U8(0), U32(1), I16(2));
   (void)limits, (void)place;
-  return with_ratio(from.number, from.value, from.p, from.q);
+  return with_parts(from.number, from.value, from.p, from.q, from.below_p, from.below_q);
 }
 
 static struct answer call_same(const struct list *lists, kovrelna_limits limits, size_t place) {
@@ -438,55 +446,55 @@ static const struct call {
 } calls[] = {
     {"measure", call_measure, 2,
      {IN(uneven, 1, 0), IN(step, 1, 0)},
-     {0, 0, 0, 0, 2, 3, 0, 0, 0, 0, 1, KOVRELNA_SIDE_ABOVE}},
+     {0, 0, 0, 0, 2, 3, 0, 0, 0, 0, 1, KOVRELNA_SIDE_ABOVE, 0, 0}},
     {"judge", call_judge, 3,
      {IN(uneven, 1, 0), IN(step, 1, 0), IN(pair, 6, 0)},
-     {0, 0, 1, 0, 0, 0, 0, 0, 0, 0, 0, 0}},
+     {0, 0, 1, 0, 0, 0, 0, 0, 0, 0, 0, 0, 0, 0}},
     {"walk", call_walk, 3,
      {IN(uneven, 1, 0), IN(step, 1, 0), OUT(3, pair, 10, 3)},
-     {0, 2, 0, 0, 0, 0, 0, 0, 0, 0, 0, 0}},
+     {0, 2, 0, 0, 0, 0, 0, 0, 0, 0, 0, 0, 0, 0}},
     {"gallop", call_gallop, 3,
      {IN(uneven, 1, 0), IN(step, 1, 0), OUT(3, pair, 10, 3)},
-     {0, 2, 0, 3, 0, 0, 0, 0, 0, 0, 0, 0}},
+     {0, 2, 0, 3, 0, 0, 0, 0, 0, 0, 0, 0, 0, 0}},
     {"minimum", call_minimum, 3,
      {IN(uneven, 1, 0), IN(step, 1, 0), OUT(3, pair, 10, 3)},
-     {0, 2, 0, 0, 0, 0, 0, 0, 0, 0, 0, 0}},
+     {0, 2, 0, 0, 0, 0, 0, 0, 0, 0, 0, 0, 0, 0}},
     {"least", call_least, 3,
      {IN(uneven, 1, 0), IN(step, 1, 0), OUT(3, pair, 10, 3)},
-     {0, 2, 0, 0, 2, 3, 0, 0, 0, 0, 0, 0}},
+     {0, 2, 0, 0, 2, 3, 0, 0, 0, 0, 0, 0, 0, 0}},
     {"scan", call_scan, 3,
      {IN(uneven, 1, 0), IN(step, 1, 0), OUT(3, pair, 10, 3)},
-     {0, 0, 0, 0, 0, 0, 0, 2, 0, 0, 0, 0}},
+     {0, 0, 0, 0, 0, 0, 0, 2, 0, 0, 0, 0, 0, 0}},
     {"view_add", call_view_add, 3,
      {STATE(view_before, view_with), IN(uneven, 1, 0), IN(step, 1, 0)},
-     {0, 0, 0, 0, 0, 0, 0, 0, 0, 0, 0, 0}},
+     {0, 0, 0, 0, 0, 0, 0, 0, 0, 0, 0, 0, 0, 0}},
     {"sum", call_sum, 8,
      {IN(uneven, 1, 0), IN(step, 1, 0), IN(uneven, 1, 0), IN(other_step, 1, 0), IN(pair, 6, 0),
       IN(pair, 6, 0), OUT(3, both_steps, 10, 3), OUT(3, pair, 10, 3)},
-     {0, 2, 0, 0, 0, 0, 0, 0, 0, 0, 0, 0}},
+     {0, 2, 0, 0, 0, 0, 0, 0, 0, 0, 0, 0, 0, 0}},
     {"expand", call_expand, 2,
      {IN(some_codes, 1, 0), OUT(5, code_values, 10, 5)},
-     {0, 5, 0, 0, 0, 0, 0, 0, 0, 0, 0, 0}},
+     {0, 5, 0, 0, 0, 0, 0, 0, 0, 0, 0, 0, 0, 0}},
     {"expand_with", call_expand_with, 3,
      {IN(some_codes, 1, 0), IN(own_table, 12, 0), OUT(5, own_values, 10, 5)},
-     {0, 5, 0, 0, 0, 0, 0, 0, 0, 0, 0, 0}},
+     {0, 5, 0, 0, 0, 0, 0, 0, 0, 0, 0, 0, 0, 0}},
     {"write", call_write, 4,
      {IN(uneven, 1, 0), IN(step, 1, 0), IN(pair, 6, 0),
       OUT(22, figure, 10, 22)},
-     {0, 22, 0, 0, 0, 0, 0, 0, 0, 0, 0, 0}},
+     {0, 22, 0, 0, 0, 0, 0, 0, 0, 0, 0, 0, 0, 0}},
     {"read", call_read, 3,
      {IN(figure, 8, 0), OUT(2, kept_ticks, 10, 2), OUT(2, kept_values, 10, 2)},
-     {0, 2, 0, 0, 2, 3, 0, 0, 0, 0, 0, 0}},
+     {0, 2, 0, 0, 2, 3, 0, 0, 0, 0, 0, 0, 2, 3}},
     {"same", call_same, 2,
      {IN(figure, 8, 0), IN(figure, 9, 0)},
-     {0, 0, 1, 0, 0, 0, 0, 0, 0, 0, 0, 0}},
+     {0, 0, 1, 0, 0, 0, 0, 0, 0, 0, 0, 0, 0, 0}},
     {"report", call_report, 4,
      {IN(uneven, 11, 0), IN(step, 11, 0), IN(one_length, 11, 0), OUT(1, one_row, 10, 1)},
-     {0, 0, 0, 0, 2, 3, 3, 2, 0, 0, 0, 0}},
+     {0, 0, 0, 0, 2, 3, 3, 2, 0, 0, 0, 0, 0, 0}},
     {"pedestals", call_pedestals, 8,
      {IN(four_each, 11, 0), IN(today, 11, 0), IN(fours, 11, 0), IN(four_each, 11, 0),
       IN(before, 11, 0), IN(fours, 11, 0), OUT(3, channel_0, 10, 3), OUT(3, channel_1, 10, 3)},
-     {0, 0, 0, 0, 0, 0, 0, 0, 1, 1, 0, 0}},
+     {0, 0, 0, 0, 0, 0, 0, 0, 1, 1, 0, 0, 0, 0}},
 };
 
 /* Makes the call in every placement, with these limits, and this place, allowance or noise factor:
@@ -514,6 +522,8 @@ static void run(int line, int which, struct list *lists, kovrelna_limits limits,
     differ("noisy", answer.noisy, expected.noisy);
     differ("sample", answer.sample, expected.sample);
     differ("side", answer.side, expected.side);
+    differ("below_p", answer.below_p, expected.below_p);
+    differ("below_q", answer.below_q, expected.below_q);
     for (k = 0; k < call->lists; k++) take_back(&lists[k], (enum placement)placement);
   }
 }
@@ -531,13 +541,23 @@ static kovrelna_limits within_noise(double noise, double multiple) {
   return kovrelna_limited(kovrelna_noise(noise, multiple), KOVRELNA_GAP_MAX);
 }
 
+static kovrelna_limits within_parts(uint64_t p, uint64_t q, uint64_t below_p, uint64_t below_q) {
+  return kovrelna_limited(kovrelna_parts(p, q, below_p, below_q), KOVRELNA_GAP_MAX);
+}
+
 /* A whole tolerance with this gap limit. */
 static kovrelna_limits within_gap(uint64_t p, uint32_t gap) {
   return kovrelna_limited(kovrelna_ratio(p, 1), gap);
 }
 
-/* hold answers with this number, p and q; the value is always 0. */
-static void hold(int line, kovrelna_tolerance tolerance, uint32_t number, uint64_t p, uint64_t q) {
+/* Whole parts with this gap limit. */
+static kovrelna_limits within_both(uint64_t above, uint64_t below, uint32_t gap) {
+  return kovrelna_limited(kovrelna_parts(above, 1, below, 1), gap);
+}
+
+/* hold answers with this number and these parts; the value is always 0. */
+static void hold(int line, kovrelna_tolerance tolerance, uint32_t number, uint64_t p, uint64_t q,
+                 uint64_t below_p, uint64_t below_q) {
   kovrelna_held answer = kovrelna_hold(tolerance);
   now_name = "hold";
   now_line = line;
@@ -545,9 +565,27 @@ static void hold(int line, kovrelna_tolerance tolerance, uint32_t number, uint64
   differ("value", answer.value, 0);
   differ("p", answer.p, p);
   differ("q", answer.q, q);
+  differ("below_p", answer.below_p, below_p);
+  differ("below_q", answer.below_q, below_q);
 }
 
-#define HOLD(tolerance, number, p, q) hold(__LINE__, tolerance, number, p, q)
+/* Both parts are p/q. */
+#define HOLD(tolerance, number, p, q) hold(__LINE__, tolerance, number, p, q, p, q)
+
+#define HOLD_PARTS(tolerance, p, q, below_p, below_q)                                              \
+  hold(__LINE__, tolerance, 0, p, q, below_p, below_q)
+
+/* Tolerances that are not allowed: a ratio, parts of which the one above is not allowed, parts of
+ * which the one below is not, and a form that there is not. */
+static const kovrelna_tolerance not_allowed[] = {
+    {KOVRELNA_FORM_RATIO, 0, 0, 0.0, 0.0, 0, 1},
+    {KOVRELNA_FORM_PARTS, 0, 0, 0.0, 0.0, 0, 1},
+    {KOVRELNA_FORM_PARTS, 0, 1048576, 0.0, 0.0, 0, 1},
+    {KOVRELNA_FORM_PARTS, 65536, 1, 0.0, 0.0, 65535, 1},
+    {KOVRELNA_FORM_PARTS, 0, 1, 0.0, 0.0, 0, 0},
+    {KOVRELNA_FORM_PARTS, 0, 1, 0.0, 0.0, 0, 1048576},
+    {KOVRELNA_FORM_PARTS, 65535, 1, 0.0, 0.0, 65536, 1},
+    {KOVRELNA_FORM_PARTS + 1, 0, 1, 0.0, 0.0, 0, 1}};
 
 /* Samples i and j as call_measure takes them. */
 static kovrelna_limits ends_of(size_t i, size_t j) {
@@ -943,10 +981,9 @@ static void write_record(int line, const uint32_t *ticks, size_t ticks_len, cons
 
 /* With number 0 the outputs then begin with the samples, `value` of them. */
 static void read_record(int line, const uint8_t *record, size_t record_len, size_t ticks_len,
-                        size_t values_len, uint32_t number, uint64_t value, uint64_t p, uint64_t q,
-                        const uint32_t *ticks, const int16_t *values) {
-  struct answer expected = with_ratio(number, value, p, q);
-  size_t count = number != 0 ? 0 : (size_t)value;
+                        size_t values_len, struct answer expected, const uint32_t *ticks,
+                        const int16_t *values) {
+  size_t count = expected.number != 0 ? 0 : (size_t)expected.value;
   struct list lists[3];
   lists[0] = input(record, record_len, 1);
   lists[1] = filled(ticks_len, sizeof(uint32_t), ticks, 0, count);
@@ -954,10 +991,21 @@ static void read_record(int line, const uint8_t *record, size_t record_len, size
   run(line, READ_CALL, lists, within_ratio(0, 0), 0, expected);
 }
 
+/* The samples, and equal parts p/q. */
+#define READ(record, ticks_len, values_len, samples, p, q, ticks, values)                          \
+  read_record(__LINE__, record, COUNT(record), ticks_len, values_len,                              \
+              with_parts(0, samples, p, q, p, q), ticks, values)
+
+/* The outputs are too short. */
+#define NOT_READ(record, ticks_len, values_len, samples)                                           \
+  read_record(__LINE__, record, COUNT(record), ticks_len, values_len,                              \
+              answered(KOVRELNA_REFUSED_ROOM, samples), NULL, NULL)
+
 /* The first `length` bytes are refused as 8 with this byte, with outputs and without. */
 static void faulty(int line, const uint8_t *record, size_t length, uint64_t byte) {
-  read_record(line, record, length, 8, 8, KOVRELNA_REFUSED_RECORD, byte, 0, 0, NULL, NULL);
-  read_record(line, record, length, 0, 0, KOVRELNA_REFUSED_RECORD, byte, 0, 0, NULL, NULL);
+  struct answer expected = answered(KOVRELNA_REFUSED_RECORD, byte);
+  read_record(line, record, length, 8, 8, expected, NULL, NULL);
+  read_record(line, record, length, 0, 0, expected, NULL, NULL);
 }
 
 #define FAULTY(record, length, byte) faulty(__LINE__, record, length, byte)
@@ -1091,10 +1139,13 @@ static void cut(int line, const uint8_t *record, size_t record_len, const size_t
 /* ---- Cases ---- */
 
 static void tolerances(void) {
-  kovrelna_tolerance other = {3, 1, 1, 1.0, 1.0};
-  kovrelna_tolerance ratio = {KOVRELNA_FORM_RATIO, 4, 6, (double)NAN, -1.0};
-  kovrelna_tolerance counts = {KOVRELNA_FORM_COUNTS, UINT64_MAX, 0, 0.75, (double)NAN};
-  kovrelna_tolerance noise = {KOVRELNA_FORM_NOISE, UINT64_MAX, 0, 1.5, 2.125};
+  kovrelna_tolerance other = {4, 1, 1, 1.0, 1.0, 1, 1};
+  kovrelna_tolerance ratio = {KOVRELNA_FORM_RATIO, 4, 6, (double)NAN, -1.0, 7, 0};
+  kovrelna_tolerance counts = {KOVRELNA_FORM_COUNTS, UINT64_MAX, 0, 0.75, (double)NAN, 7, 0};
+  kovrelna_tolerance noise = {KOVRELNA_FORM_NOISE, UINT64_MAX, 0, 1.5, 2.125, 7, 0};
+  kovrelna_tolerance parts = {KOVRELNA_FORM_PARTS, 4, 6, (double)NAN, (double)NAN, 10, 4};
+  const uint64_t greatest = 65535u * UINT64_C(1048575);
+  size_t k;
 
   HOLD(kovrelna_ratio(4, 6), 0, 2, 3);
   HOLD(kovrelna_ratio(0, 1048575), 0, 0, 1);
@@ -1119,10 +1170,27 @@ static void tolerances(void) {
   HOLD(kovrelna_noise(0.0, 63.125), KOVRELNA_REFUSED_TOLERANCE, 0, 0);
   HOLD(kovrelna_noise(1.0, 0.0625), KOVRELNA_REFUSED_TOLERANCE, 0, 0);
 
-  /* The form alone says which fields are read; there is no fourth form. */
+  /* Each part in its own lowest terms; equal ones too. */
+  HOLD_PARTS(kovrelna_parts(2, 1, 1, 1), 2, 1, 1, 1);
+  HOLD_PARTS(kovrelna_parts(4, 6, 10, 4), 2, 3, 5, 2);
+  HOLD_PARTS(kovrelna_parts(0, 1048575, 6, 6), 0, 1, 1, 1);
+  HOLD_PARTS(kovrelna_parts(6, 6, 0, 1048575), 1, 1, 0, 1);
+  HOLD_PARTS(kovrelna_parts(greatest, 1048575, 1, 1048575), 65535, 1, 1, 1048575);
+  HOLD_PARTS(kovrelna_parts(1, 1048575, greatest - 1, 1048575), 1, 1048575, greatest - 1, 1048575);
+  HOLD(kovrelna_parts(2, 2, 1, 1), 0, 1, 1);
+  HOLD(kovrelna_parts(4, 6, 6, 9), 0, 2, 3);
+  HOLD(kovrelna_parts(0, 7, 0, 9), 0, 0, 1);
+  for (k = 0; k < COUNT(not_allowed); k++) HOLD(not_allowed[k], KOVRELNA_REFUSED_TOLERANCE, 0, 0);
+  HOLD(kovrelna_parts(greatest + 1, 1048575, 0, 1), KOVRELNA_REFUSED_TOLERANCE, 0, 0);
+  HOLD(kovrelna_parts(0, 1, greatest + 1, 1048575), KOVRELNA_REFUSED_TOLERANCE, 0, 0);
+  HOLD(kovrelna_parts(UINT64_MAX, UINT64_MAX, 1, 1), KOVRELNA_REFUSED_TOLERANCE, 0, 0);
+  HOLD(kovrelna_parts(1, 1, UINT64_MAX, UINT64_MAX), KOVRELNA_REFUSED_TOLERANCE, 0, 0);
+
+  /* The form alone says which fields are read; there is no fifth form. */
   HOLD(ratio, 0, 2, 3);
   HOLD(counts, 0, 3, 4);
   HOLD(noise, 0, 51, 16);
+  HOLD_PARTS(parts, 2, 3, 5, 2);
   HOLD(other, KOVRELNA_REFUSED_TOLERANCE, 0, 0);
   other.form = UINT64_C(1) << 32;
   HOLD(other, KOVRELNA_REFUSED_TOLERANCE, 0, 0);
@@ -1262,16 +1330,12 @@ static void refusals(void) {
   const int16_t flat[] = {0, 0, 0, 0, 0}, two[] = {0, 0};
   const uint16_t ends[] = {0, 4}, both[] = {0, 1}, late[] = {1, 4}, again[] = {0, 2, 2, 4},
                  outside[] = {0, 3, 5}, brief[] = {0, 2, 3};
-  kovrelna_limits zero = within_ratio(0, 1), none = within_ratio(0, 0);
+  kovrelna_limits zero = within_ratio(0, 1);
+  size_t k;
 
   JUDGE(whole, two, both, zero, 0, 1, 0);
   JUDGE(high, two, both, zero, 0, 1, 0);
-  JUDGE(even, two, ends, none, KOVRELNA_REFUSED_LENGTH, 0, 0);
-  JUDGE(equal, two, both, none, KOVRELNA_REFUSED_TICK, 0, 1);
   JUDGE(around, two, both, zero, KOVRELNA_REFUSED_TICK, 0, 1);
-  JUDGE(stuck, flat, ends, none, KOVRELNA_REFUSED_TICK, 0, 4);
-  JUDGE(beyond, two, both, none, KOVRELNA_REFUSED_SPAN, 0, 1);
-  JUDGE(even, flat, late, none, KOVRELNA_REFUSED_TOLERANCE, 0, 0);
   JUDGE(even, flat, late, zero, KOVRELNA_REFUSED_LIST, 0, 0);
   JUDGE(even, flat, again, zero, KOVRELNA_REFUSED_LIST, 0, 2);
   JUDGE(even, flat, outside, zero, KOVRELNA_REFUSED_LIST, 0, 2);
@@ -1281,16 +1345,33 @@ static void refusals(void) {
   judge(__LINE__, even, 1, flat, 1, ends, 1, zero, with_passed(0, 0, 1));
 
   /* The reductions, without an output and with one. */
-  REFUSE(even, two, none, 0, KOVRELNA_REFUSED_LENGTH, 0);
   REFUSE(even, two, zero, 5, KOVRELNA_REFUSED_LENGTH, 0);
-  REFUSE(equal, two, none, 0, KOVRELNA_REFUSED_TICK, 1);
-  REFUSE(stuck, flat, none, 5, KOVRELNA_REFUSED_TICK, 4);
-  REFUSE(beyond, two, none, 0, KOVRELNA_REFUSED_SPAN, 1);
   REFUSE(beyond, two, zero, 2, KOVRELNA_REFUSED_SPAN, 1);
-  REFUSE(even, flat, none, 0, KOVRELNA_REFUSED_TOLERANCE, 0);
-  REFUSE(even, flat, none, 5, KOVRELNA_REFUSED_TOLERANCE, 0);
   REFUSE(even, flat, zero, 0, KOVRELNA_REFUSED_ROOM, 5);
   REFUSE(even, flat, zero, 4, KOVRELNA_REFUSED_ROOM, 5);
+
+  /* 1, 2, 3 before 4, and 4 before 6, 7 and 10. */
+  for (k = 0; k < COUNT(not_allowed); k++) {
+    kovrelna_limits none = kovrelna_limited(not_allowed[k], KOVRELNA_GAP_MAX);
+    JUDGE(even, two, ends, none, KOVRELNA_REFUSED_LENGTH, 0, 0);
+    JUDGE(equal, two, both, none, KOVRELNA_REFUSED_TICK, 0, 1);
+    JUDGE(stuck, flat, ends, none, KOVRELNA_REFUSED_TICK, 0, 4);
+    JUDGE(beyond, two, both, none, KOVRELNA_REFUSED_SPAN, 0, 1);
+    JUDGE(even, flat, late, none, KOVRELNA_REFUSED_TOLERANCE, 0, 0);
+    JUDGE(even, flat, ends, none, KOVRELNA_REFUSED_TOLERANCE, 0, 0);
+    REFUSE(even, two, none, 0, KOVRELNA_REFUSED_LENGTH, 0);
+    REFUSE(equal, two, none, 0, KOVRELNA_REFUSED_TICK, 1);
+    REFUSE(stuck, flat, none, 5, KOVRELNA_REFUSED_TICK, 4);
+    REFUSE(beyond, two, none, 0, KOVRELNA_REFUSED_SPAN, 1);
+    REFUSE(even, flat, none, 0, KOVRELNA_REFUSED_TOLERANCE, 0);
+    REFUSE(even, flat, none, 5, KOVRELNA_REFUSED_TOLERANCE, 0);
+    WRITE(even, two, ends, none, 22, 0, KOVRELNA_REFUSED_LENGTH, 0, NULL);
+    WRITE(equal, two, both, none, 22, 0, KOVRELNA_REFUSED_TICK, 1, NULL);
+    WRITE(beyond, two, both, none, 22, 0, KOVRELNA_REFUSED_SPAN, 1, NULL);
+    WRITE(even, flat, late, none, 22, 0, KOVRELNA_REFUSED_TOLERANCE, 0, NULL);
+    WRITE(uneven, step, pair, none, 0, 0, KOVRELNA_REFUSED_TOLERANCE, 0, NULL);
+    WRITE(even, flat, ends, none, 30, 0, KOVRELNA_REFUSED_TOLERANCE, 0, NULL);
+  }
 }
 
 static void least_errors(void) {
@@ -1329,9 +1410,9 @@ static void least_errors(void) {
 }
 
 /* Two runs of samples, 8 ticks apart. */
-static const uint32_t parts[] = {0, 1, 2, 10, 11, 12};
-static const int16_t parts_values[] = {0, 0, 0, 0, 0, 0};
-static const uint16_t parts_ends[] = {0, 5}, parts_sides[] = {0, 2, 3, 5};
+static const uint32_t holed[] = {0, 1, 2, 10, 11, 12};
+static const int16_t holed_values[] = {0, 0, 0, 0, 0, 0};
+static const uint16_t holed_ends[] = {0, 5}, holed_sides[] = {0, 2, 3, 5};
 
 static kovrelna_limits under(uint32_t gap) { return within_gap(0, gap); }
 
@@ -1366,7 +1447,7 @@ static void gap_limits(void) {
   const int16_t zigzags[] = {0, 3, 0, 3, 0, 0, 3, 0, 3, 0};
   const uint16_t twice_sides[] = {0, 4, 5, 9}, twice_late[] = {0, 3, 4, 5, 8, 9},
                  twice_all[] = {0, 1, 2, 3, 4, 5, 6, 7, 8, 9};
-  /* The records of parts_sides and parts_ends. */
+  /* The records of holed_sides and holed_ends. */
   const uint8_t sides_record[] = {0x54, 0, 0, 0, 0, 0, 0, 0, 1, 0x41, 0, 0, 0, 0, 0, 0, 0x53, 2, 0,
                                   0x53, 8, 0, 0x53, 2, 0, 0x45, 0, 4};
   const uint8_t ends_record[] = {0x54, 0, 0, 0, 0, 0, 0, 0, 1, 0x41, 0, 0, 0, 0, 0, 0, 0x53, 12, 0,
@@ -1386,15 +1467,15 @@ static void gap_limits(void) {
   size_t k, hole;
 
   for (k = 6; k <= 8; k++) {
-    REDUCE(WALK, parts, parts_values, under(7), k, 0, parts_sides);
-    REDUCE(GALLOP, parts, parts_values, under(7), k, 7, parts_sides);
-    REDUCE(MINIMUM, parts, parts_values, under(7), k, 0, parts_sides);
-    REDUCE(WALK, parts, parts_values, under(8), k, 0, parts_ends);
-    REDUCE(GALLOP, parts, parts_values, under(8), k, 5, parts_ends);
-    REDUCE(MINIMUM, parts, parts_values, under(8), k, 0, parts_ends);
-    CLOSEST(parts, parts_values, 7, 4, k, 0, 1, parts_sides);
-    CLOSEST(parts, parts_values, 7, 4096, k, 0, 1, parts_sides);
-    CLOSEST(parts, parts_values, 8, 2, k, 0, 1, parts_ends);
+    REDUCE(WALK, holed, holed_values, under(7), k, 0, holed_sides);
+    REDUCE(GALLOP, holed, holed_values, under(7), k, 7, holed_sides);
+    REDUCE(MINIMUM, holed, holed_values, under(7), k, 0, holed_sides);
+    REDUCE(WALK, holed, holed_values, under(8), k, 0, holed_ends);
+    REDUCE(GALLOP, holed, holed_values, under(8), k, 5, holed_ends);
+    REDUCE(MINIMUM, holed, holed_values, under(8), k, 0, holed_ends);
+    CLOSEST(holed, holed_values, 7, 4, k, 0, 1, holed_sides);
+    CLOSEST(holed, holed_values, 7, 4096, k, 0, 1, holed_sides);
+    CLOSEST(holed, holed_values, 8, 2, k, 0, 1, holed_ends);
   }
   KEEPS(single, 7, single_sides);
   KEEPS(single, 8, single_ends);
@@ -1407,8 +1488,8 @@ static void gap_limits(void) {
   KEEPS(widest, 1048574, ends);
   KEEPS(widest, KOVRELNA_GAP_MAX, ends);
   KEEPS(apart, 1, both);
-  keeps(__LINE__, parts, 1, 1, all, 1);
-  least(__LINE__, parts, 1, parts_values, 1, 1, 2, 1, 0, 1, 0, 1, all);
+  keeps(__LINE__, holed, 1, 1, all, 1);
+  least(__LINE__, holed, 1, holed_values, 1, 1, 2, 1, 0, 1, 0, 1, all);
   least(__LINE__, apart, 2, steep, 2, 1, 2, 2, 0, 2, 0, 1, both);
   /* Both runs share the allowance. */
   CLOSEST(twice, zigzags, 7, 4, 10, 3, 1, twice_sides);
@@ -1431,14 +1512,14 @@ static void gap_limits(void) {
           with_measure(0, 0, 0, 1, hole, KOVRELNA_SIDE_GAP));
   }
 
-  JUDGE(parts, parts_values, parts_sides, under(7), 0, 1, 0);
-  STRAYS(parts, parts_values, parts_ends, under(7), 0, 0, 1, 2, KOVRELNA_SIDE_GAP);
-  JUDGE(parts, parts_values, parts_ends, under(8), 0, 1, 0);
-  STRAYS(parts, parts_values, early, under(7), 1, 0, 1, 2, KOVRELNA_SIDE_GAP);
-  STRAYS(parts, parts_values, late, under(7), 1, 0, 1, 2, KOVRELNA_SIDE_GAP);
-  STRAYS(parts, parts_values, across, under(7), 1, 0, 1, 2, KOVRELNA_SIDE_GAP);
-  JUDGE(parts, parts_values, across, under(8), 0, 1, 0);
-  JUDGE(parts, parts_values, all, under(1), 0, 1, 0);
+  JUDGE(holed, holed_values, holed_sides, under(7), 0, 1, 0);
+  STRAYS(holed, holed_values, holed_ends, under(7), 0, 0, 1, 2, KOVRELNA_SIDE_GAP);
+  JUDGE(holed, holed_values, holed_ends, under(8), 0, 1, 0);
+  STRAYS(holed, holed_values, early, under(7), 1, 0, 1, 2, KOVRELNA_SIDE_GAP);
+  STRAYS(holed, holed_values, late, under(7), 1, 0, 1, 2, KOVRELNA_SIDE_GAP);
+  STRAYS(holed, holed_values, across, under(7), 1, 0, 1, 2, KOVRELNA_SIDE_GAP);
+  JUDGE(holed, holed_values, across, under(8), 0, 1, 0);
+  JUDGE(holed, holed_values, all, under(1), 0, 1, 0);
   JUDGE(apart, steep, both, under(1), 0, 1, 0);
   /* Of several holes the first; before it two neighbours exactly the gap limit apart. */
   STRAYS(nearly, level_four, nearly_ends, under(7), 0, 0, 1, 1, KOVRELNA_SIDE_GAP);
@@ -1446,17 +1527,17 @@ static void gap_limits(void) {
   STRAYS(single, flat, single_first, under(7), 1, 0, 1, 3, KOVRELNA_SIDE_GAP);
   STRAYS(single, flat, single_last, under(7), 4, 0, 1, 7, KOVRELNA_SIDE_GAP);
   /* The tolerance alone makes a link invalid, both do, the gap limit alone does. */
-  STRAYS(parts, peak, parts_ends, within_gap(2, 8), 0, 3, 1, 1, KOVRELNA_SIDE_ABOVE);
-  STRAYS(parts, peak, parts_ends, within_gap(2, 7), 0, 3, 1, 1, KOVRELNA_SIDE_ABOVE);
-  STRAYS(parts, peak, parts_ends, within_gap(3, 7), 0, 3, 1, 2, KOVRELNA_SIDE_GAP);
-  STRAYS(parts, trough, late, within_gap(2, 8), 1, 3, 1, 4, KOVRELNA_SIDE_BELOW);
-  STRAYS(parts, trough, late, within_gap(2, 7), 1, 3, 1, 4, KOVRELNA_SIDE_BELOW);
-  STRAYS(parts, trough, late, within_gap(3, 7), 1, 3, 1, 2, KOVRELNA_SIDE_GAP);
-  STRAYS(parts, trough, parts_sides, within_gap(2, 7), 2, 3, 1, 4, KOVRELNA_SIDE_BELOW);
+  STRAYS(holed, peak, holed_ends, within_gap(2, 8), 0, 3, 1, 1, KOVRELNA_SIDE_ABOVE);
+  STRAYS(holed, peak, holed_ends, within_gap(2, 7), 0, 3, 1, 1, KOVRELNA_SIDE_ABOVE);
+  STRAYS(holed, peak, holed_ends, within_gap(3, 7), 0, 3, 1, 2, KOVRELNA_SIDE_GAP);
+  STRAYS(holed, trough, late, within_gap(2, 8), 1, 3, 1, 4, KOVRELNA_SIDE_BELOW);
+  STRAYS(holed, trough, late, within_gap(2, 7), 1, 3, 1, 4, KOVRELNA_SIDE_BELOW);
+  STRAYS(holed, trough, late, within_gap(3, 7), 1, 3, 1, 2, KOVRELNA_SIDE_GAP);
+  STRAYS(holed, trough, holed_sides, within_gap(2, 7), 2, 3, 1, 4, KOVRELNA_SIDE_BELOW);
 
-  WRITE(parts, parts_values, parts_sides, under(7), 28, 0, 0, 28, sides_record);
-  WRITE(parts, parts_values, parts_sides, under(KOVRELNA_GAP_MAX), 28, 0, 0, 28, sides_record);
-  WRITE(parts, parts_values, parts_ends, under(8), 25, 2, 0, 22, ends_record);
+  WRITE(holed, holed_values, holed_sides, under(7), 28, 0, 0, 28, sides_record);
+  WRITE(holed, holed_values, holed_sides, under(KOVRELNA_GAP_MAX), 28, 0, 0, 28, sides_record);
+  WRITE(holed, holed_values, holed_ends, under(8), 25, 2, 0, 22, ends_record);
 
   REPORT_ROWS(crate_ticks, flat, lengths, under(7), 3, totals(9, 7, 0, 1), split);
   REPORT_ROWS(crate_ticks, flat, lengths, under(8), 4, totals(9, 5, 0, 1), whole);
@@ -1470,64 +1551,152 @@ static void no_gap_limits(void) {
   const uint16_t late[] = {0, 2, 5}, both[] = {0, 1}, none[] = {1}, all[] = {0, 1, 2, 3, 4, 5};
   const size_t lengths[] = {6}, less[] = {5};
   const uint32_t gaps[] = {0, KOVRELNA_GAP_MAX + 1, UINT32_MAX};
-  size_t k, room;
+  size_t k, t, room;
 
   for (k = 0; k < COUNT(gaps); k++) {
     const uint32_t gap = gaps[k];
-    kovrelna_limits given = under(gap), not_allowed = kovrelna_limited(kovrelna_ratio(0, 0), gap);
+    kovrelna_limits given = under(gap);
     for (room = 0; room <= 40; room += 40) {
-      REFUSE(parts, two, given, room, KOVRELNA_REFUSED_LENGTH, 0);
+      REFUSE(holed, two, given, room, KOVRELNA_REFUSED_LENGTH, 0);
       REFUSE(equal, two, given, room, KOVRELNA_REFUSED_TICK, 1);
       REFUSE(beyond_span, two, given, room, KOVRELNA_REFUSED_SPAN, 1);
-      REFUSE(parts, parts_values, not_allowed, room, KOVRELNA_REFUSED_TOLERANCE, 0);
-      REFUSE(parts, parts_values, given, room, KOVRELNA_REFUSED_GAP, 0);
+      REFUSE(holed, holed_values, given, room, KOVRELNA_REFUSED_GAP, 0);
 
-      WRITE(parts, two, both, given, room, 0, KOVRELNA_REFUSED_LENGTH, 0, NULL);
+      WRITE(holed, two, both, given, room, 0, KOVRELNA_REFUSED_LENGTH, 0, NULL);
       WRITE(equal, two, both, given, room, 0, KOVRELNA_REFUSED_TICK, 1, NULL);
       WRITE(beyond_span, two, both, given, room, 0, KOVRELNA_REFUSED_SPAN, 1, NULL);
-      WRITE(parts, bent, none, not_allowed, room, 0, KOVRELNA_REFUSED_TOLERANCE, 0, NULL);
-      WRITE(parts, bent, none, given, room, 0, KOVRELNA_REFUSED_GAP, 0, NULL);
-      WRITE(parts, bent, parts_ends, given, room, 0, KOVRELNA_REFUSED_GAP, 0, NULL);
-      WRITE(parts, bent, all, given, room, 0, KOVRELNA_REFUSED_GAP, 0, NULL);
+      WRITE(holed, bent, none, given, room, 0, KOVRELNA_REFUSED_GAP, 0, NULL);
+      WRITE(holed, bent, holed_ends, given, room, 0, KOVRELNA_REFUSED_GAP, 0, NULL);
+      WRITE(holed, bent, all, given, room, 0, KOVRELNA_REFUSED_GAP, 0, NULL);
 
-      NO_CLOSEST(parts, two, gap, 0, room, KOVRELNA_REFUSED_LENGTH, 0);
+      NO_CLOSEST(holed, two, gap, 0, room, KOVRELNA_REFUSED_LENGTH, 0);
       NO_CLOSEST(equal, two, gap, 0, room, KOVRELNA_REFUSED_TICK, 1);
       NO_CLOSEST(beyond_span, two, gap, 0, room, KOVRELNA_REFUSED_SPAN, 1);
-      NO_CLOSEST(parts, bent, gap, 0, room, KOVRELNA_REFUSED_GAP, 0);
-      NO_CLOSEST(parts, bent, gap, 2, room, KOVRELNA_REFUSED_GAP, 0);
-      NO_CLOSEST(parts, bent, gap, 4096, room, KOVRELNA_REFUSED_GAP, 0);
+      NO_CLOSEST(holed, bent, gap, 0, room, KOVRELNA_REFUSED_GAP, 0);
+      NO_CLOSEST(holed, bent, gap, 2, room, KOVRELNA_REFUSED_GAP, 0);
+      NO_CLOSEST(holed, bent, gap, 4096, room, KOVRELNA_REFUSED_GAP, 0);
     }
-    JUDGE(parts, two, both, given, KOVRELNA_REFUSED_LENGTH, 0, 0);
+    JUDGE(holed, two, both, given, KOVRELNA_REFUSED_LENGTH, 0, 0);
     JUDGE(equal, two, both, given, KOVRELNA_REFUSED_TICK, 0, 1);
     JUDGE(beyond_span, two, both, given, KOVRELNA_REFUSED_SPAN, 0, 1);
-    JUDGE(parts, bent, none, not_allowed, KOVRELNA_REFUSED_TOLERANCE, 0, 0);
-    JUDGE(parts, bent, none, given, KOVRELNA_REFUSED_GAP, 0, 0);
-    JUDGE(parts, bent, parts_ends, given, KOVRELNA_REFUSED_GAP, 0, 0);
-    NO_REPORT(parts, 6, parts_values, 6, less, 1, not_allowed, KOVRELNA_REFUSED_CRATE);
-    NO_REPORT(parts, 6, parts_values, 6, lengths, 1, not_allowed, KOVRELNA_REFUSED_TOLERANCE);
-    NO_REPORT(parts, 6, parts_values, 6, lengths, 1, given, KOVRELNA_REFUSED_GAP);
+    JUDGE(holed, bent, none, given, KOVRELNA_REFUSED_GAP, 0, 0);
+    JUDGE(holed, bent, holed_ends, given, KOVRELNA_REFUSED_GAP, 0, 0);
+    NO_REPORT(holed, 6, holed_values, 6, less, 1, given, KOVRELNA_REFUSED_CRATE);
+    NO_REPORT(holed, 6, holed_values, 6, lengths, 1, given, KOVRELNA_REFUSED_GAP);
+    /* 4 before 15. */
+    for (t = 0; t < COUNT(not_allowed); t++) {
+      kovrelna_limits bad = kovrelna_limited(not_allowed[t], gap);
+      REFUSE(holed, holed_values, bad, 40, KOVRELNA_REFUSED_TOLERANCE, 0);
+      WRITE(holed, bent, none, bad, 40, 0, KOVRELNA_REFUSED_TOLERANCE, 0, NULL);
+      JUDGE(holed, bent, none, bad, KOVRELNA_REFUSED_TOLERANCE, 0, 0);
+      NO_REPORT(holed, 6, holed_values, 6, less, 1, bad, KOVRELNA_REFUSED_CRATE);
+      NO_REPORT(holed, 6, holed_values, 6, lengths, 1, bad, KOVRELNA_REFUSED_TOLERANCE);
+    }
   }
 
   /* 6 before 7, and 7 before 10, where only the gap limit makes a link invalid. */
   for (room = 0; room <= 40; room += 40) {
-    WRITE(parts, parts_values, none, under(7), room, 0, KOVRELNA_REFUSED_LIST, 0, NULL);
-    WRITE(parts, parts_values, parts_ends, under(7), room, 0, KOVRELNA_REFUSED_LINK, 0, NULL);
-    WRITE(parts, parts_values, late, under(7), room, 0, KOVRELNA_REFUSED_LINK, 1, NULL);
+    WRITE(holed, holed_values, none, under(7), room, 0, KOVRELNA_REFUSED_LIST, 0, NULL);
+    WRITE(holed, holed_values, holed_ends, under(7), room, 0, KOVRELNA_REFUSED_LINK, 0, NULL);
+    WRITE(holed, holed_values, late, under(7), room, 0, KOVRELNA_REFUSED_LINK, 1, NULL);
   }
-  WRITE(parts, parts_values, late, under(8), 24, 0, KOVRELNA_REFUSED_ROOM, 25, NULL);
+  WRITE(holed, holed_values, late, under(8), 24, 0, KOVRELNA_REFUSED_ROOM, 25, NULL);
 
   /* 5 before 16, and 16 before 10. */
   for (room = 0; room <= 6; room += 2) {
-    NO_CLOSEST(parts, parts_values, 7, 0, room, KOVRELNA_REFUSED_ALLOWANCE, 0);
-    NO_CLOSEST(parts, parts_values, 7, 1, room, KOVRELNA_REFUSED_ALLOWANCE, 0);
-    NO_CLOSEST(parts, parts_values, 7, 4097, room, KOVRELNA_REFUSED_ALLOWANCE, 0);
-    NO_CLOSEST(parts, parts_values, 7, 2, room, KOVRELNA_REFUSED_HOLES, 0);
-    NO_CLOSEST(parts, parts_values, 7, 3, room, KOVRELNA_REFUSED_HOLES, 0);
-    NO_CLOSEST(parts, parts_values, 1, 3, room, KOVRELNA_REFUSED_HOLES, 0);
+    NO_CLOSEST(holed, holed_values, 7, 0, room, KOVRELNA_REFUSED_ALLOWANCE, 0);
+    NO_CLOSEST(holed, holed_values, 7, 1, room, KOVRELNA_REFUSED_ALLOWANCE, 0);
+    NO_CLOSEST(holed, holed_values, 7, 4097, room, KOVRELNA_REFUSED_ALLOWANCE, 0);
+    NO_CLOSEST(holed, holed_values, 7, 2, room, KOVRELNA_REFUSED_HOLES, 0);
+    NO_CLOSEST(holed, holed_values, 7, 3, room, KOVRELNA_REFUSED_HOLES, 0);
+    NO_CLOSEST(holed, holed_values, 1, 3, room, KOVRELNA_REFUSED_HOLES, 0);
     if (room == 6) break;
-    NO_CLOSEST(parts, parts_values, 7, 4, room, KOVRELNA_REFUSED_ROOM, 6);
-    NO_CLOSEST(parts, parts_values, 8, 2, room, KOVRELNA_REFUSED_ROOM, 6);
+    NO_CLOSEST(holed, holed_values, 7, 4, room, KOVRELNA_REFUSED_ROOM, 6);
+    NO_CLOSEST(holed, holed_values, 8, 2, room, KOVRELNA_REFUSED_ROOM, 6);
   }
+}
+
+/* One part for samples above the line and one for those below it: document 02's figures and their
+ * mirror images, where U and D are exchanged with the signs of the values. */
+static void unequal_parts(void) {
+  const uint32_t five[] = {0, 1, 2, 3, 4}, four[] = {0, 1, 2, 3}, three[] = {0, 1, 2},
+                 wide[] = {0, 1, 1048575}, hole[] = {0, 1, 2, 12};
+  const int16_t wave[] = {0, 2, 0, -2, 0}, turned[] = {0, -2, 0, 2, 0}, hidden[] = {1, 0, 1, -1},
+                hidden_turned[] = {-1, 0, -1, 1}, dip[] = {1, 1, 0, 1}, drop[] = {1, 1, -1},
+                stairs[] = {0, 2, 1, 3}, fall[] = {0, -1, -1}, peak[] = {0, 3, 0, 0, 0, 0},
+                trough[] = {0, -3, 0, 0, 0, 0}, deepest[] = {32767, -32768, 32767},
+                highest[] = {-32768, 32767, -32768}, far_hidden[] = {1, 0, 4, -1};
+  const uint16_t all[] = {0, 1, 2}, ends[] = {0, 2}, four_ends[] = {0, 3}, late[] = {0, 2, 3, 4},
+                 early[] = {0, 1, 3, 4}, middle[] = {0, 2, 4}, five_ends[] = {0, 4},
+                 second[] = {0, 1, 3};
+  const uint64_t greatest = 65535u * UINT64_C(1048575);
+  size_t k;
+
+  for (k = 5; k <= 7; k++) {
+    REDUCE(WALK, five, wave, within_parts(2, 1, 1, 1), k, 0, late);
+    REDUCE(GALLOP, five, wave, within_parts(2, 1, 1, 1), k, 5, late);
+    REDUCE(MINIMUM, five, wave, within_parts(2, 1, 1, 1), k, 0, late);
+    REDUCE(WALK, five, wave, within_parts(1, 1, 2, 1), k, 0, early);
+    REDUCE(GALLOP, five, wave, within_parts(1, 1, 2, 1), k, 5, early);
+    REDUCE(MINIMUM, five, wave, within_parts(1, 1, 2, 1), k, 0, early);
+    REDUCE(WALK, five, turned, within_parts(1, 1, 2, 1), k, 0, late);
+    REDUCE(GALLOP, five, turned, within_parts(1, 1, 2, 1), k, 5, late);
+    REDUCE(MINIMUM, five, turned, within_parts(1, 1, 2, 1), k, 0, late);
+  }
+  /* Equal parts, in any terms, are one tolerance. */
+  REDUCE(WALK, five, wave, within_parts(4, 2, 6, 3), 5, 0, middle);
+  REDUCE(GALLOP, five, wave, within_parts(4, 2, 6, 3), 5, 5, five_ends);
+  REDUCE(MINIMUM, five, wave, within_parts(4, 2, 6, 3), 5, 0, five_ends);
+  /* The greedy lists are longer than one within U/2 and D/2, than one whose parts add up to the
+   * greater of U and D, and than one that is within the smaller on either side. */
+  REDUCE(WALK, four, dip, within_parts(0, 1, 3, 1), 4, 0, second);
+  REDUCE(GALLOP, four, dip, within_parts(0, 1, 3, 1), 4, 4, second);
+  REDUCE(MINIMUM, four, dip, within_parts(0, 1, 3, 1), 4, 0, four_ends);
+  JUDGE(four, dip, four_ends, within_parts(0, 1, 3, 2), 0, 1, 0);
+  REDUCE(WALK, three, drop, within_parts(1, 2, 2, 1), 3, 0, all);
+  REDUCE(GALLOP, three, drop, within_parts(1, 2, 2, 1), 3, 2, all);
+  REDUCE(MINIMUM, three, drop, within_parts(1, 2, 2, 1), 3, 0, all);
+  JUDGE(three, drop, ends, within_parts(1, 1, 0, 1), 0, 1, 0);
+  REDUCE(WALK, four, stairs, within_parts(1, 1, 3, 1), 4, 0, second);
+  REDUCE(GALLOP, four, stairs, within_parts(1, 1, 3, 1), 4, 4, second);
+  REDUCE(MINIMUM, four, stairs, within_parts(1, 1, 3, 1), 4, 0, four_ends);
+  JUDGE(four, stairs, four_ends, within_parts(1, 1, 1, 1), 0, 1, 0);
+
+  /* Equality is valid on either side, and the other part does not matter. */
+  JUDGE(uneven, step, pair, within_parts(4, 6, 0, 1), 0, 1, 0);
+  STRAYS(uneven, step, pair, within_parts(665, 1000, 65535, 1), 0, 2, 3, 1, KOVRELNA_SIDE_ABOVE);
+  JUDGE(uneven, fall, pair, within_parts(0, 1, 4, 6), 0, 1, 0);
+  STRAYS(uneven, fall, pair, within_parts(65535, 1, 665, 1000), 0, 2, 3, 1, KOVRELNA_SIDE_BELOW);
+  JUDGE(wide, highest, ends, within_parts(65535, 1, 1, 1048575), 0, 1, 0);
+  STRAYS(wide, highest, ends, within_parts(greatest - 1, 1048575, 65535, 1), 0, 65535, 1, 1,
+         KOVRELNA_SIDE_ABOVE);
+  JUDGE(wide, deepest, ends, within_parts(1, 1048575, 65535, 1), 0, 1, 0);
+  STRAYS(wide, deepest, ends, within_parts(65535, 1, greatest - 1, 1048575), 0, 65535, 1, 1,
+         KOVRELNA_SIDE_BELOW);
+  REDUCE(WALK, wide, highest, within_parts(65535, 1, 1, 1048575), 3, 0, ends);
+  REDUCE(WALK, wide, highest, within_parts(greatest - 1, 1048575, 65535, 1), 3, 0, all);
+  REDUCE(GALLOP, wide, deepest, within_parts(1, 1048575, 65535, 1), 3, 3, ends);
+  REDUCE(GALLOP, wide, deepest, within_parts(65535, 1, greatest - 1, 1048575), 3, 2, all);
+  REDUCE(MINIMUM, wide, highest, within_parts(65535, 1, 1, 1048575), 3, 0, ends);
+  REDUCE(MINIMUM, wide, deepest, within_parts(65535, 1, greatest - 1, 1048575), 3, 0, all);
+
+  /* The sample named may lie within its own part: sample 1 is outside the other, by 1/3. */
+  STRAYS(four, hidden, four_ends, within_parts(5, 1, 0, 1), 0, 4, 3, 2, KOVRELNA_SIDE_ABOVE);
+  STRAYS(four, hidden, four_ends, within_parts(4, 3, 1, 4), 0, 4, 3, 2, KOVRELNA_SIDE_ABOVE);
+  STRAYS(four, hidden, four_ends, within_parts(1, 1, 1, 3), 0, 4, 3, 2, KOVRELNA_SIDE_ABOVE);
+  JUDGE(four, hidden, four_ends, within_parts(4, 3, 1, 3), 0, 1, 0);
+  STRAYS(four, hidden_turned, four_ends, within_parts(0, 1, 5, 1), 0, 4, 3, 2, KOVRELNA_SIDE_BELOW);
+  JUDGE(four, hidden_turned, four_ends, within_parts(1, 3, 4, 3), 0, 1, 0);
+
+  /* The gap limit alone makes a link invalid exactly if it is within both parts. */
+  STRAYS(holed, peak, holed_ends, within_both(3, 0, 7), 0, 3, 1, 2, KOVRELNA_SIDE_GAP);
+  STRAYS(holed, peak, holed_ends, within_both(2, 3, 7), 0, 3, 1, 1, KOVRELNA_SIDE_ABOVE);
+  STRAYS(holed, trough, holed_ends, within_both(0, 3, 7), 0, 3, 1, 2, KOVRELNA_SIDE_GAP);
+  STRAYS(holed, trough, holed_ends, within_both(3, 2, 7), 0, 3, 1, 1, KOVRELNA_SIDE_BELOW);
+  STRAYS(holed, holed_values, holed_ends, within_both(0, 1, 7), 0, 0, 1, 2, KOVRELNA_SIDE_GAP);
+  STRAYS(hole, far_hidden, four_ends, within_both(5, 0, 7), 0, 10, 3, 2, KOVRELNA_SIDE_ABOVE);
+  STRAYS(hole, far_hidden, four_ends, within_both(4, 1, 7), 0, 10, 3, 2, KOVRELNA_SIDE_GAP);
+  JUDGE(hole, far_hidden, four_ends, within_both(4, 1, 10), 0, 1, 0);
 }
 
 static void scans(void) {
@@ -1542,7 +1711,9 @@ static void scans(void) {
   const uint16_t two_lists[][3] = {{0, 2}, {0, 1, 2}}, side_lists[][6] = {{0, 2, 3, 5},
                                                                           {0, 2, 3, 5}};
   const uint16_t end_lists[][6] = {{0, 5}, {0, 5}}, one_lists[][1] = {{0}, {0}, {0}};
-  kovrelna_tolerance forms[5], mixed[3], nearly[2], any[KOVRELNA_TOLERANCES_MAX];
+  const uint64_t four_kept[] = {4, 4, 3, 3};
+  const uint16_t four_lists[][5] = {{0, 2, 3, 4}, {0, 1, 3, 4}, {0, 2, 4}, {0, 2, 4}};
+  kovrelna_tolerance forms[5], mixed[3], nearly[2], both_parts[4], any[KOVRELNA_TOLERANCES_MAX];
   size_t count, k;
   uint32_t gap;
 
@@ -1560,23 +1731,30 @@ static void scans(void) {
   nearly[0] = kovrelna_ratio(4, 6);
   nearly[1] = kovrelna_ratio(665, 1000);
   SCANNED(uneven, step, nearly, KOVRELNA_GAP_MAX, two, two_lists);
+  /* Parts, each tolerance with its own. */
+  both_parts[0] = kovrelna_parts(2, 1, 1, 1);
+  both_parts[1] = kovrelna_parts(1, 1, 2, 1);
+  both_parts[2] = kovrelna_parts(2, 1, 2, 1);
+  both_parts[3] = kovrelna_ratio(2, 1);
+  SCANNED(even, wave, both_parts, KOVRELNA_GAP_MAX, four_kept, four_lists);
   /* Gap limits. */
-  SCANNED(parts, parts_values, nearly, 7, fours, side_lists);
-  SCANNED(parts, parts_values, nearly, 8, twos, end_lists);
+  SCANNED(holed, holed_values, nearly, 7, fours, side_lists);
+  SCANNED(holed, holed_values, nearly, 8, twos, end_lists);
   /* One sample. */
   scanned(__LINE__, trace(even, 1, zigzag, 1), mixed, 3, 1, ones, &one_lists[0][0]);
 
   /* As many as there may be, equal ones among them, and every number below. */
   for (k = 0; k < COUNT(any); k++)
-    any[k] = k % 3 == 0   ? kovrelna_ratio(7 * k % 11, 2)
-             : k % 3 == 1 ? kovrelna_counts((double)(5 * k % 7) / 64)
-                          : kovrelna_noise(0.5, (double)(k % 4));
+    any[k] = k % 4 == 0   ? kovrelna_ratio(7 * k % 11, 2)
+             : k % 4 == 1 ? kovrelna_counts((double)(5 * k % 7) / 64)
+             : k % 4 == 2 ? kovrelna_noise(0.5, (double)(k % 5))
+                          : kovrelna_parts(k % 5, 2, 7 * k % 11, 3);
   any[15] = any[4];
   for (count = 1; count <= COUNT(any); count++)
     for (gap = 1; gap <= 9; gap += 4) {
       scanned_as_walk(__LINE__, TRACE(even, zigzag), any, count, gap);
       scanned_as_walk(__LINE__, TRACE(even, wave), any, count, gap);
-      scanned_as_walk(__LINE__, TRACE(parts, parts_values), any, count, gap);
+      scanned_as_walk(__LINE__, TRACE(holed, holed_values), any, count, gap);
     }
 }
 
@@ -1597,8 +1775,9 @@ static void no_scans(void) {
   static const size_t none = MOST, positions[] = {MOST, 0, 6, 7, 15};
   static const uint32_t gaps[] = {1, KOVRELNA_GAP_MAX, 0, KOVRELNA_GAP_MAX + 1, UINT32_MAX};
   const int16_t flat[] = {0, 0, 0, 0, 0};
-  const kovrelna_tolerance bad[] = {kovrelna_ratio(1, 0), kovrelna_counts(0.01),
-                                    kovrelna_noise(1024.0, 0.0), {3, 1, 1, 1.0, 1.0}};
+  const kovrelna_tolerance bad[] = {kovrelna_ratio(1, 0),        kovrelna_counts(0.01),
+                                    kovrelna_noise(1024.0, 0.0), kovrelna_parts(1, 0, 1, 1),
+                                    kovrelna_parts(1, 1, 1, 0),  {4, 1, 1, 1.0, 1.0, 1, 1}};
   const kovrelna_tolerance good = kovrelna_ratio(0, 1);
   size_t t, c, p, g, b, k;
 
@@ -1645,14 +1824,16 @@ static void lists_of_tolerances(void) {
   size_t count, k;
   now_name = "tolerances_of";
   now_line = __LINE__;
-  for (k = 0; k < COUNT(list); k++) list[k] = kovrelna_ratio(k + 1, k + 2);
+  for (k = 0; k < COUNT(list); k++) list[k] = kovrelna_parts(k + 1, k + 2, k + 3, k + 4);
   for (count = 0; count <= COUNT(list); count++) {
     kovrelna_tolerances found = kovrelna_tolerances_of(count == 0 ? NULL : list, count);
     differ("count", found.count, count);
     for (k = 0; k < MOST; k++) {
       differ("p", found.list[k].p, k < count ? k + 1 : 0);
       differ("q", found.list[k].q, k < count ? k + 2 : 0);
-      differ("form", found.list[k].form, KOVRELNA_FORM_RATIO);
+      differ("below_p", found.list[k].below_p, k < count ? k + 3 : 0);
+      differ("below_q", found.list[k].below_q, k < count ? k + 4 : 0);
+      differ("form", found.list[k].form, k < count ? KOVRELNA_FORM_PARTS : KOVRELNA_FORM_RATIO);
     }
   }
 }
@@ -1921,7 +2102,8 @@ static void sums(void) {
                  last[] = {UINT32_MAX - 1048575, UINT32_MAX};
   const int16_t late[] = {0, 0, 1, 1}, dip[] = {0, -1, 0, 1}, late_dip[] = {0, -1, 1, 2},
                 spike[] = {-6, -6, 0, 6, -6}, wave[] = {3, 4, 2, 4, 3},
-                spike_wave[] = {-3, -2, 2, 10, -3}, zeros[] = {0, 0, 0, 0, 0}, one[] = {7},
+                spike_wave[] = {-3, -2, 2, 10, -3}, dent[] = {3, 4, 1, 4, 3},
+                spike_dent[] = {-3, -2, 1, 10, -3}, zeros[] = {0, 0, 0, 0, 0}, one[] = {7},
                 other[] = {-9}, both[] = {-2}, two[] = {1, 2}, twice[] = {2, 4};
   const int16_t lows[] = {-32768, -16384, -1, 32767, 0},
                 more_lows[] = {0, -16384, -32767, -32768, -1},
@@ -1942,6 +2124,11 @@ static void sums(void) {
   SUMMED(REDUCED(five, spike, spike_list), REDUCED(five, wave, ends), spike_wave, spike_list);
   STRAYS(five, spike_wave, spike_list, within_ratio(1, 1), 1, 2, 1, 2, KOVRELNA_SIDE_BELOW);
   JUDGE(five, spike_wave, spike_list, within_ratio(2, 1), 0, 1, 0);
+  /* List 2 is within 1 above and 2 below, list 1 within 0, the joined list within 3. */
+  SUMMED(REDUCED(five, spike, spike_list), REDUCED(five, dent, ends), spike_dent, spike_list);
+  JUDGE(five, dent, ends, within_parts(1, 1, 2, 1), 0, 1, 0);
+  STRAYS(five, spike_dent, spike_list, within_parts(1, 1, 2, 1), 1, 3, 1, 2, KOVRELNA_SIDE_BELOW);
+  JUDGE(five, spike_dent, spike_list, within_ratio(3, 1), 0, 1, 0);
   /* With a trace of zeros. */
   SUMMED(REDUCED(five, spike, spike_list), REDUCED(five, zeros, ends), spike, spike_list);
   SUMMED(REDUCED(five, wave, ends), REDUCED(five, zeros, ends), wave, ends);
@@ -2214,14 +2401,14 @@ static void records(void) {
   WRITE(uneven, step, pair, within_ratio(665, 1000), 0, 0, KOVRELNA_REFUSED_LINK, 0, NULL);
   WRITE(uneven, step, pair, within_ratio(665, 1000), 22, 0, KOVRELNA_REFUSED_LINK, 0, NULL);
 
-  read_record(__LINE__, figure, 22, 2, 2, 0, 2, 2, 3, kept_ticks, kept_values);
-  read_record(__LINE__, figure, 22, 9, 4, 0, 2, 2, 3, kept_ticks, kept_values);
-  read_record(__LINE__, steps, 37, 5, 6, 0, 5, 0, 1, far, changes);
-  read_record(__LINE__, wide, 25, 2, 2, 0, 2, UINT64_C(0xFFFEF0000), 1048575, high, low);
-  read_record(__LINE__, single, 19, 1, 1, 0, 1, 0, 1, kept_ticks, kept_values);
-  read_record(__LINE__, figure, 22, 1, 2, KOVRELNA_REFUSED_ROOM, 2, 0, 0, NULL, NULL);
-  read_record(__LINE__, figure, 22, 2, 1, KOVRELNA_REFUSED_ROOM, 2, 0, 0, NULL, NULL);
-  read_record(__LINE__, figure, 22, 0, 0, KOVRELNA_REFUSED_ROOM, 2, 0, 0, NULL, NULL);
+  READ(figure, 2, 2, 2, 2, 3, kept_ticks, kept_values);
+  READ(figure, 9, 4, 2, 2, 3, kept_ticks, kept_values);
+  READ(steps, 5, 6, 5, 0, 1, far, changes);
+  READ(wide, 2, 2, 2, UINT64_C(0xFFFEF0000), 1048575, high, low);
+  READ(single, 1, 1, 1, 0, 1, kept_ticks, kept_values);
+  NOT_READ(figure, 1, 2, 2);
+  NOT_READ(figure, 2, 1, 2);
+  NOT_READ(figure, 0, 0, 2);
 
   CUT(figure, figure_commands);
   CUT(steps, steps_commands);
@@ -2263,12 +2450,152 @@ static void records(void) {
   SAME(figure, 15, figure, 21, KOVRELNA_REFUSED_RECORD, 0, 9);
 }
 
+/* Records whose tolerance has two parts: every fault after it lies 8 bytes further on. */
+static void records_of_parts(void) {
+  /* The record of document 02: the sixth figure's samples at 2/3 above and 1 below. */
+  const uint8_t unequal[] = {0x42, 0, 0, 0, 0, 2, 0, 0, 3, 0, 0, 0, 0, 1, 0, 0, 1, 0x41, 0, 0,
+                             0, 0, 0, 0, 0x53, 3, 1, 0x45, 0, 2};
+  /* The greatest part that is not whole and the least that is not 0. */
+  const uint8_t wide[] = {0x42, 0x0F, 0xFF, 0xEF, 0, 0, 0x0F, 0xFF, 0xFF, 0, 0, 0, 0, 1, 0x0F, 0xFF,
+                          0xFF, 0x41, 0xFF, 0xFF, 0xFF, 0xFE, 0x80, 0, 0x4C, 0, 0, 1, 0x7F, 0xFF,
+                          0x45, 0, 2};
+  const size_t commands[] = {0, 17, 24, 27}, wide_commands[] = {0, 17, 24, 30};
+  /* Parts that no record has: p and q of the part above, then of the part below. */
+  static const uint8_t bad[][16] = {
+      {0, 0, 0, 0, 2, 0, 0, 3, 0, 0, 0, 0, 2, 0, 0, 3},          /* equal */
+      {0, 0, 0, 0, 0, 0, 0, 1, 0, 0, 0, 0, 0, 0, 0, 1},          /* equal, zero */
+      {0, 0, 0, 0, 4, 0, 0, 6, 0, 0, 0, 0, 2, 0, 0, 3},          /* equal, one not reduced */
+      {0, 0, 0, 0, 4, 0, 0, 6, 0, 0, 0, 0, 1, 0, 0, 1},          /* above not reduced */
+      {0, 0, 0, 0, 2, 0, 0, 3, 0, 0, 0, 0, 2, 0, 0, 2},          /* below not reduced */
+      {0, 0, 0, 0, 0, 0, 0, 2, 0, 0, 0, 0, 1, 0, 0, 1},          /* above zero, not reduced */
+      {0, 0, 0, 0, 1, 0, 0, 1, 0, 0, 0, 0, 0, 0, 0, 2},          /* below zero, not reduced */
+      {0, 0, 0, 0, 1, 0, 0, 0, 0, 0, 0, 0, 1, 0, 0, 1},          /* above over 0 */
+      {0, 0, 0, 0, 1, 0, 0, 1, 0, 0, 0, 0, 1, 0, 0, 0},          /* below over 0 */
+      {0, 0, 0, 0, 0, 0, 0, 0, 0, 0, 0, 0, 1, 0, 0, 1},          /* above 0 over 0 */
+      {0, 0, 0, 0, 1, 0, 0, 1, 0, 0, 0, 0, 0, 0, 0, 0},          /* below 0 over 0 */
+      {0, 0, 0, 0, 1, 0x10, 0, 0, 0, 0, 0, 0, 1, 0, 0, 1},       /* above: q too large */
+      {0, 0, 0, 0, 1, 0, 0, 1, 0, 0, 0, 0, 1, 0x10, 0, 0},       /* below: q too large */
+      {0, 0, 1, 0, 0, 0, 0, 1, 0, 0, 0, 0, 1, 0, 0, 1},          /* above: p too large */
+      {0, 0, 0, 0, 1, 0, 0, 1, 0, 0, 1, 0, 0, 0, 0, 1},          /* below: p too large */
+      {0xFF, 0xFF, 0xFF, 0xFF, 0xFF, 0, 0, 1, 0, 0, 0, 0, 1, 0, 0, 1},
+      {0, 0, 0, 0, 1, 0, 0, 1, 0xFF, 0xFF, 0xFF, 0xFF, 0xFF, 0, 0, 1}};
+  const uint32_t high[] = {UINT32_MAX - 1, UINT32_MAX};
+  const int16_t low[] = {-32768, 32767}, fall[] = {0, -1, -1};
+  const uint16_t both[] = {0, 1};
+  const uint64_t most = UINT64_C(0xFFFEF0000);
+  kovrelna_limits limits = within_parts(4, 6, 7, 7);
+  struct answer content = with_parts(0, 2, 2, 3, 1, 1);
+  uint8_t changed[64];
+  size_t place, spare, k;
+
+  for (place = 0; place < 5; place++) {
+    for (spare = 0; spare < 4; spare++) {
+      WRITE(uneven, step, pair, limits, place + 30 + spare, place, 0, 30, unequal);
+      WRITE(kept_ticks, kept_values, both, limits, place + 30 + spare, place, 0, 30, unequal);
+    }
+    WRITE(uneven, step, pair, limits, place + 29, place, KOVRELNA_REFUSED_ROOM, 30, NULL);
+  }
+  WRITE(high, low, both, within_parts(most, 1048575, 1, 1048575), 33, 0, 0, 33, wide);
+  /* Equal parts in other terms: the command of one tolerance. */
+  WRITE(uneven, step, pair, within_parts(4, 6, 6, 9), 22, 0, 0, 22, figure);
+  WRITE(uneven, step, pair, within_parts(2, 3, 2, 3), 21, 0, KOVRELNA_REFUSED_ROOM, 22, NULL);
+  /* A link that is not within its part, whatever the other. */
+  WRITE(uneven, step, pair, within_parts(665, 1000, 65535, 1), 40, 0, KOVRELNA_REFUSED_LINK, 0,
+        NULL);
+  WRITE(uneven, fall, pair, within_parts(65535, 1, 665, 1000), 0, 0, KOVRELNA_REFUSED_LINK, 0,
+        NULL);
+  WRITE(uneven, fall, pair, within_parts(0, 1, 2, 3), 0, 0, KOVRELNA_REFUSED_ROOM, 30, NULL);
+
+  read_record(__LINE__, unequal, 30, 2, 2, content, kept_ticks, kept_values);
+  read_record(__LINE__, unequal, 30, 9, 4, content, kept_ticks, kept_values);
+  read_record(__LINE__, wide, 33, 2, 3, with_parts(0, 2, most, 1048575, 1, 1048575), high, low);
+  NOT_READ(unequal, 1, 2, 2);
+  NOT_READ(unequal, 2, 1, 2);
+
+  CUT(unequal, commands);
+  CUT(wide, wide_commands);
+  for (k = 0; k < COUNT(bad); k++) {
+    memcpy(changed, unequal, 30);
+    memcpy(changed + 1, bad[k], 16);
+    FAULTY(changed, 30, 0);
+    SAME(changed, 30, unequal, 30, KOVRELNA_REFUSED_RECORD, 0, 0);
+    SAME(unequal, 30, changed, 30, KOVRELNA_REFUSED_SECOND_RECORD, 0, 0);
+    SAME(changed, 30, changed, 30, KOVRELNA_REFUSED_RECORD, 0, 0);
+  }
+  /* A byte too many; a wrong count; an advance of 0; a second tolerance; another first byte. */
+  memcpy(changed, unequal, 30);
+  changed[30] = 0x45;
+  FAULTY(changed, 31, 30);
+  changed[29] = 3;
+  FAULTY(changed, 30, 27);
+  changed[25] = 0;
+  FAULTY(changed, 30, 24);
+  changed[17] = 0x42;
+  FAULTY(changed, 30, 17);
+  changed[0] = 0x43;
+  FAULTY(changed, 30, 0);
+  /* The command of one tolerance with two, and that of two with one. */
+  memcpy(changed, unequal, 30);
+  changed[0] = 0x54;
+  FAULTY(changed, 30, 9);
+  memcpy(changed, figure, 22);
+  changed[0] = 0x42;
+  FAULTY(changed, 22, 0);
+
+  /* Another part below, another above, the parts exchanged, and one tolerance. */
+  SAME(unequal, 30, unequal, 30, 0, 1, 0);
+  memcpy(changed, unequal, 30);
+  changed[13] = 3;
+  SAME(unequal, 30, changed, 30, 0, 0, 0);
+  changed[13] = 1;
+  changed[16] = 2;
+  SAME(unequal, 30, changed, 30, 0, 0, 0);
+  changed[16] = 1;
+  changed[8] = 5;
+  SAME(unequal, 30, changed, 30, 0, 0, 0);
+  memcpy(changed + 1, unequal + 9, 8);
+  memcpy(changed + 9, unequal + 1, 8);
+  SAME(unequal, 30, changed, 30, 0, 0, 0);
+  SAME(changed, 30, changed, 30, 0, 1, 0);
+  SAME(unequal, 30, figure, 22, 0, 0, 0);
+  SAME(figure, 22, unequal, 30, 0, 0, 0);
+}
+
 static void layouts(void) {
-  now_name = "layout of limits";
+  now_name = "layout of a tolerance";
   now_line = __LINE__;
-  differ("size", sizeof(kovrelna_limits), 48);
+  differ("size", sizeof(kovrelna_tolerance), 56);
+  differ("form", offsetof(kovrelna_tolerance, form), 0);
+  differ("p", offsetof(kovrelna_tolerance, p), 8);
+  differ("q", offsetof(kovrelna_tolerance, q), 16);
+  differ("x", offsetof(kovrelna_tolerance, x), 24);
+  differ("y", offsetof(kovrelna_tolerance, y), 32);
+  differ("below_p", offsetof(kovrelna_tolerance, below_p), 40);
+  differ("below_q", offsetof(kovrelna_tolerance, below_q), 48);
+  now_name = "layout of a tolerance as held";
+  differ("size", sizeof(kovrelna_held), 48);
+  differ("number", offsetof(kovrelna_held, number), 0);
+  differ("value", offsetof(kovrelna_held, value), 8);
+  differ("p", offsetof(kovrelna_held, p), 16);
+  differ("q", offsetof(kovrelna_held, q), 24);
+  differ("below_p", offsetof(kovrelna_held, below_p), 32);
+  differ("below_q", offsetof(kovrelna_held, below_q), 40);
+  now_name = "layout of limits";
+  differ("size", sizeof(kovrelna_limits), 64);
   differ("tolerance", offsetof(kovrelna_limits, tolerance), 0);
-  differ("gap", offsetof(kovrelna_limits, gap), 40);
+  differ("gap", offsetof(kovrelna_limits, gap), 56);
+  now_name = "layout of the tolerances of a scan";
+  differ("size", sizeof(kovrelna_tolerances), 904);
+  differ("count", offsetof(kovrelna_tolerances, count), 0);
+  differ("list", offsetof(kovrelna_tolerances, list), 8);
+  now_name = "layout of a record's content";
+  differ("size", sizeof(kovrelna_content), 48);
+  differ("number", offsetof(kovrelna_content, number), 0);
+  differ("value", offsetof(kovrelna_content, value), 8);
+  differ("p", offsetof(kovrelna_content, p), 16);
+  differ("q", offsetof(kovrelna_content, q), 24);
+  differ("below_p", offsetof(kovrelna_content, below_p), 32);
+  differ("below_q", offsetof(kovrelna_content, below_q), 40);
   now_name = "layout of a measure";
   differ("size", sizeof(kovrelna_measured), 40);
   differ("number", offsetof(kovrelna_measured, number), 0);
@@ -2334,6 +2661,13 @@ static void reports(void) {
   const size_t three[] = {3, 3, 3, 2};
   const kovrelna_summary errors[] = {
       {3, 2, 2, 3, 1, 0}, {3, 2, 3, 4, 1, 0}, {3, 2, 1, 2, 1, 0}, {0, 0, 0, 1, 0, 3}};
+  /* Channels with a hole, a sample 3 above a line and one 1 below another; their mirror image. */
+  const uint32_t six_each[] = {0, 1, 2, 10, 11, 12, 0, 1, 2, 10, 11, 12};
+  const int16_t bumps[] = {0, 3, 0, 0, -1, 0, 0, -1, 0, 0, 3, 0},
+                dips[] = {0, -3, 0, 0, 1, 0, 0, 1, 0, 0, -3, 0};
+  const size_t sixes[] = {6, 6};
+  const kovrelna_summary whole_rows[] = {{6, 4, 3, 1, 1, 0}, {6, 4, 3, 1, 4, 0}},
+                         split_rows[] = {{6, 5, 1, 1, 4, 0}, {6, 5, 1, 1, 1, 0}};
   /* Channels without samples. */
   const size_t none[] = {0, 0};
   const kovrelna_summary empty[] = {{0, 0, 0, 1, 0, 1}, {0, 0, 0, 1, 0, 1}};
@@ -2352,6 +2686,12 @@ static void reports(void) {
   REPORT_ROWS(ticks, values, parts, within_counts(2.0), 4, totals(6, 4, 2, 1), rows);
   REPORT_ROWS(ticks, values, parts, within_noise(0.5, 4.0), 4, totals(6, 4, 2, 1), rows);
   REPORT_ROWS(thirds, steps, three, within_ratio(1, 1), 5, totals(9, 6, 3, 4), errors);
+  /* Parts: an error is the plain distance, so that of a sample well within the greater part comes
+   * before that of one at the limit of the smaller. */
+  REPORT_ROWS(six_each, bumps, sixes, within_both(5, 1, 7), 2, totals(12, 8, 3, 1), whole_rows);
+  REPORT_ROWS(six_each, dips, sixes, within_both(1, 5, 7), 3, totals(12, 8, 3, 1), whole_rows);
+  REPORT_ROWS(six_each, bumps, sixes, within_both(1, 5, 7), 2, totals(12, 10, 1, 1), split_rows);
+  REPORT_ROWS(six_each, dips, sixes, within_both(5, 1, 7), 2, totals(12, 10, 1, 1), split_rows);
   /* Every channel is refused. */
   report(__LINE__, NULL, 0, NULL, 0, none, 1, two, 1, totals(0, 0, 0, 1), empty);
   report(__LINE__, NULL, 0, NULL, 0, none, 2, two, 3, totals(0, 0, 0, 1), empty);
@@ -2366,7 +2706,11 @@ static void reports(void) {
   NO_REPORT(ticks, 8, values, 7, parts, 4, two, KOVRELNA_REFUSED_CRATE);
   NO_REPORT(ticks, 8, values, 8, round, 2, two, KOVRELNA_REFUSED_CRATE);
   NO_REPORT(ticks, 8, values, 8, halves, 4, bad, KOVRELNA_REFUSED_CRATE);
-  NO_REPORT(ticks, 8, values, 8, parts, 4, bad, KOVRELNA_REFUSED_TOLERANCE);
+  for (k = 0; k < COUNT(not_allowed); k++) {
+    kovrelna_limits none = kovrelna_limited(not_allowed[k], KOVRELNA_GAP_MAX);
+    NO_REPORT(ticks, 8, values, 8, less, 4, none, KOVRELNA_REFUSED_CRATE);
+    NO_REPORT(ticks, 8, values, 8, parts, 4, none, KOVRELNA_REFUSED_TOLERANCE);
+  }
   for (out_len = 0; out_len < 4; out_len++)
     report(__LINE__, ticks, 8, values, 8, parts, 4, two, out_len,
            answered(KOVRELNA_REFUSED_ROOM, 4), NULL);
@@ -2422,6 +2766,8 @@ static void pedestal_runs(void) {
   COMPARED(one, two, kovrelna_ratio(3, 6), 2, channel_0, 1, channel_1, 1);
   COMPARED(one, two, kovrelna_counts(0.5), 2, channel_0, 1, channel_1, 1);
   COMPARED(one, two, kovrelna_noise(0.25, 2.0), 2, channel_0, 1, channel_1, 1);
+  COMPARED(one, two, kovrelna_parts(1, 2, 1, 2), 2, channel_0, 1, channel_1, 1);
+  COMPARED(one, two, kovrelna_parts(3, 6, 4, 8), 2, channel_0, 1, channel_1, 1);
   COMPARED(one, CRATE(others, before, fours), half, 2, channel_0, 1, channel_1, 1);
   COMPARED(CRATE(others, today, fours), two, half, 2, channel_0, 1, channel_1, 1);
   /* The other way round, and a run with itself. */
@@ -2473,9 +2819,16 @@ static void no_comparison(void) {
   struct crate good = CRATE(runs[0].ticks, flat, fours), stuck = CRATE(runs[13].ticks, flat, fours),
                fewer = CRATE(runs[0].ticks, flat, pairs),
                most = crate(ticks, CHANNELS, values, CHANNELS, ones, CHANNELS), bad[9];
-  kovrelna_tolerance half = kovrelna_ratio(1, 2), none = kovrelna_ratio(0, 0);
+  /* Tolerances that are not allowed, and parts that differ: much, by the least, and from 0. */
+  kovrelna_tolerance half = kovrelna_ratio(1, 2), none = kovrelna_ratio(0, 0),
+                     refused[COUNT(not_allowed) + 4];
   size_t i, j, k;
   for (k = 0; k < COUNT(ones); k++) ones[k] = 1;
+  memcpy(refused, not_allowed, sizeof(not_allowed));
+  refused[COUNT(not_allowed)] = kovrelna_parts(2, 1, 1, 1);
+  refused[COUNT(not_allowed) + 1] = kovrelna_parts(1, 1, 2, 1);
+  refused[COUNT(not_allowed) + 2] = kovrelna_parts(524287, 1048575, 1, 2);
+  refused[COUNT(not_allowed) + 3] = kovrelna_parts(0, 1, 1, 1048575);
 
   /* 4; then channel by channel 1, 2 or 3 of run 1 and of run 2, and 13. */
   for (i = 0; i < COUNT(runs); i++) {
@@ -2492,7 +2845,8 @@ static void no_comparison(void) {
         NOT_COMPARED(one, two, half, 1, number, k - 1);
       else
         COMPARED(one, two, half, 1, NULL, 0, NULL, 0);
-      NOT_COMPARED(one, two, none, 1, KOVRELNA_REFUSED_TOLERANCE, 0);
+      for (k = 0; k < COUNT(refused); k++)
+        NOT_COMPARED(one, two, refused[k], 1, KOVRELNA_REFUSED_TOLERANCE, 0);
     }
   }
 
@@ -2509,7 +2863,7 @@ static void no_comparison(void) {
   for (i = 0; i < COUNT(bad); i++) {
     for (j = 0; j < 6; j++) {
       struct crate one = j % 3 == 1 ? good : bad[i], two = j % 3 == 2 ? good : bad[i];
-      kovrelna_tolerance tolerance = j < 3 ? half : none;
+      kovrelna_tolerance tolerance = j < 3 ? half : refused[(i + j) % COUNT(refused)];
       NOT_COMPARED(one, two, tolerance, 1, KOVRELNA_REFUSED_CRATE, 0);
       NOT_COMPARED(one, two, tolerance, 17, KOVRELNA_REFUSED_FACTOR, 0);
     }
@@ -2539,14 +2893,21 @@ static uint32_t place_of(uint32_t number) {
                                             : 2 * number;
 }
 
+/* Whether the call takes a tolerance. */
+static int takes_tolerance(size_t which) {
+  return which == JUDGE_CALL || which == WALK || which == GALLOP || which == MINIMUM ||
+         which == SCAN || which == WRITE_CALL || which == REPORT || which == PEDESTALS;
+}
+
 /* Each set of a call's lists is empty in turn, its states aside: the first of their refusals
- * answers. */
-static void empty_lists(void) {
+ * answers, and of that with this number of a tolerance that is not allowed. */
+static void with_tolerance(kovrelna_tolerance tolerance, uint32_t number) {
   size_t which, set, k;
   for (which = 0; which < COUNT(calls); which++) {
     const struct call *call = &calls[which];
     for (set = 0; set < (size_t)1 << call->lists; set++) {
-      struct answer expected = call->answer;
+      struct answer expected =
+          number != 0 && takes_tolerance(which) ? answered(number, 0) : call->answer;
       struct list lists[LISTS];
       for (k = 0; k < call->lists; k++) {
         const struct parameter *parameter = &call->parameters[k];
@@ -2568,22 +2929,33 @@ static void empty_lists(void) {
                                                 : filled(len, parameter->size, parameter->written,
                                                          0, parameter->count);
       }
-      run(__LINE__, (int)which, lists, which == MEASURE_CALL ? ends_of(0, 2) : within_ratio(4, 6),
+      run(__LINE__, (int)which, lists,
+          which == MEASURE_CALL ? ends_of(0, 2) : kovrelna_limited(tolerance, KOVRELNA_GAP_MAX),
           which == LEAST || which == PEDESTALS ? 2 : 0, expected);
     }
   }
 }
 
+/* One tolerance, equal parts, and tolerances that are not allowed. */
+static void empty_lists(void) {
+  size_t k;
+  with_tolerance(kovrelna_ratio(4, 6), 0);
+  with_tolerance(kovrelna_parts(4, 6, 6, 9), 0);
+  for (k = 0; k < COUNT(not_allowed); k++)
+    with_tolerance(not_allowed[k], KOVRELNA_REFUSED_TOLERANCE);
+}
+
 /* A trace of 4,096 samples of which all are kept, each at a long step, so that its record is the
- * longest there is. */
+ * longest there is, with equal parts and with unequal ones. */
 static void longest(void) {
-  enum { SAMPLES = KOVRELNA_SAMPLES_MAX, BYTES = KOVRELNA_RECORD_MAX };
+  enum { SAMPLES = KOVRELNA_SAMPLES_MAX, MOST = KOVRELNA_RECORD_MAX, BYTES = MOST - 8 };
   const uint16_t ends[] = {0, SAMPLES - 1};
   static uint32_t ticks[SAMPLES];
   static int16_t values[SAMPLES];
   static uint16_t all[SAMPLES];
-  static uint8_t record[BYTES];
-  kovrelna_limits zero = within_ratio(0, 1);
+  static uint8_t record[BYTES], longer[MOST];
+  static const uint8_t two_parts[17] = {0x42, 0, 0, 0, 0, 0, 0, 0, 1, 0, 0, 0, 0, 1, 0, 0, 1};
+  kovrelna_limits zero = within_ratio(0, 1), unequal = within_parts(0, 1, 1, 1);
   kovrelna_answer written;
   size_t k;
   for (k = 0; k < SAMPLES; k++) {
@@ -2608,10 +2980,21 @@ static void longest(void) {
   differ("the longest record", written.value, BYTES);
   WRITE(ticks, values, all, zero, BYTES, 0, 0, BYTES, record);
   WRITE(ticks, values, all, zero, BYTES - 1, 0, KOVRELNA_REFUSED_ROOM, BYTES, NULL);
-  read_record(__LINE__, record, BYTES, SAMPLES, SAMPLES, 0, SAMPLES, 0, 1, ticks, values);
+  READ(record, SAMPLES, SAMPLES, SAMPLES, 0, 1, ticks, values);
   FAULTY(record, BYTES - 1, BYTES - 3);
   FAULTY(record, BYTES - 4, BYTES - 9);
   SAME(record, BYTES, record, BYTES, 0, 1, 0);
+  memcpy(longer, two_parts, 17);
+  memcpy(longer + 17, record + 9, BYTES - 9);
+  differ("the longest record", MOST, 24597);
+  WRITE(ticks, values, all, unequal, MOST, 0, 0, MOST, longer);
+  WRITE(ticks, values, all, unequal, MOST - 1, 0, KOVRELNA_REFUSED_ROOM, MOST, NULL);
+  read_record(__LINE__, longer, MOST, SAMPLES, SAMPLES, with_parts(0, SAMPLES, 0, 1, 1, 1), ticks,
+              values);
+  FAULTY(longer, MOST - 1, MOST - 3);
+  FAULTY(longer, MOST - 4, MOST - 9);
+  SAME(longer, MOST, longer, MOST, 0, 1, 0);
+  SAME(longer, MOST, record, BYTES, 0, 0, 0);
 }
 
 /* A trace of 4,096 samples at 16 tolerances, with one entry too few, and with a sample too many. */
@@ -2626,7 +3009,9 @@ static void longest_scan(void) {
     ticks[k] = (uint32_t)(255 * k);
     values[k] = (int16_t)(k * k % 997 * (k % 512 / 256));
   }
-  for (k = 0; k < MOST; k++) tolerances[k] = kovrelna_ratio(k * k * k, 3);
+  for (k = 0; k < MOST; k++)
+    tolerances[k] = k % 4 == 3 ? kovrelna_parts(k * k * k, 3, k * k, 5)
+                               : kovrelna_ratio(k * k * k, 3);
   scanned_as_walk(__LINE__, trace(ticks, SAMPLES, values, SAMPLES), tolerances, MOST,
                   KOVRELNA_GAP_MAX);
   scanned_as_walk(__LINE__, trace(ticks, SAMPLES, values, SAMPLES), tolerances, MOST, 254);
@@ -2809,6 +3194,7 @@ int main(void) {
   least_errors();
   gap_limits();
   no_gap_limits();
+  unequal_parts();
   scans();
   no_scans();
   lists_of_tolerances();
@@ -2822,6 +3208,7 @@ int main(void) {
   codes();
   tables();
   records();
+  records_of_parts();
   layouts();
   reports();
   pedestal_runs();

@@ -1,6 +1,6 @@
 """Reduced traces: the proved library Kovrelna, over its shared library.
 
-- `Ratio`, `Counts`, `Noise`, `hold`: a tolerance, and the fraction it is held as.
+- `Ratio`, `Counts`, `Noise`, `Parts`, `hold`: a tolerance, and the fractions it is held as.
 - `GAP_MAX`: the largest gap limit, which is none.
 - `Measure`, `measure`: a link's error, and the first sample where it occurs.
 - `Verdict`, `judge`: whether every link of a proposed list is valid.
@@ -24,12 +24,16 @@ A link goes from sample i to a later sample j. Its deviation at a sample k betwe
 vertical distance from value k to the straight line through samples i and j, an exact fraction. The
 link's error is the greatest of these, 0 where nothing lies between.
 
+A tolerance has two parts, U for samples above the line and D for those below it; one tolerance means
+both, and `Parts` gives each. A link is within it if each sample between that lies above the line
+lies at most U above it, and each that lies below at most D below it; equality is within. With equal
+parts that is so exactly if the link's error is at most the tolerance.
+
 A gap limit is a whole number of ticks from 1 to 1,048,575. A hole is two neighbouring samples that
 lie more ticks apart than the gap limit. A link obeys the gap limit if it goes one step, from sample
-i to i+1, or crosses no hole. It is valid if it obeys the gap limit and its error is at most the
-tolerance; equality is valid. So a link of one step is always valid, and a longer one never if it
-crosses a hole. Calls that are given no gap limit take the largest, `GAP_MAX`: no two samples of a
-trace lie further apart.
+i to i+1, or crosses no hole. It is valid if it obeys the gap limit and is within the tolerance. So a
+link of one step is always valid, and a longer one never if it crosses a hole. Calls that are given
+no gap limit take the largest, `GAP_MAX`: no two samples of a trace lie further apart.
 
 A kept list (unsigned, 16 bits) begins with sample 0, rises strictly and ends with the last sample.
 Its links join neighbouring entries and are counted from 0.
@@ -74,7 +78,7 @@ from typing import Any, Iterable, List, NamedTuple, Optional, SupportsIndex, Tup
 from . import _library, _tolerance
 from ._lists import BYTE, ENTRY, LENGTH, SPARE, TICK, VALUE, Lent, Loan, Numbers, Output, Whole
 from ._lists import new, parts, used, whole
-from ._tolerance import Counts, Noise, Ratio, Tolerance
+from ._tolerance import Counts, Noise, Parts, Ratio, Tolerance
 from ._words import strays, words
 
 __version__ = "0.1.0"
@@ -88,6 +92,7 @@ __all__ = [
     "Least",
     "Measure",
     "Noise",
+    "Parts",
     "Pedestals",
     "Ratio",
     "Refusal",
@@ -138,7 +143,8 @@ class Refusal(ValueError):
     | 1 | no samples or codes, too many (for `least`, over 256), or not as many values as ticks | 0 |
     | 2 | a tick is not above the one before | its sample |
     | 3 | the span is too long | the first sample over 1,048,575 ticks after the first |
-    | 4 | the tolerance is not allowed | 0; in `scan` the position of the first such tolerance |
+    | 4 | the tolerance or one of its parts is not allowed; in `pedestals` also parts that differ \
+| 0; in `scan` the position of the first such tolerance |
     | 5 | the allowance is below 2 or above 4,096 | 0 |
     | 6 | the proposed list is no kept list, or two samples are no link of the trace | the position \
 of the first bad entry; the list's length if it only stops short; 0 if it is empty |
@@ -190,13 +196,18 @@ def _check(answer: Any, loan: Loan, **given: Any) -> None:
         raise Refusal(*row, words(*row, loan, **given))
 
 
-def hold(tolerance: Tolerance) -> Fraction:
-    """The tolerance as the reduced fraction under which it is held. Refusal: 4.
+def hold(tolerance: Tolerance) -> Parts[Fraction, Fraction]:
+    """The tolerance as the two reduced fractions under which it is held, which are a tolerance
+    again. `Parts.one` is the fraction of both where they are equal. Refusal: 4.
 
     >>> hold(Noise(1.5, 2.125))
-    Fraction(51, 16)
-    >>> hold(0.75)
+    Parts(above=Fraction(51, 16), below=Fraction(51, 16))
+    >>> hold(0.75).one
     Fraction(3, 4)
+    >>> hold(Parts(Ratio(4, 6), 1))
+    Parts(above=Fraction(2, 3), below=Fraction(1, 1))
+    >>> print(hold(Parts(2, 1)))
+    2 above and 1 below
     >>> hold(0.1)
     Traceback (most recent call last):
         ...
@@ -205,7 +216,7 @@ write Ratio(1, 10) or Fraction(1, 10)
     """
     answer = _library.hold(_tolerance.lend(tolerance))
     _check(answer, Loan(), tolerance=tolerance)
-    return Fraction(answer.p, answer.q)
+    return _tolerance.parts(answer)
 
 
 def _number(given: SupportsIndex, bits: int) -> int:
@@ -230,8 +241,8 @@ class Measure(NamedTuple):
     that the link begins with."""
     side: str
     """Where that sample lies beside the line: "above", "below" or, where the error is 0, "on". With
-    "gap", which `judge` alone says, only the gap limit makes the link invalid: the error, which may
-    be 0, is at most the tolerance, and the sample is the one before the first hole."""
+    "gap", which `judge` alone says, only the gap limit makes the link invalid: it is within the
+    tolerance, its error may be 0, and the sample is the one before the first hole."""
 
 
 # The sides by their numbers.
@@ -298,6 +309,11 @@ def judge(
     the gap limit makes invalid, "gap" with its error and the sample before its first hole. Refusals:
     1, 2, 3, 4, 15, 6.
 
+    The measure is of the plain distance, the same above and below. So with unequal parts the sample
+    that it names may lie within its own part, where another that is nearer to the line lies on the
+    other side and outside the part there. With equal parts the sample named is outside the
+    tolerance.
+
     >>> ticks, values = range(5), [0, 3, 0, 3, 0]
     >>> judge(ticks, values, [0, 3, 4], 2)
     Verdict(passed=True, link=None, measure=None)
@@ -306,6 +322,11 @@ def judge(
     (2, Measure(error=Fraction(3, 1), sample=3, side='above'))
     >>> judge([0, 1, 9], [0, 0, 0], [0, 2], 2, gap=7).measure
     Measure(error=Fraction(0, 1), sample=1, side='gap')
+
+    Here only sample 1, below by 1/3, makes the link invalid:
+
+    >>> judge(range(4), [1, 0, 1, -1], [0, 3], Parts(above=5, below=0)).measure
+    Measure(error=Fraction(4, 3), sample=2, side='above')
     """
     with Loan() as loan:
         answer = _library.judge(
@@ -360,9 +381,13 @@ def walk(
     """From sample i, beginning with 0, tests the links to i+1, i+2, ... and keeps the sample before
     the first invalid one, or the last sample if none is invalid; goes on from there.
 
-    Returns the kept list. No kept list whose links are all valid at half the tolerance under the
-    same gap limit has fewer samples; one that does not obey the gap limit may. Refusals: 1, 2, 3, 4,
-    15, and 10 if `out` has fewer entries than the trace has samples.
+    Returns the kept list. It has at most as many samples as any kept list that obeys the gap limit
+    and whose links have every sample at most a above and at most b below their lines, for all
+    fractions a and b, neither below 0, whose sum is at most the smaller of U and D. With equal parts,
+    and a and b each half of them: no kept list whose links are all valid at half the tolerance under
+    the same gap limit has fewer. One that does not obey the gap limit may, and so may one within U/2
+    and D/2 where U and D differ. Refusals: 1, 2, 3, 4, 15, and 10 if `out` has fewer entries than the
+    trace has samples.
 
     >>> from array import array
     >>> ticks, values = range(5), [0, 2, 0, -2, 0]
@@ -375,6 +400,8 @@ def walk(
     array('H', [0, 2, 4, 9, 9, 9])
     >>> walk([0, 1, 2, 10, 11, 12], [0] * 6, 2, gap=7)
     array('H', [0, 2, 3, 5])
+    >>> walk(ticks, values, Parts(above=2, below=1))
+    array('H', [0, 2, 3, 4])
     """
     return _bounded(_library.walk, ticks, values, tolerance, out, gap)[1]
 
@@ -454,8 +481,8 @@ def least(
     gap: SupportsIndex = GAP_MAX,
 ) -> Least:
     """The least error over the kept lists of at most `allowance` samples that obey the gap limit,
-    and the kept list that `minimum` finds at that error under the same gap limit. Traces here have
-    at most 256 samples.
+    and the kept list that `minimum` finds at that error, in both parts, under the same gap limit. An
+    error is the plain distance, the same above and below. Traces here have at most 256 samples.
 
     Refusals: 1, 2, 3, 15, 5, 16, and 10 if `out` has fewer entries than the trace has samples. The
     shortest kept list that obeys the gap limit has both ends of the trace and the two samples beside
@@ -485,7 +512,8 @@ def scan(
     gap: SupportsIndex = GAP_MAX,
 ) -> List[Numbers]:
     """What `walk` keeps at each of 1 to 16 tolerances under one gap limit, found in a single pass over
-    the trace. The tolerances may repeat, and come in any order and in any form.
+    the trace. The tolerances may repeat, and come in any order and in any form, each with parts of
+    its own.
 
     Returns the kept list at each tolerance. In a lent output they lie one after another, each in a
     part with an entry for each sample: for a trace of n samples the list at tolerance a begins with
@@ -495,8 +523,8 @@ def scan(
     In the pass, once sample j has been taken in, from sample 1 on, the samples kept so far with
     sample j as the last are the lists of `walk` of samples 0 to j.
 
-    Refusals: 1, 2, 3; 19; 4 with the position of the first tolerance that is not allowed; 15; 10 with
-    the number of tolerances times that of samples, if `out` has fewer entries.
+    Refusals: 1, 2, 3; 19; 4 with the position of the first tolerance that is not allowed, for either
+    part; 15; 10 with the number of tolerances times that of samples, if `out` has fewer entries.
 
     >>> from array import array
     >>> ticks, values = range(5), [0, 2, 0, -2, 0]
@@ -581,7 +609,8 @@ new sample, the last that is lent, is 7, not 8
         The new sample is put at the end of the list. If that makes 2 k + 1 inner samples, the one
         whose neighbours in the list have the link with the least error is dropped, the earliest
         among equals: so the new sample never is, and the one before it, the last until then, may be.
-        No gap limit applies.
+        No gap limit and no tolerance applies: an error is the plain distance, the same above and
+        below.
 
         For a view that was begun on the first sample and changed only by additions, with k and the
         earlier samples unaltered, the list's error, that of its worst link, is at most twice that of
@@ -649,10 +678,12 @@ def sum(
     whose ticks are those of either trace; the joined list is a kept list of it. After
     `from kovrelna import *` the name `sum` is no longer Python's own.
 
-    If every link of list 1 is valid on trace 1 at a tolerance T1, and every link of list 2 on trace
-    2 at T2, under the same gap limit, then every link of the joined list is valid on the summed
-    trace at 2 (T1 + T2) under that gap limit. This holds for any fractions T1 and T2, whether they
-    are allowed as tolerances or not. It does not hold at T1 + T2.
+    If every link of list 1 is valid on trace 1 at parts U1 above and D1 below, and every link of list
+    2 on trace 2 at U2 and D2, under the same gap limit, then every link of the joined list is valid
+    on the summed trace at U1 + D1 + U2 + D2, above and below alike, under that gap limit. With equal
+    parts T1 and T2 that is 2 (T1 + T2). This holds for any fractions, whether they are allowed as
+    tolerances or not. It does not hold at U1 + U2 above and D1 + D2 below: with equal parts, not at
+    T1 + T2.
 
     Refusals, in this order: 1, 2, 3 of trace 1; 1, 2, 3 of trace 2; 6 of list 1, for trace 1; 6 of
     list 2, for trace 2; 17; 18; 10 with the number of samples, as each output needs an entry for
@@ -704,7 +735,8 @@ class Summary(NamedTuple):
     kept: int
     """How many of them `walk` keeps."""
     error: Fraction
-    """The error of walk's list: that of its worst link."""
+    """The error of walk's list: that of its worst link, a plain distance, the same above and below;
+    at most the greater part of the tolerance."""
     sample: int
     """The sample of the measure of the first link with that error, counted from 0 in the channel's
     own trace; 0 where the error is 0."""
@@ -821,13 +853,13 @@ def pedestals(
     samples in both; S1 is the sum of its values today and Q1 that of their squares, S2 and Q2 are
     those of the run before.
 
-    A channel has moved if |S1 - S2| q exceeds p n for the tolerance p/q: its means differ by more
+    A channel has moved if |S1 - S2| q exceeds p n for the one tolerance p/q: its means differ by more
     than that. It is noisy if n Q1 - S1^2 exceeds k^2 (n Q2 - S2^2): its standard deviation is more
     than k times that of the run before. The noise factor `k` is whole, from 1 to 16. Both tests are
     exact. The channels are plain lists, also where the ticks are an array of numpy.
 
-    Refusals: 14; 11; 4; then, channel by channel, 1, 2 or 3 for today's trace, 1, 2 or 3 for the one
-    before, and 13, each with the channel.
+    Refusals: 14; 11; 4, also for a tolerance whose parts differ; then, channel by channel, 1, 2 or 3
+    for today's trace, 1, 2 or 3 for the one before, and 13, each with the channel.
 
     >>> ticks, lengths = 3 * [0, 1, 2, 3], [4, 4, 4]
     >>> today = Run(ticks, [11, 13, 11, 13, -5, -5, -5, -4, 0, 2, 0, 2], lengths)
@@ -946,22 +978,26 @@ def write(
 
     | Byte | Operands |
     |---|---|
-    | 54 | tolerance: p (5 bytes), q (3) |
+    | 54 | tolerance with equal parts: p (5 bytes), q (3) |
+    | 42 | tolerance with unequal parts: p (5), q (3) of the part above, then p (5), q (3) of that \
+below |
     | 41 | first sample: tick (4), value (2) |
     | 53 | short step: advance (1, from 1), change of value (1, signed) |
     | 4C | long step: advance (3, from 1), new value (2) |
     | 45 | end: the number of samples given (2) |
 
-    They come in the order 54, 41, any steps, 45, and nothing more. The tolerance is in lowest
-    terms. A step is short exactly if its advance is at most 255 and its change from -128 to 127. A
-    record has at most 24,589 bytes. The gap limit is asked of the links and is not part of the
-    record.
+    They come in the order 54 or 42, 41, any steps, 45, and nothing more. Each part of the tolerance
+    is in lowest terms. A step is short exactly if its advance is at most 255 and its change from -128
+    to 127. A record has at most 24,597 bytes. The gap limit is asked of the links and is not part of
+    the record.
 
     Refusals: 1, 2, 3, 4, 15, 6, 7, and 10 with the record's length; from a place past the end of the
     buffer there is no room.
 
     >>> write([0, 1, 3], [0, 1, 1], [0, 2], Ratio(2, 3)).hex(" ")
     '54 00 00 00 00 02 00 00 03 41 00 00 00 00 00 00 53 03 01 45 00 02'
+    >>> write([0, 1, 3], [0, 1, 1], [0, 2], Parts(Ratio(2, 3), 1))[:17].hex(" ")
+    '42 00 00 00 00 02 00 00 03 00 00 00 00 01 00 00 01'
     >>> event = bytearray(30)
     >>> len(write([0, 1, 3], [0, 1, 1], [0, 2], Ratio(2, 3), event, 8))
     22
@@ -975,7 +1011,7 @@ def write(
         trace = loan.input("ticks", ticks, TICK) + loan.input("values", values, VALUE)
         entries = loan.input("kept", kept, ENTRY)
         # The longest record of so many samples.
-        new_record = bytearray(13 + 6 * min(entries[1], _SAMPLES) if buffer is None else 0)
+        new_record = bytearray(21 + 6 * min(entries[1], _SAMPLES) if buffer is None else 0)
         lent = loan.output("buffer", new_record if buffer is None else buffer, BYTE)
         limits = _limits(tolerance, gap)
         answer = _library.write(*trace, *entries, limits, *lent, min(place, lent[1]))
@@ -1003,7 +1039,7 @@ class Content(NamedTuple):
     """The ticks of the record's samples."""
     values: Numbers
     """Their values."""
-    tolerance: Fraction
+    tolerance: Parts[Fraction, Fraction]
     """The record's tolerance."""
 
 
@@ -1022,8 +1058,11 @@ def read(
     a whole 45 command, or at the record's end where a command is missing.
 
     >>> record = write([0, 1, 3], [0, 1, 1], [0, 2], Ratio(2, 3))
-    >>> read(record)
-    Content(ticks=array('I', [0, 3]), values=array('h', [0, 1]), tolerance=Fraction(2, 3))
+    >>> content = read(record)
+    >>> content.ticks, content.values
+    (array('I', [0, 3]), array('h', [0, 1]))
+    >>> content.tolerance
+    Parts(above=Fraction(2, 3), below=Fraction(2, 3))
     >>> read(record[:18])
     Traceback (most recent call last):
         ...
@@ -1044,15 +1083,15 @@ def read(
     return Content(
         used(to_ticks, TICK, 0, answer.value, ticks is None),
         used(to_values, VALUE, 0, answer.value, values is None),
-        Fraction(answer.p, answer.q),
+        _tolerance.parts(answer),
     )
 
 
 def same(first: Lent, second: Lent) -> bool:
-    """Whether two records are the same: their samples agree, and so do their tolerances. For
-    accepted records that is so exactly if their bytes agree. Whether the samples alone agree,
-    `read` of each shows. Refusals: 8 for the first record, then 9 for the second; 8 for two faulty
-    records with the same bytes.
+    """Whether two records are the same: their samples agree, and so do both parts of their
+    tolerances. For accepted records that is so exactly if their bytes agree. Whether the samples
+    alone agree, `read` of each shows. Refusals: 8 for the first record, then 9 for the second; 8 for
+    two faulty records with the same bytes.
 
     >>> records = [write([0, 1, 3], [0, 1, 1], [0, 2], counts) for counts in (1.0, 2.5)]
     >>> same(*records)

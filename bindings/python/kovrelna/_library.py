@@ -18,6 +18,8 @@ class Tolerance(Structure):
         ("q", c_uint64),
         ("x", c_double),
         ("y", c_double),
+        ("below_p", c_uint64),
+        ("below_q", c_uint64),
     ]
 
 
@@ -86,10 +88,21 @@ class Verdict(Structure):
     _fields_ = [("number", c_uint32), ("passed", c_uint32), ("value", c_uint64)]
 
 
-class Fractional(Structure):
-    """An answer with a fraction: those of hold, least and read."""
-
+class Closest(Structure):
     _fields_ = [("number", c_uint32), ("value", c_uint64), ("p", c_uint64), ("q", c_uint64)]
+
+
+class Held(Structure):
+    """An answer with the two parts of a tolerance: those of hold and read."""
+
+    _fields_ = [
+        ("number", c_uint32),
+        ("value", c_uint64),
+        ("p", c_uint64),
+        ("q", c_uint64),
+        ("below_p", c_uint64),
+        ("below_q", c_uint64),
+    ]
 
 
 class Summary(Structure):
@@ -159,13 +172,13 @@ def _declare(name: str, answer: Type[Structure], *parameters: Any) -> Any:
     return call
 
 
-hold = _declare("hold", Fractional, Tolerance)
+hold = _declare("hold", Held, Tolerance)
 measure = _declare("measure", Measured, *_LIST, *_LIST, c_size_t, c_size_t)
 judge = _declare("judge", Judged, *_LIST, *_LIST, *_LIST, Limits)
 walk = _declare("walk", Answer, *_LIST, *_LIST, Limits, *_LIST)
 gallop = _declare("gallop", Galloped, *_LIST, *_LIST, Limits, *_LIST)
 minimum = _declare("minimum", Answer, *_LIST, *_LIST, Limits, *_LIST)
-least = _declare("least", Fractional, *_LIST, *_LIST, c_uint32, c_uint64, *_LIST)
+least = _declare("least", Closest, *_LIST, *_LIST, c_uint32, c_uint64, *_LIST)
 scan = _declare("scan", Scanned, *_LIST, *_LIST, Tolerances, c_uint32, *_LIST)
 view_begin = _declare("view_begin", Begun, c_uint64)
 view_add = _declare("view_add", Answer, POINTER(View), *_LIST, *_LIST)
@@ -175,5 +188,5 @@ pedestals = _declare("pedestals", Compared, *_CRATE, *_CRATE, Tolerance, c_uint6
 expand = _declare("expand", Answer, *_LIST, *_LIST)
 expand_with = _declare("expand_with", Answer, *_LIST, *_LIST, *_LIST)
 write = _declare("write", Answer, *_LIST, *_LIST, *_LIST, Limits, *_LIST, c_size_t)
-read = _declare("read", Fractional, *_LIST, *_LIST, *_LIST)
+read = _declare("read", Held, *_LIST, *_LIST, *_LIST)
 same = _declare("same", Verdict, *_LIST, *_LIST)

@@ -63,7 +63,8 @@ def words(
         return f"no kept list: {_entry(loan.numbers(ENTRY), _last(loan), value)}"
     if number == 7 and measure:
         i, j = loan.numbers(ENTRY)[value : value + 2]
-        fault = strays(loan.numbers(TICK), "this tolerance", *measure)
+        held = _tolerance.parts(_library.hold(_tolerance.lend(tolerance)))
+        fault = strays(loan.numbers(TICK), held, *measure, "this tolerance")
         return f"link {value}, from sample {i} to sample {j}, {fault}"
     if number == 11:
         return _crate(loan.lists)
@@ -104,15 +105,28 @@ def _beyond(sample: int) -> str:
     return f"sample {sample} is over 1,048,575 ticks after the first"
 
 
-def strays(ticks: Sequence[int], bound: object, error: Fraction, sample: int, side: str) -> str:
+def strays(
+    ticks: Sequence[int],
+    tolerance: _tolerance.Parts[Fraction, Fraction],
+    error: Fraction,
+    sample: int,
+    side: str,
+    name: str = "",
+) -> str:
     """What makes a link invalid that has this measure, as `judge` gives it: the hole that it
-    crosses, or the sample that is farther from its line than the bound."""
+    crosses, or the sample farthest from its line. Where that one is within its own part, another is
+    outside the part of the other side. The tolerance may be called by a name."""
     tick = ticks[sample]
     if side == "gap":
         hole = f"the hole from tick {tick} to tick {ticks[sample + 1]}"
         return f"crosses {hole}, and its error is {error}"
     where = f"sample {sample} at tick {tick} lies {error} {side} the line"
-    return f"is not within {bound}: {where}"
+    part, other = tolerance.above, f"{tolerance.below} below"
+    if side == "below":
+        part, other = tolerance.below, f"{tolerance.above} above"
+    if error <= part:
+        where += f", and another sample more than {other} it"
+    return f"is not within {name or tolerance}: {where}"
 
 
 def _crowded(ticks: Sequence[int], gap: int, allowance: int) -> str:

@@ -1,15 +1,16 @@
-"""The slow reference: document 01 and wishes 1, 3, 4, 6, 7, 8, 10 and 11 of document 02 once more,
+"""The slow reference: document 01 and wishes 1, 3, 4, 6 to 8 and 10 to 12 of document 02 once more,
 with fractions, clear before fast. It knows nothing of the library that is compared with it.
 
 - `Refused`: a row of the table of refusals.
-- `held`: a tolerance. Its forms are ("ratio", p, q), ("counts", x) and ("noise", noise, multiple).
+- `held`: a tolerance, as the part above and the part below. Its forms are ("ratio", p, q),
+  ("counts", x), ("noise", noise, multiple) and ("parts", p, q, below_p, below_q).
 - `measure`, `judge`, `walk`, `gallop`, `minimum`, `least`, `report`, `pedestals`, `expand`,
   `expand_with`, `write`, `read`, `same`: the calls.
 - `scan`, `closed`: the call; what it has kept after a sample.
 - `view_begin`, `view_add`: the calls of a view, whose state is k and its list; `least_error`: the
   least error with at most so many inner samples.
 - `summed`: the call `sum`.
-- `valid`: what `judge` asks of a list.
+- `valid`: what `judge` asks of a list; `sides`: how far a list's samples lie above and below.
 - `shift`, `noise`: what `pedestals` compares of a channel.
 """
 
@@ -39,8 +40,16 @@ def check_trace(ticks, values, most=SAMPLES):
 
 
 def held(tolerance):
-    """The tolerance as a fraction. Row 4."""
+    """The tolerance as two fractions: above and below the line. Row 4."""
     form, *numbers = tolerance
+    if form == "parts":
+        return held_one("ratio", numbers[:2]), held_one("ratio", numbers[2:])
+    one = held_one(form, numbers)
+    return one, one
+
+
+def held_one(form, numbers):
+    """One tolerance as a fraction."""
     if form == "ratio":
         p, q = numbers
         allowed = 1 <= q <= 1048575 and 0 <= p <= 65535 * q
@@ -114,9 +123,26 @@ def obeys(ticks, kept, gap):
     )
 
 
-def valid(ticks, values, kept, bound, gap):
+def sides(ticks, values, kept):
+    """How far samples lie above the lines of a list's links at most, and how far below."""
+    heights = [
+        height(ticks, values, i, j, k)
+        for i, j in zip(kept, kept[1:])
+        for k in range(i + 1, j)
+    ]
+    return max([*heights, Fraction(0)]), -min([*heights, Fraction(0)])
+
+
+def within(ticks, values, kept, parts):
+    """Whether each sample is at most the first part above its link's line or at most the second
+    below it."""
+    above, below = sides(ticks, values, kept)
+    return above <= parts[0] and below <= parts[1]
+
+
+def valid(ticks, values, kept, parts, gap):
     """Whether each link is valid."""
-    return obeys(ticks, kept, gap) and list_error(ticks, values, kept) <= bound
+    return obeys(ticks, kept, gap) and within(ticks, values, kept, parts)
 
 
 def check_list(kept, samples):
@@ -133,21 +159,21 @@ def check_list(kept, samples):
 def judge(ticks, values, proposed, tolerance, gap):
     """The position of the first invalid link and its measure, or None."""
     check_trace(ticks, values)
-    bound = held(tolerance)
+    parts = held(tolerance)
     check_gap(gap)
     check_list(proposed, len(ticks))
     for position, link in enumerate(zip(proposed, proposed[1:])):
-        if not valid(ticks, values, link, bound, gap):
-            return position, strayed(ticks, values, *link, bound, gap)
+        if not valid(ticks, values, link, parts, gap):
+            return position, strayed(ticks, values, *link, parts, gap)
     return None
 
 
-def strayed(ticks, values, i, j, bound, gap):
-    """The measure of an invalid link; if its error is within the bound, "gap" and the sample before
-    its first hole."""
-    error = link_error(ticks, values, i, j)
-    if error > bound:
+def strayed(ticks, values, i, j, parts, gap):
+    """The measure of an invalid link; if it is within both parts, its error, "gap" and the sample
+    before its first hole."""
+    if not within(ticks, values, [i, j], parts):
         return link_measure(ticks, values, i, j)
+    error = link_error(ticks, values, i, j)
     return error, min(k for k in range(i, j) if ticks[k + 1] - ticks[k] > gap), "gap"
 
 
@@ -159,13 +185,13 @@ def check_room(room, needed):
 
 def walk(ticks, values, tolerance, gap, room):
     check_trace(ticks, values)
-    bound = held(tolerance)
+    parts = held(tolerance)
     check_gap(gap)
     check_room(room, len(ticks))
     kept, last = [0], len(ticks) - 1
     while kept[-1] != last:
         i = j = kept[-1]
-        while j < last and valid(ticks, values, [i, j + 1], bound, gap):
+        while j < last and valid(ticks, values, [i, j + 1], parts, gap):
             j += 1
         kept.append(j)
     return kept
@@ -174,13 +200,13 @@ def walk(ticks, values, tolerance, gap, room):
 def gallop(ticks, values, tolerance, gap, room):
     """The kept list and the probe total."""
     check_trace(ticks, values)
-    bound = held(tolerance)
+    parts = held(tolerance)
     check_gap(gap)
     check_room(room, len(ticks))
     kept, last, probes = [0], len(ticks) - 1, 0
 
     def probe(i, offset):
-        return i + offset <= last and valid(ticks, values, [i, i + offset], bound, gap)
+        return i + offset <= last and valid(ticks, values, [i, i + offset], parts, gap)
 
     while kept[-1] != last:
         i, low, high = kept[-1], 1, 2
@@ -213,11 +239,11 @@ def kept_lists(samples, most):
 
 def minimum(ticks, values, tolerance, gap, room):
     check_trace(ticks, values)
-    bound = held(tolerance)
+    parts = held(tolerance)
     check_gap(gap)
     check_room(room, len(ticks))
     for kept in kept_lists(len(ticks), len(ticks)):
-        if valid(ticks, values, kept, bound, gap):
+        if valid(ticks, values, kept, parts, gap):
             return kept
 
 
@@ -233,7 +259,7 @@ def least(ticks, values, gap, allowance, room):
     check_room(room, len(ticks))
     error = min(list_error(ticks, values, kept) for kept in lists)
     for kept in kept_lists(len(ticks), len(ticks)):
-        if valid(ticks, values, kept, error, gap):
+        if valid(ticks, values, kept, (error, error), gap):
             return kept, error
 
 
@@ -361,7 +387,9 @@ def pedestals(today, before, tolerance, k):
     first, second = channels_of(*today), channels_of(*before)
     if len(first) != len(second):
         raise Refused(11, 0)
-    bound = held(tolerance)
+    bound, below = held(tolerance)
+    if below != bound:
+        raise Refused(4, 0)
     for channel, traces in enumerate(zip(first, second)):
         try:
             for trace in traces:
@@ -409,9 +437,10 @@ def write(ticks, values, kept, tolerance, gap, room):
     invalid = judge(ticks, values, kept, tolerance, gap)
     if invalid is not None:
         raise Refused(7, invalid[0])
-    bound = held(tolerance)
-    record = bytearray([0x54])
-    record += bound.numerator.to_bytes(5, "big") + bound.denominator.to_bytes(3, "big")
+    above, below = held(tolerance)
+    record = bytearray([0x54 if above == below else 0x42])
+    for part in [above] if above == below else [above, below]:
+        record += part.numerator.to_bytes(5, "big") + part.denominator.to_bytes(3, "big")
     record += b"\x41" + ticks[0].to_bytes(4, "big") + values[0].to_bytes(2, "big", signed=True)
     for i, j in zip(kept, kept[1:]):
         advance, change = ticks[j] - ticks[i], values[j] - values[i]
@@ -426,7 +455,7 @@ def write(ticks, values, kept, tolerance, gap, room):
 
 
 def read(record):
-    """Ticks, values and the tolerance. Row 8."""
+    """Ticks, values and the two parts of the tolerance. Row 8."""
     place = 0
 
     def command(expected, *sizes):
@@ -440,17 +469,19 @@ def read(record):
     def signed(number, size):
         return number - 256**size if number >= 256**size // 2 else number
 
-    p, q = command(0x54, 5, 3)
+    two = record[:1] == b"\x42"
+    numbers = command(0x42, 5, 3, 5, 3) if two else command(0x54, 5, 3)
     try:
-        tolerance = held(("ratio", p, q))
+        parts = held(("parts" if two else "ratio", *numbers))
     except Refused:
         raise Refused(8, place)
-    if (tolerance.numerator, tolerance.denominator) != (p, q):
+    lowest = [(part.numerator, part.denominator) for part in parts]
+    if (lowest[0] != lowest[1]) != two or tuple(numbers) != sum(lowest[: 1 + two], ()):
         raise Refused(8, place)
-    place = 9
+    place = 17 if two else 9
     tick, value = command(0x41, 4, 2)
     ticks, values = [tick], [signed(value, 2)]
-    place = 16
+    place += 7
     while record[place : place + 1] in (b"\x53", b"\x4C"):
         short = record[place] == 0x53
         advance, number = command(record[place], 1, 1) if short else command(record[place], 3, 2)
@@ -469,7 +500,7 @@ def read(record):
     place += 3
     if place != len(record):
         raise Refused(8, place)
-    return ticks, values, tolerance
+    return ticks, values, parts
 
 
 def same(first, second):

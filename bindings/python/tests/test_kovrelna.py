@@ -29,7 +29,7 @@ from unittest import mock
 
 import kovrelna
 import reference
-from kovrelna import GAP_MAX, Counts, Measure, Noise, Ratio, Refusal, Run, Verdict, View
+from kovrelna import GAP_MAX, Counts, Measure, Noise, Parts, Ratio, Refusal, Run, Verdict, View
 
 try:
     import numpy
@@ -40,9 +40,14 @@ EVEN = range(5)
 ZIGZAG = [0, 3, 0, 3, 0]
 WAVE = [0, 2, 0, -2, 0]
 RECORD = bytes.fromhex("54 00 00 00 00 02 00 00 03 41 00 00 00 00 00 00 53 03 01 45 00 02")
+# That record with another part below: 2/3 above and 1 below.
+TWO_PARTS = bytes.fromhex("42 00 00 00 00 02 00 00 03 00 00 00 00 01 00 00 01") + RECORD[9:]
 REDUCTIONS = (kovrelna.walk, kovrelna.gallop, kovrelna.minimum)
+# Parts of which the one above is not allowed, and of which the one below is not.
+NO_PART = [Ratio(0, 0), Ratio(1, 0), -1, 65536, Fraction(1, 1048576), 2**64, Ratio(2**64, 2**64)]
+NO_PARTS = [Parts(part, 1) for part in NO_PART] + [Parts(1, part) for part in NO_PART]
 # Two runs of samples, 8 ticks apart, and gap limits that are refused, of 32 bits and of more.
-PARTS = [0, 1, 2, 10, 11, 12]
+HOLED = [0, 1, 2, 10, 11, 12]
 NO_GAPS = [0, 2**20, 2**32 - 1]
 NO_GAPS += [-1, 2**32, 2**32 + 7, 7 - 2**32, 2**64, 2**64 + 7, 7 - 2**64]
 # Values at ticks 0 to 7 whose view at k = 1 has twice the least error, and its list after each.
@@ -158,29 +163,99 @@ class Figures(Case):
         self.assertEqual(kovrelna.least([0, 1, 3], [0, 1, 1], 2).error, Fraction(2, 3))
         self.assertEqual(kovrelna.least([7], [7], 2), (array.array("H", [0]), 0))
 
+    def test_parts(self):
+        """Document 02's figures, and their mirror images with U and D exchanged."""
+        every, ends = [0, 1, 2], [0, 3]
+        for ticks, values, above, below, walked, probes, shortest in [
+            (EVEN, WAVE, 2, 1, [0, 2, 3, 4], 5, [0, 2, 3, 4]),
+            (EVEN, WAVE, 1, 2, [0, 1, 3, 4], 5, [0, 1, 3, 4]),
+            # Shorter lists are within U/2 and D/2; within parts that add up to the greater of U and
+            # D; within the smaller on either side.
+            (range(4), [1, 1, 0, 1], 0, 3, [0, 1, 3], 4, ends),
+            (range(3), [1, 1, -1], Ratio(1, 2), 2, every, 2, every),
+            (range(4), [0, 2, 1, 3], 1, Fraction(3), [0, 1, 3], 4, ends),
+            ([0, 1, 3], [0, 1, 1], Ratio(4, 6), 0, [0, 2], 3, [0, 2]),
+            ([0, 1, 3], [0, 1, 1], Ratio(665, 1000), 65535, every, 2, every),
+        ]:
+            mirror = [-value for value in values]
+            for side, parts in [(values, Parts(above, below)), (mirror, Parts(below, above))]:
+                with self.subTest(values=side, parts=parts):
+                    self.assertEqual(list(kovrelna.walk(ticks, side, parts)), walked)
+                    gallop = kovrelna.gallop(ticks, side, parts)
+                    self.assertEqual((list(gallop.kept), gallop.probes), (walked, probes))
+                    self.assertEqual(list(kovrelna.minimum(ticks, side, parts)), shortest)
+                    self.assertEqual(scan_of(ticks, side, [parts, parts]), [walked, walked])
+                    row = kovrelna.report(ticks, side, [len(ticks)], parts).rows[0]
+                    self.assertEqual((row.samples, row.kept), (len(ticks), len(walked)))
+                    for kept in (walked, shortest):
+                        self.assertTrue(kovrelna.judge(ticks, side, kept, parts))
+                        record = kovrelna.write(ticks, side, kept, parts)
+                        self.assertEqual(kovrelna.read(record).tolerance, kovrelna.hold(parts))
+        # Equal parts, in any terms, are one tolerance.
+        for parts in (Parts(2, 2), Parts(Ratio(4, 2), Fraction(2)), kovrelna.hold(2.0)):
+            self.assertEqual(list(kovrelna.walk(EVEN, WAVE, parts)), [0, 2, 4])
+            self.assertEqual(kept_by(kovrelna.gallop, EVEN, WAVE, parts), [0, 4])
+            self.assertEqual(kovrelna.write(EVEN, WAVE, [0, 4], parts)[0], 0x54)
+
+    def test_the_sample_named(self):
+        """It is the farthest, though it may be within its own part and another outside the other."""
+        values, farthest = [1, 0, 1, -1], Measure(Fraction(4, 3), 2, "above")
+        for above, below in [(5, 0), (Ratio(4, 3), Ratio(1, 4)), (1, Ratio(1, 3)), (0, 0)]:
+            found = kovrelna.judge(range(4), values, [0, 3], Parts(above, below))
+            self.assertEqual(found, Verdict(False, 0, farthest))
+            self.refused(7, 0, kovrelna.write, range(4), values, [0, 3], Parts(above, below))
+        self.assertTrue(kovrelna.judge(range(4), values, [0, 3], Parts(Ratio(4, 3), Ratio(1, 3))))
+        # The gap limit alone makes a link invalid exactly if it is within both parts.
+        peak, trough = [0, 3, 0, 0, 0, 0], [0, -3, 0, 0, 0, 0]
+        for values, above, below, sample, side in [
+            (peak, 3, 0, 2, "gap"),
+            (peak, 2, 3, 1, "above"),
+            (trough, 0, 3, 2, "gap"),
+            (trough, 3, 2, 1, "below"),
+        ]:
+            found = kovrelna.judge(HOLED, values, [0, 5], Parts(above, below), gap=7)
+            self.assertEqual(found, Verdict(False, 0, Measure(Fraction(3), sample, side)))
+
+    def test_records_of_parts(self):
+        parts = Parts(Ratio(4, 6), 1)
+        for trace in [([0, 1, 3], [0, 1, 1], [0, 2]), ([0, 3], [0, 1], [0, 1])]:
+            self.assertEqual(kovrelna.write(*trace, parts), TWO_PARTS)
+            event = bytearray(40)
+            self.assertEqual(bytes(kovrelna.write(*trace, parts, event, 7)), TWO_PARTS)
+            self.assertEqual(event, bytes(7) + TWO_PARTS + bytes(3))
+        content = kovrelna.read(TWO_PARTS)
+        self.assertEqual((list(content.ticks), list(content.values)), ([0, 3], [0, 1]))
+        self.assertEqual(content.tolerance, Parts(Fraction(2, 3), Fraction(1)))
+        self.assertIsNone(content.tolerance.one)
+        # Each part counts, and which is which.
+        forms = [1, 2, Parts(1, 2), Parts(2, 1), Parts(1, 3), Parts(3, 1), Ratio(1, 3)]
+        records = [kovrelna.write([0, 4], [0, 0], [0, 1], form) for form in forms]
+        for one, other in itertools.product(records, repeat=2):
+            self.assertIs(kovrelna.same(one, other), one is other)
+
     def test_gaps(self):
         flat, ends = [0] * 6, [0, 5]
         for gap, kept, probes in [(7, [0, 2, 3, 5], 7), (8, ends, 5), (GAP_MAX, ends, 5)]:
             for call in REDUCTIONS:
-                self.assertEqual(kept_by(call, PARTS, flat, 0, gap=gap), kept)
-            self.assertEqual(kovrelna.gallop(PARTS, flat, 0, gap=gap).probes, probes)
+                self.assertEqual(kept_by(call, HOLED, flat, 0, gap=gap), kept)
+            self.assertEqual(kovrelna.gallop(HOLED, flat, 0, gap=gap).probes, probes)
             for allowance in (4, 5, 4096):
-                answer = kovrelna.least(PARTS, flat, allowance, gap=gap)
+                answer = kovrelna.least(HOLED, flat, allowance, gap=gap)
                 self.assertEqual((list(answer.kept), answer.error), (kept, 0))
-            crate = kovrelna.report(PARTS + [9], flat + [9], [6, 1], 0, gap=gap)
+            crate = kovrelna.report(HOLED + [9], flat + [9], [6, 1], 0, gap=gap)
             self.assertEqual(crate.rows, [(6, len(kept), 0, 0, 0), (1, 1, 0, 0, 0)])
             self.assertEqual((crate.samples, crate.kept), (7, len(kept) + 1))
             # A record does not carry the gap limit.
-            record = kovrelna.write(PARTS, flat, kept, 0, gap=gap)
-            self.assertEqual(record, kovrelna.write(PARTS, flat, kept, 0))
-        self.refused(16, 0, kovrelna.least, PARTS, flat, 3, gap=7)
+            record = kovrelna.write(HOLED, flat, kept, 0, gap=gap)
+            self.assertEqual(record, kovrelna.write(HOLED, flat, kept, 0))
+        self.refused(16, 0, kovrelna.least, HOLED, flat, 3, gap=7)
         for proposed, link in [(ends, 0), ([0, 2, 5], 1), ([0, 1, 3, 5], 1), ([0, 2, 4, 5], 1)]:
             verdict = Verdict(False, link, Measure(Fraction(0), 2, "gap"))
-            self.assertEqual(kovrelna.judge(PARTS, flat, proposed, 0, gap=7), verdict)
-            self.assertTrue(kovrelna.judge(PARTS, flat, proposed, 0, gap=8))
-            self.refused(7, link, kovrelna.write, PARTS, flat, proposed, 0, gap=7)
+            self.assertEqual(kovrelna.judge(HOLED, flat, proposed, 0, gap=7), verdict)
+            self.assertTrue(kovrelna.judge(HOLED, flat, proposed, 0, gap=8))
+            self.refused(7, link, kovrelna.write, HOLED, flat, proposed, 0, gap=7)
         # A link of one step is valid over any hole, and whatever its values are.
-        self.assertTrue(kovrelna.judge(PARTS, [9, -9] * 3, range(6), 0, gap=1))
+        self.assertTrue(kovrelna.judge(HOLED, [9, -9] * 3, range(6), 0, gap=1))
         # A list that does not obey the gap limit may have fewer samples at any tolerance.
         for call in REDUCTIONS:
             self.assertEqual(kept_by(call, [0, 2, 3], [0, 0, 0], 0, gap=1), [0, 1, 2])
@@ -276,7 +351,7 @@ class Figures(Case):
             # The first invalid link comes before a worse one.
             ([0, 3, 0, 0, 9, 0], [0, 2, 3, 5], 2, 7, 0, (3, 1, "above")),
         ]:
-            found = kovrelna.judge(PARTS, values, proposed, bound, gap=gap)
+            found = kovrelna.judge(HOLED, values, proposed, bound, gap=gap)
             self.assertEqual(found, Verdict(False, link, Measure(*measure)))
             self.assertIs(type(found.measure), Measure)
             self.assertFalse(found)
@@ -303,7 +378,8 @@ class Figures(Case):
         self.assertEqual(kovrelna.write(*trace, Ratio(4, 6)), RECORD)
         content = kovrelna.read(RECORD)
         self.assertEqual((list(content.ticks), list(content.values)), ([0, 3], [0, 1]))
-        self.assertEqual(content.tolerance, Fraction(2, 3))
+        self.assertEqual(content.tolerance, Parts(Fraction(2, 3), Fraction(2, 3)))
+        self.assertEqual(content.tolerance.one, Fraction(2, 3))
 
     def test_scans(self):
         every, ends = [0, 1, 2, 3, 4], [0, 4]
@@ -314,7 +390,7 @@ class Figures(Case):
         tolerances = 2, Ratio(8, 3), 0.5
         self.assertEqual(scan_of(EVEN, WAVE, tolerances), [[0, 2, 4], ends, [0, 1, 3, 4]])
         for gap, kept in [(7, [0, 2, 3, 5]), (8, [0, 5])]:
-            self.assertEqual(scan_of(PARTS, [0] * 6, [0, 1], gap=gap), [kept, kept])
+            self.assertEqual(scan_of(HOLED, [0] * 6, [0, 1], gap=gap), [kept, kept])
         self.assertEqual(scan_of([7], [7], [0] * 16), [[0]] * 16)
         for kept in kovrelna.scan(EVEN, ZIGZAG, forms):
             self.assertIsInstance(kept, array.array)
@@ -480,14 +556,30 @@ class Figures(Case):
             ([0, 1, 1, 0, -1, 0], 1, 4),
             ([9, 9, 9, -9, -9, -9], 0, 0),
         ]:
-            crate = [7] + 2 * PARTS + [5, 99], [7] + 2 * values + [0, 9], [1, 6, 6, 2]
+            crate = [7] + 2 * HOLED + [5, 99], [7] + 2 * values + [0, 9], [1, 6, 6, 2]
             row = 6, 4, error, sample, 0
             expected = [(1, 1, 0, 0, 0), row, row, (2, 2, 0, 0, 0)]
             self.assertEqual(kovrelna.report(*crate, 2, gap=7), (expected, 15, 11, error))
 
+    def test_the_worst_by_plain_distance(self):
+        """A sample well within the greater part comes before one at the limit of the smaller."""
+        for values, above, below in [
+            ([0, 3, 0, 0, -1, 0] + [0, -1, 0, 0, 3, 0], 5, 1),
+            ([0, -3, 0, 0, 1, 0] + [0, 1, 0, 0, -3, 0], 1, 5),
+        ]:
+            crate = 2 * HOLED, values, [6, 6]
+            rows = [(6, 4, 3, 1, 0), (6, 4, 3, 4, 0)]
+            found = kovrelna.report(*crate, Parts(above, below), gap=7)
+            self.assertEqual(found, (rows, 12, 8, 3))
+            # With the parts exchanged that sample is kept.
+            rows = [(6, 5, 1, 4, 0), (6, 5, 1, 1, 0)]
+            found = kovrelna.report(*crate, Parts(below, above), gap=7)
+            self.assertEqual(found, (rows, 12, 10, 1))
+
     def test_pedestals(self):
         half = Ratio(1, 2)
-        for form in (half, Ratio(2, 4), Fraction(1, 2), 0.5, Counts(0.5), Noise(0.25, 2)):
+        equal = Parts(half, Fraction(1, 2))
+        for form in (half, Ratio(2, 4), Fraction(1, 2), 0.5, Counts(0.5), Noise(0.25, 2), equal):
             found = kovrelna.pedestals(TODAY, BEFORE, form, 2)
             self.assertEqual((found.moved, found.noisy), ([0], [1]))
             self.assertEqual({type(channel) for part in found for channel in part}, {int})
@@ -601,8 +693,45 @@ class Tolerances(Case):
             (0.75, Fraction(3, 4)),
         ]:
             held = kovrelna.hold(tolerance)
-            self.assertEqual(held, fraction, tolerance)
-            self.assertIs(type(held), Fraction)
+            self.assertEqual(held, Parts(fraction, fraction), tolerance)
+            self.assertEqual((held.one, str(held)), (fraction, str(fraction)))
+            self.assertEqual({type(part) for part in (held.above, held.below, held.one)}, {Fraction})
+
+    def test_held_parts(self):
+        greatest = 65535 * 1048575
+        for parts, above, below in [
+            (Parts(2, 1), 2, 1),
+            (Parts(above=1, below=2), 1, 2),
+            (Parts(Ratio(4, 6), Ratio(10, 4)), Fraction(2, 3), Fraction(5, 2)),
+            (Parts(Fraction(1, 3), True), Fraction(1, 3), 1),
+            (Parts(Ratio(0, 9), Ratio(7, 7)), 0, 1),
+            (Parts(65535, Ratio(greatest - 1, 1048575)), 65535, Fraction(greatest - 1, 1048575)),
+            (Parts(Ratio(2, 2), 1), 1, 1),
+        ]:
+            held = kovrelna.hold(parts)
+            self.assertEqual((held.above, held.below), (above, below))
+            self.assertEqual({type(held.above), type(held.below)}, {Fraction})
+            one = above if above == below else None
+            self.assertEqual((held.one, parts.one), (one, one))
+            # A held tolerance is one again.
+            self.assertEqual(kovrelna.hold(held), held)
+            self.assertEqual(pickle.loads(pickle.dumps(held)), held)
+            self.assertEqual(len({held, copy.copy(held)}), 1)
+
+    def test_parts(self):
+        self.assertEqual(Parts(2, 1), Parts(Fraction(2), Fraction(1)))
+        self.assertNotEqual(Parts(2, 1), Parts(1, 2))
+        self.assertEqual(repr(Parts(2, Ratio(1, 3))), "Parts(above=2, below=Ratio(p=1, q=3))")
+        for parts, words in [
+            (Parts(2, 1), "2 above and 1 below"),
+            (Parts(Ratio(1, 3), Fraction(5, 2)), "1/3 above and 5/2 below"),
+            (Parts(Ratio(4, 6), Fraction(2, 3)), "2/3"),
+            (Parts(Ratio(1, 0), Ratio(1, 0)), "1/0 above and 1/0 below"),
+            (Parts(Ratio(1, 2), Ratio(0, 0)), "1/2 above and 0/0 below"),
+        ]:
+            self.assertEqual(str(parts), words)
+        with self.assertRaises(AttributeError):
+            Parts(2, 1).above = 3
 
     def test_refused(self):
         infinity, nan = float("inf"), float("nan")
@@ -613,7 +742,7 @@ class Tolerances(Case):
         counts += [Counts(2 + Fraction(1, 2**60)), Counts(10**400), Counts(-(10**400))]
         noises = [Noise(1023.015625, 0), Noise(0, 63.125), Noise(1, 0.0625), Noise(nan, 0)]
         noises += [Noise(2 + Fraction(1, 2**60), 1), Noise(1, 2 + Fraction(1, 2**60))]
-        for tolerance in numbers + ratios + counts + noises + [nan, infinity]:
+        for tolerance in numbers + ratios + counts + noises + [nan, infinity] + NO_PARTS:
             self.refused(4, 0, kovrelna.hold, tolerance)
             for call in REDUCTIONS:
                 self.refused(4, 0, call, EVEN, WAVE, tolerance)
@@ -621,9 +750,33 @@ class Tolerances(Case):
 
     def test_other_types(self):
         forms = [Ratio(1.5, 2), Ratio("1", 2), Counts("2"), Noise(1, None)]
+        forms += [(2, 1), Parts(1, Ratio(1.5, 2)), Parts(Ratio("1", 2), 1)]
         for tolerance in ["2", None, b"2", [2], 2j] + forms:
             with self.assertRaises(TypeError):
                 kovrelna.hold(tolerance)
+
+    def test_other_parts(self):
+        """Each part is a ratio; of others it is said how to write them."""
+        for part, words in [
+            (0.5, "float; write Ratio(1, 2) or Fraction(1, 2)"),
+            (0.1, "float; write Ratio(1, 10) or Fraction(1, 10)"),
+            (2.0, "float; write Ratio(2, 1) or Fraction(2, 1)"),
+            (1 / 3, "float; write Ratio(p, q) or Fraction(p, q)"),
+            (float("nan"), "float"),
+            (float("inf"), "float"),
+            (Counts(0.5), "Counts; write hold(Counts(counts=0.5)).one"),
+            (Noise(1.5, 2.0), "Noise; write hold(Noise(noise=1.5, multiple=2.0)).one"),
+            (Parts(1, 2), "Parts"),
+            ("1/2", "str"),
+            (None, "NoneType"),
+        ]:
+            for side, parts in [("above", Parts(part, 1)), ("below", Parts(1, part))]:
+                must = f"the part {side} must be Ratio, a whole number or a Fraction"
+                for call in (kovrelna.hold, lambda parts: kovrelna.walk(EVEN, WAVE, parts)):
+                    with self.assertRaises(TypeError) as caught:
+                        call(parts)
+                    self.assertEqual(str(caught.exception), f"{must}, not {words}")
+        self.assertEqual(kovrelna.hold(Parts(kovrelna.hold(Counts(0.5)).one, 1)).above, 0.5)
 
 
 class Views(Case):
@@ -772,7 +925,7 @@ class Refusals(Case):
 
     def test_traces(self):
         for (number, value, ticks, values), tolerance, gap in itertools.product(
-            self.traces, (0, Ratio(0, 0)), (GAP_MAX, 0)
+            self.traces, (0, Ratio(0, 0), Parts(Ratio(0, 0), 1), Parts(1, Ratio(0, 0))), (GAP_MAX, 0)
         ):
             row, out = (number, value), array.array("H")
             for call in REDUCTIONS:
@@ -801,20 +954,28 @@ class Refusals(Case):
                 self.refused(*row, kovrelna.write, ticks, values, kept, tolerance, gap=gap)
 
     def test_tolerances(self):
-        none = Ratio(0, 0)
-        self.refused(4, 0, kovrelna.hold, none)
-        for gap in (GAP_MAX, 0):
+        for none, gap in itertools.product([Ratio(0, 0), *NO_PARTS], (GAP_MAX, 0)):
+            self.refused(4, 0, kovrelna.hold, none)
             for call in REDUCTIONS:
                 self.refused(4, 0, call, EVEN, self.flat, none, gap=gap)
                 self.refused(4, 0, call, EVEN, self.flat, none, array.array("H"), gap=gap)
             self.refused(4, 0, kovrelna.judge, EVEN, self.flat, [1], none, gap=gap)
             self.refused(4, 0, kovrelna.write, EVEN, self.flat, [1], none, bytearray(0), gap=gap)
             self.refused(4, 0, kovrelna.report, EVEN, self.flat, [5], none, gap=gap)
-        self.refused(4, 0, kovrelna.pedestals, ticks_run([]), ticks_run([0, 0]), none, 1)
+            self.refused(4, 0, kovrelna.pedestals, ticks_run([]), ticks_run([0, 0]), none, 1)
+
+    def test_unequal_parts(self):
+        """Pedestals are compared at equal parts: in the row of the tolerance."""
+        for parts in (Parts(2, 1), Parts(1, 2), Parts(0, Ratio(1, 1048575)), Parts(1, Ratio(2, 3))):
+            self.refused(4, 0, kovrelna.pedestals, TODAY, BEFORE, parts, 2)
+            self.refused(4, 0, kovrelna.pedestals, ticks_run([]), ticks_run([0, 0]), parts, 1)
+            self.refused(11, 0, kovrelna.pedestals, ticks_run([0]), ticks_run(), parts, 1)
+            self.refused(14, 0, kovrelna.pedestals, TODAY, BEFORE, parts, 0)
 
     def test_scans(self):
         """19 before 4, 4 with its position before 15, and 10 last."""
         bad = [Ratio(1, 0), Counts(0.01), Noise(1024, 0), -1, float("nan"), Fraction(1, 1048576)]
+        bad += [Parts(1, Ratio(1, 0)), Parts(Ratio(1, 0), 1)]
         for gap in (GAP_MAX, 1, *NO_GAPS):
             for tolerance in (0, *bad):
                 for count in (0, 17, 18, 100):
@@ -915,14 +1076,14 @@ class Refusals(Case):
             for length in (0, 5, 6):
                 out = array.array("H", [9] * length)
                 for allowance in (-1, 0, 1, 4097, 2**64 + 4):
-                    given = PARTS, ZIGZAG + [0], allowance, out
+                    given = HOLED, ZIGZAG + [0], allowance, out
                     self.refused(5, 0, kovrelna.least, *given, gap=gap)
                 for allowance in range(2, fewest):
-                    given = PARTS, ZIGZAG + [0], allowance, out
+                    given = HOLED, ZIGZAG + [0], allowance, out
                     self.refused(16, 0, kovrelna.least, *given, gap=gap)
                 self.assertEqual(set(out) | {9}, {9})
                 if length < 6:
-                    given = PARTS, ZIGZAG + [0], fewest, out
+                    given = HOLED, ZIGZAG + [0], fewest, out
                     self.refused(10, 6, kovrelna.least, *given, gap=gap)
         # Of one sample and of two there is always a list.
         self.assertEqual(kovrelna.least([7], [7], 2, gap=1), (array.array("H", [0]), 0))
@@ -1109,6 +1270,38 @@ class Refusals(Case):
         self.refused(8, 22, kovrelna.read, RECORD + b"\x45")
         self.refused(9, 22, kovrelna.same, RECORD, RECORD + b"\x45")
 
+    def test_records_of_parts(self):
+        """Every later fault is 8 bytes further on than with one tolerance."""
+        starts = [0] * 17 + [17] * 7 + [24] * 3 + [27] * 3
+        self.assertEqual(len(starts), len(TWO_PARTS))
+        for length, byte in enumerate(starts):
+            self.refused(8, byte, kovrelna.read, TWO_PARTS[:length])
+            self.refused(8, byte, kovrelna.same, TWO_PARTS[:length], RECORD)
+            self.refused(9, byte, kovrelna.same, RECORD, TWO_PARTS[:length])
+        self.refused(8, 30, kovrelna.read, TWO_PARTS + b"\x45")
+
+        def parts_of(*numbers):
+            p, q, below_p, below_q = numbers
+            parts = p.to_bytes(5, "big") + q.to_bytes(3, "big")
+            return b"\x42" + parts + below_p.to_bytes(5, "big") + below_q.to_bytes(3, "big")
+
+        self.assertEqual(parts_of(2, 3, 1, 1) + RECORD[9:], TWO_PARTS)
+        for numbers in [
+            # Equal; not in lowest terms; not allowed.
+            *[(2, 3, 2, 3), (0, 1, 0, 1), (1, 1, 1, 1), (4, 6, 2, 3), (2, 3, 4, 6)],
+            *[(4, 6, 1, 1), (1, 1, 4, 6), (0, 2, 1, 1), (1, 1, 0, 2), (2, 2, 1, 3)],
+            *[(1, 0, 1, 1), (1, 1, 1, 0), (0, 0, 1, 1), (1, 1, 0, 0), (0, 0, 0, 0)],
+            *[(65536, 1, 1, 1), (1, 1, 65536, 1), (1, 1048576, 1, 1), (1, 1, 1, 1048576)],
+        ]:
+            record = parts_of(*numbers) + RECORD[9:]
+            self.refused(8, 0, kovrelna.read, record)
+            self.refused(8, 0, kovrelna.same, record, record)
+            self.refused(9, 0, kovrelna.same, RECORD, record)
+        # One tolerance after the other command, and the other way round.
+        self.refused(8, 0, kovrelna.read, b"\x42" + RECORD[1:])
+        self.refused(8, 9, kovrelna.read, b"\x54" + TWO_PARTS[1:])
+        self.refused(8, 17, kovrelna.read, TWO_PARTS[:17] + TWO_PARTS)
+
     def test_room(self):
         for length in range(5):
             out = array.array("H", [7] * length)
@@ -1224,6 +1417,10 @@ class Words(Case):
             (Noise(0.1, 2), "0.1 is not a multiple of 1/64"),
             (Noise(1.5, 64), "the multiple is from 0 to 63, not 64"),
             (Noise(1.5, 2.1), "2.1 is not a multiple of 1/8"),
+            (Parts(-1, 1), f"of the part above, {ratios}, not -1/1"),
+            (Parts(1, Ratio(1, 0)), f"of the part below, {ratios}, not 1/0"),
+            (Parts(Ratio(0, 0), Ratio(1, 0)), f"of the part above, {ratios}, not 0/0"),
+            (Parts(1, 2**64), f"of the part below, {ratios}, not {2**64}/1"),
         ]:
             words = f"the tolerance is not allowed: {words}"
             self.says(4, words, kovrelna.hold, tolerance)
@@ -1244,6 +1441,7 @@ class Words(Case):
             (0, Ratio(1, 0), f"{ratios}, not 1/0"),
             (2, 0.1, f"0.1 {tenth}"),
             (15, Noise(1.5, 64), "the multiple is from 0 to 63, not 64"),
+            (3, Parts(1, Ratio(1, 0)), f"of the part below, {ratios}, not 1/0"),
         ]:
             tolerances = [1] * at + [tolerance, Ratio(0, 0)][: 16 - at]
             words = f"tolerances[{at}] is not allowed: {words}"
@@ -1331,6 +1529,8 @@ class Words(Case):
         self.says(13, words, call, ticks_run([0], range(7)), ticks_run([0], range(4096)), 1, 2)
         words = "the tolerance is not allowed: counts are from 0 to 65,535, not -0.5"
         self.says(4, words, call, TODAY, BEFORE, -0.5, 2)
+        words = "the tolerance is not allowed: the parts must be equal here, not 2/3 above and 1 below"
+        self.says(4, words, call, TODAY, BEFORE, Parts(Ratio(2, 3), 1), 2)
         for k in (-(2**64), -1, 0, 17, 2**64 + 2):
             words = f"the noise factor must be from 1 to 16, not {k}"
             self.says(14, words, call, TODAY, BEFORE, 1, k)
@@ -1366,7 +1566,7 @@ class Words(Case):
     def test_holes(self):
         parts = [0, 9, 18, 19, 20, 30, 31]
         for ticks, allowance, gap, fewest in [
-            (PARTS, 3, 7, 4),
+            (HOLED, 3, 7, 4),
             (memoryview(array.array("I", parts)), 2, 8, 6),
             (parts, 5, 8, 6),
             (parts, 2, 9, 4),
@@ -1394,6 +1594,7 @@ class Words(Case):
         for words, call, arguments in [
             ("the tolerance is not allowed", kovrelna.hold, (10**5000,)),
             ("the tolerance is not allowed", kovrelna.hold, (Counts(10**5000),)),
+            ("of the part below", kovrelna.hold, (Parts(1, 10**5000),)),
             ("the allowance must be from 2", kovrelna.least, (EVEN, self.flat, 10**5000)),
             ("the noise factor must be", kovrelna.pedestals, (TODAY, BEFORE, 1, 10**5000)),
             ("i must be a sample of", kovrelna.measure, (EVEN, self.flat, -(10**5000), 1)),
@@ -1424,6 +1625,15 @@ class Words(Case):
         link, place = "link 0, from sample 0 to sample 3", "sample 2 at tick 2"
         words = f"{link}, is not within this tolerance: {place} lies 8/3 below the line"
         self.says(7, words, kovrelna.write, range(4), [2, 2, -2, 0], [0, 3], 2)
+        self.says(7, words, kovrelna.write, range(4), [2, 2, -2, 0], [0, 3], Parts(9, 2))
+        # The sample named is within its own part.
+        for values, parts, words in [
+            ([1, 0, 1, -1], Parts(5, 0), ("above", "0 below")),
+            ([-1, 0, -1, 1], Parts(Ratio(1, 4), 2), ("below", "1/4 above")),
+        ]:
+            lies = "{} lies 4/3 {} the line, and another sample more than {} it".format(place, *words)
+            words = f"{link}, is not within this tolerance: {lies}"
+            self.says(7, words, kovrelna.write, range(4), values, [0, 3], parts)
 
     def test_sums(self):
         good, ends, call = (EVEN, self.flat), [0, 4], kovrelna.sum
@@ -1529,8 +1739,12 @@ class Longest(Case):
             self.assertEqual(kept_by(call, ticks, values, 0), list(range(4096)))
         record = kovrelna.write(ticks, values, range(4096), 0)
         self.assertEqual(len(record), 24589)
-        self.assertEqual(kovrelna.read(record), (ticks, values, 0))
+        self.assertEqual(kovrelna.read(record), (ticks, values, Parts(0, 0)))
         self.assertTrue(kovrelna.same(record, record))
+        longer = kovrelna.write(ticks, values, range(4096), Parts(0, 1))
+        self.assertEqual((len(longer), longer[17:]), (24597, record[9:]))
+        self.assertEqual(kovrelna.read(longer), (ticks, values, Parts(0, 1)))
+        self.assertFalse(kovrelna.same(record, longer))
         self.assertEqual(len(kovrelna.expand(bytes(4096))), 4096)
         self.assertEqual(list(kovrelna.expand_with(bytes(4096), TABLE)), TABLE[:1] * 4096)
         crate = kovrelna.report(64 * ticks, 64 * values, [4096] * 64, 0)
@@ -2268,12 +2482,17 @@ class Numpy(NumpyArrays, Case):
                 kovrelna.walk(ticks, WAVE, 1)
 
     def test_scalars(self):
-        self.assertEqual(kovrelna.hold(numpy.float32(0.75)), Fraction(3, 4))
-        self.assertEqual(kovrelna.hold(numpy.int64(3)), 3)
+        self.assertEqual(kovrelna.hold(numpy.float32(0.75)).one, Fraction(3, 4))
+        self.assertEqual(kovrelna.hold(numpy.int64(3)).one, 3)
+        held = kovrelna.hold(Parts(numpy.int64(3), numpy.uint16(2)))
+        self.assertEqual((held, type(held.above)), (Parts(3, 2), Fraction))
+        for part in (numpy.float64(0.5), numpy.float32(0.5)):
+            with self.assertRaisesRegex(TypeError, r"; write Ratio\(1, 2\) or Fraction\(1, 2\)$"):
+                kovrelna.hold(Parts(part, 1))
         self.assertEqual(list(kovrelna.walk(list(numpy.arange(5)), WAVE, 2)), [0, 2, 4])
         for gap, kept in [(numpy.int32(7), [0, 2, 3, 5]), (numpy.uint64(8), [0, 5])]:
-            self.assertEqual(list(kovrelna.walk(PARTS, [0] * 6, 0, gap=gap)), kept)
-        self.refused(15, 0, kovrelna.walk, PARTS, [0] * 6, 0, gap=numpy.int64(-1))
+            self.assertEqual(list(kovrelna.walk(HOLED, [0] * 6, 0, gap=gap)), kept)
+        self.refused(15, 0, kovrelna.walk, HOLED, [0] * 6, 0, gap=numpy.int64(-1))
         ticks, values = numpy.arange(5, dtype=numpy.uint32), numpy.array(WAVE, numpy.int16)
         found = kovrelna.measure(ticks, values, numpy.int64(1), numpy.uint16(4))
         self.assertEqual(found, (Fraction(8, 3), 3, "below"))
@@ -2318,11 +2537,17 @@ class Reference(Case):
         q = self.random.choice([1, 2, 3, 1000, 1048575, 1048576, 0])
         p = self.random.choice([0, 1, 2, 5, 100, q, 5 * q, 65535 * q, 65535 * q + 1])
         x, y = self.random.randint(-1, 640) / 64, self.random.randint(-1, 40) / 8
-        form = self.random.randrange(3)
+        below_p, below_q = self.random.choice([(0, 1), (1, 1), (7, 3), (100, 1048575), (p, q), (9, 0)])
+        parts = [p, q, below_p, below_q]
+        if self.random.randrange(2):
+            parts = parts[2:] + parts[:2]
+        form = self.random.randrange(5)
         return [
             (("ratio", p, q), Ratio(p, q)),
             (("counts", x), Counts(x)),
             (("noise", x, y), Noise(x, y)),
+            (("parts", *parts), Parts(Ratio(*parts[:2]), Ratio(*parts[2:]))),
+            (("parts", *parts), Parts(Ratio(*parts[:2]), Ratio(*parts[2:]))),
         ][form]
 
     def gap(self, ticks):
@@ -2384,19 +2609,80 @@ class Reference(Case):
         self.assertEqual(verdict.passed, verdict.measure is None)
         return None if verdict.passed else (verdict.link, verdict.measure)
 
+    def near(self, error):
+        """A bound that is the error, or a little below or above it."""
+        return max(error + self.random.choice([-1, 0, 1]) * Fraction(1, 1000), Fraction(0))
+
+    def small(self):
+        """A trace of 2 to 9 samples, and a gap limit."""
+        samples = self.random.randint(2, 9)
+        steps = self.random.choices([1, 1, 2, 3], k=samples - 1)
+        ticks = list(itertools.accumulate(steps, initial=7))
+        values = self.random.choices(range(-3, 4), k=samples)
+        return ticks, values, self.random.choice([1, 2, GAP_MAX])
+
+    def test_parts(self):
+        """At parts that a list's samples reach above and below its lines, or a little beside them:
+        what judge says, and which of the two sides fails."""
+        seen, hidden = set(), 0
+        for _ in range(1500):
+            ticks, values, gap = self.small()
+            kept = [0, *(k for k in range(1, len(ticks) - 1) if self.random.random() < 0.3)]
+            kept.append(len(ticks) - 1)
+            above, below = reference.sides(ticks, values, kept)
+            parts = Parts(self.near(above), self.near(below))
+            form = "parts", *parts.above.as_integer_ratio(), *parts.below.as_integer_ratio()
+            expected = reference.judge(ticks, values, kept, form, gap)
+            found = self.invalid(kovrelna.judge(ticks, values, kept, parts, gap=gap))
+            self.assertEqual(found, expected, (ticks, values, kept, parts, gap))
+            seen.add((above > parts.above, below > parts.below, gap == GAP_MAX))
+            if expected is not None and expected[1][2] != "gap":
+                error, _, side = expected[1]
+                hidden += error <= (parts.above if side == "above" else parts.below)
+            for call in REDUCTIONS:
+                expected = getattr(reference, call.__name__)(ticks, values, form, gap, len(ticks))
+                found = call(ticks, values, parts, gap=gap)
+                if call is kovrelna.gallop:
+                    found, probes = found
+                    expected, total = expected
+                    self.assertEqual(probes, total, (ticks, values, parts, gap))
+                self.assertEqual(list(found), expected, (call.__name__, ticks, values, parts, gap))
+        self.assertEqual(seen, set(itertools.product([False, True], repeat=3)))
+        self.assertGreater(hidden, 20)
+
+    def test_sizes(self):
+        """No list that obeys the gap limit is shorter than walk's and gallop's where its samples are
+        at most a above and b below its lines and a + b is at most the smaller part."""
+        shorter = set()
+        for _ in range(1500):
+            ticks, values, gap = self.small()
+            above, below = (Fraction(third, 3) for third in self.random.choices([0, 0, 1, 3, 4, 9], k=2))
+            given = ticks, values, Parts(above, below)
+            size = max(len(kept_by(call, *given, gap=gap)) for call in REDUCTIONS[:2])
+            for kept in reference.kept_lists(len(ticks), len(ticks)):
+                if not reference.obeys(ticks, kept, gap):
+                    continue
+                a, b = reference.sides(ticks, values, kept)
+                within = {
+                    "the sum within the smaller": a + b <= min(above, below),
+                    "the sum within the greater": a + b <= max(above, below),
+                    "each within the smaller": max(a, b) <= min(above, below),
+                    "each within half of its own": a <= above / 2 and b <= below / 2,
+                }
+                if len(kept) < size:
+                    shorter.update(rule for rule in within if within[rule])
+                self.assertNotIn("the sum within the smaller", shorter, (given, gap))
+        self.assertEqual(len(shorter), 3, shorter)
+
     def test_strays(self):
         """At the error of one of the links, or a little below or above it."""
         seen = set()
         for _ in range(600):
-            samples = self.random.randint(2, 9)
-            steps = self.random.choices([1, 1, 2, 3], k=samples - 1)
-            ticks = list(itertools.accumulate(steps, initial=7))
-            values = self.random.choices(range(-3, 4), k=samples)
-            kept = [0, *(k for k in range(1, samples - 1) if self.random.random() < 0.3)]
-            kept.append(samples - 1)
-            gap = self.random.choice([1, 2, GAP_MAX])
+            ticks, values, gap = self.small()
+            kept = [0, *(k for k in range(1, len(ticks) - 1) if self.random.random() < 0.3)]
+            kept.append(len(ticks) - 1)
             error = reference.link_error(ticks, values, *self.random.choice([*zip(kept, kept[1:])]))
-            bound = max(error + self.random.choice([-1, 0, 1]) * Fraction(1, 1000), Fraction(0))
+            bound = self.near(error)
             form = "ratio", bound.numerator, bound.denominator
             expected = reference.judge(ticks, values, kept, form, gap)
             found = self.invalid(kovrelna.judge(ticks, values, kept, bound, gap=gap))
@@ -2458,7 +2744,10 @@ class Reference(Case):
                 far = gap + 1 if self.random.random() < often else self.random.randint(1, gap)
                 ticks.append(ticks[-1] + far)
             values = [self.random.randint(-2, 2) for _ in ticks]
-            form, tolerance = self.random.choice([(("counts", x), x) for x in (0.0, 1.0, 2.5)])
+            forms = [(("counts", x), x) for x in (0.0, 1.0, 2.5)]
+            for p, q in [(2, 9), (5, 2)]:
+                forms.append((("parts", p, 2, q, 3), Parts(Ratio(p, 2), Ratio(q, 3))))
+            form, tolerance = self.random.choice(forms)
             given = ticks, values, form, gap
             walked = kept_by(kovrelna.walk, ticks, values, tolerance, gap=gap)
             self.assertEqual(walked, reference.walk(*given, samples), given)
@@ -2466,8 +2755,8 @@ class Reference(Case):
             expected = reference.gallop(*given, samples)
             self.assertEqual((list(galloped.kept), galloped.probes), expected, given)
             shortest = kept_by(kovrelna.minimum, ticks, values, tolerance, gap=gap)
-            bound = reference.held(form)
-            self.assertTrue(reference.valid(ticks, values, shortest, bound, gap), given)
+            parts = reference.held(form)
+            self.assertTrue(reference.valid(ticks, values, shortest, parts, gap), given)
             self.assertLessEqual(len(shortest), min(len(walked), len(galloped.kept)))
             for kept in (walked, shortest, [0, samples - 1]):
                 invalid = reference.judge(ticks, values, kept, form, gap)
@@ -2487,7 +2776,7 @@ class Reference(Case):
             count = self.random.choice([1, 2, 3, 5, 16, self.random.randrange(19)])
             pairs = [self.tolerance() for _ in range(count)]
             if self.random.randrange(4):
-                allowed = [isinstance(answer(reference.held, form), Fraction) for form, _ in pairs]
+                allowed = [answer(reference.held, form)[0] != "refused" for form, _ in pairs]
                 pairs = list(itertools.compress(pairs, allowed))
             forms, tolerances = [pair[0] for pair in pairs], [pair[1] for pair in pairs]
             samples, needed = len(ticks), len(pairs) * len(ticks)
@@ -2613,6 +2902,9 @@ class Reference(Case):
             obeyed = all(reference.obeys(ticks, kept, gap) for kept in (list1, list2))
             error = reference.list_error(ticks, *expected)
             self.assertLessEqual(error, 2 * bound, pair)
+            # By parts: U1 + D1 + U2 + D2 on either side.
+            parts = [*reference.sides(ticks, values1, list1), *reference.sides(ticks, values2, list2)]
+            self.assertLessEqual(error, sum(parts), pair)
             self.assertLessEqual(obeyed, reference.obeys(ticks, expected[1], gap), (pair, gap))
             within.add((error <= bound, obeyed))
         self.assertEqual(seen, {0, 1, 2, 3, 6, 17, 18, 10})
@@ -2620,8 +2912,8 @@ class Reference(Case):
         self.assertEqual(within, set(itertools.product([False, True], repeat=2)))
 
     def test_long_pairs(self):
-        """Lists of walk and minimum: the joined list passes at twice the sum of their tolerances,
-        under the same gap limit."""
+        """Lists of walk and minimum: the joined list passes at the sum of all parts of their
+        tolerances, under the same gap limit."""
         lengths = set()
         for _ in range(40):
             samples, gap = self.random.randint(100, 300), self.random.choice([3, 4, GAP_MAX])
@@ -2630,15 +2922,17 @@ class Reference(Case):
             most = self.random.choice([1, 3, 100, 8000])
             values1, values2 = (self.random.choices(range(-most, most + 1), k=samples) for _ in "12")
             first, second = (Fraction(self.random.randint(0, 4 * most), 3) for _ in "12")
-            list1 = kovrelna.walk(ticks, values1, first, gap=gap)
-            list2 = kovrelna.minimum(ticks, values2, second, gap=gap)
+            more, less = first + self.random.randint(0, 3), second / self.random.randint(1, 3)
+            list1 = kovrelna.walk(ticks, values1, Parts(more, first), gap=gap)
+            list2 = kovrelna.minimum(ticks, values2, Parts(less, second), gap=gap)
             found = kovrelna.sum(ticks, values1, ticks, values2, list1, list2)
             pair = ticks, values1, ticks, values2, list1, list2
             expected = reference.summed(*pair, [samples, samples])
             self.assertEqual((list(found.sums), list(found.joined)), expected)
-            self.assertTrue(kovrelna.judge(ticks, *found, 2 * (first + second), gap=gap))
+            bound = more + first + less + second
+            self.assertTrue(kovrelna.judge(ticks, *found, bound, gap=gap))
             lengths.add(len(found.joined))
-        self.assertLess(min(lengths), 50)
+        self.assertLess(min(lengths), 60)
         self.assertGreater(max(lengths), 100)
 
     def crate(self):
@@ -2710,7 +3004,7 @@ class Reference(Case):
             if expected[0] != "refused":
                 traces = zip(reference.channels_of(*today), reference.channels_of(*before))
                 for (_, x), (_, y) in traces:
-                    shifts.add(reference.shift(x, y, reference.held(form)))
+                    shifts.add(reference.shift(x, y, reference.held(form)[0]))
                     noises.add(reference.noise(x) - k * k * reference.noise(y))
         self.assertEqual(seen, {0, 1, 2, 3, 4, 11, 13, 14})
         # Each limit is met, missed by one and exceeded by one.
@@ -2789,7 +3083,7 @@ class Reference(Case):
     def damaged(self, record):
         """The record with one change, which may leave it whole."""
         at = self.random.randrange(len(record))
-        byte = bytes([self.random.choice([0, 1, 2, 0x41, 0x45, 0x4C, 0x53, 0x54, 0xFF])])
+        byte = bytes([self.random.choice([0, 1, 2, 0x41, 0x42, 0x45, 0x4C, 0x53, 0x54, 0xFF])])
         return self.random.choice(
             [
                 record,
@@ -2801,8 +3095,8 @@ class Reference(Case):
         )
 
     def test_damaged_records(self):
-        records, seen = [RECORD], set()
-        while len(records) < 300:
+        records, seen = [RECORD, TWO_PARTS], set()
+        while len(records) < 400:
             (ticks, values), (form, _) = self.trace(), self.tolerance()
             record = answer(reference.write, ticks, values, range(len(ticks)), form, GAP_MAX, 99)
             if isinstance(record, bytes):
@@ -2812,7 +3106,8 @@ class Reference(Case):
             expected = answer(reference.read, first)
             found = answer(kovrelna.read, first)
             if expected[0] != "refused":
-                found = list(found.ticks), list(found.values), found.tolerance
+                parts = found.tolerance
+                found = list(found.ticks), list(found.values), (parts.above, parts.below)
             self.assertEqual(found, expected, first.hex(" "))
             compared = answer(reference.same, first, second)
             seen.add(compared if isinstance(compared, bool) else compared[1][0])
@@ -2836,16 +3131,26 @@ class Checks(Case):
             checked = kovrelna.check(record, ticks, values)
             self.assertFalse(checked)
             self.assertIn(cause, checked.cause)
-        parts = kovrelna.write(PARTS, [0] * 6, [0, 2, 5], 0)
+        parts = kovrelna.write(HOLED, [0] * 6, [0, 2, 5], 0)
         link = "link 1, from sample 2 at tick 2 to sample 5 at tick 12"
-        checked = kovrelna.check(parts, PARTS, [0] * 6, gap=7)
+        checked = kovrelna.check(parts, HOLED, [0] * 6, gap=7)
         cause = f"{link}, crosses the hole from tick 2 to tick 10, and its error is 0"
         self.assertEqual(checked.cause, cause)
-        self.assertTrue(kovrelna.check(parts, PARTS, [0] * 6, gap=8))
+        self.assertTrue(kovrelna.check(parts, HOLED, [0] * 6, gap=8))
         cause = f"{link}, is not within 0: sample 4 at tick 11 lies 1 above the line"
         for gap in (8, 7):
-            checked = kovrelna.check(parts, PARTS, [0, 0, 0, 0, 1, 0], gap=gap)
+            checked = kovrelna.check(parts, HOLED, [0, 0, 0, 0, 1, 0], gap=gap)
             self.assertEqual(checked.cause, cause)
+        # With parts, also where the sample named is within its own.
+        record = kovrelna.write([0, 3], [1, -1], [0, 1], Parts(5, 0))
+        link = "link 0, from sample 0 at tick 0 to sample 3 at tick 3, is not within"
+        for values, words in [
+            ([1, 0, 1, -1], "4/3 above the line, and another sample more than 0 below it"),
+            ([1, 1, 6, -1], "19/3 above the line"),
+        ]:
+            cause = f"{link} 5 above and 0 below: sample 2 at tick 2 lies {words}"
+            self.assertEqual(kovrelna.check(record, range(4), values).cause, cause)
+        self.assertTrue(kovrelna.check(record, range(4), [1, 1, 4, -1]))
         later = kovrelna.write([1, 2], [3, 0], [0, 1], 2)
         cause = "the first sample of the trace, at tick 0, is not kept"
         self.assertEqual(kovrelna.check(later, [0, 1, 2], [0, 3, 0]).cause, cause)

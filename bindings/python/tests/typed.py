@@ -5,7 +5,7 @@ from fractions import Fraction
 from typing import Any, Dict
 
 import kovrelna
-from kovrelna import Counts, Noise, Ratio
+from kovrelna import Counts, Noise, Parts, Ratio
 
 
 class Array:
@@ -27,10 +27,12 @@ kovrelna.measure(ticks, values, 0, 2).error.denominator
 kovrelna.measure(Array(), Array(), False, True).side.upper()
 kovrelna.judge(ticks, values, kept, Ratio(1, 10)).link
 kovrelna.judge(ticks, values, kept, 1, gap=7).link
+kovrelna.judge(ticks, values, kept, Parts(above=2, below=Fraction(1, 10))).link
 kovrelna.least(ticks, values, 2).error.denominator
 kovrelna.least(ticks, values, 2, gap=True).kept.tolist()
 kovrelna.scan(ticks, values, [1, 0.5, Fraction(1, 10), Ratio(1, 10)])[0].tolist()
 kovrelna.scan(Array(), Array(), (Counts(n) for n in ticks), Array(), gap=7).index(0)
+kovrelna.scan(ticks, values, [1, Parts(Ratio(1, 10), 2), Parts(1, 0)])[0].tolist()
 view = kovrelna.View(True)
 view.add(ticks, values)
 view.add(Array(), array.array("h"))
@@ -53,11 +55,15 @@ kovrelna.write(ticks, values, kept, 0.5).hex()
 kovrelna.write(ticks, values, kept, 0.5, gap=7).hex()
 kovrelna.write(ticks, values, kept, 0.5, bytearray(40), 8)
 kovrelna.write(ticks, values, kept, 0.5, bytearray(40), gap=7)
-kovrelna.read(b"", numpy=True).tolerance.denominator
+kovrelna.read(b"", numpy=True).tolerance.above.denominator
 kovrelna.same(b"", bytearray()) is True
 kovrelna.check(b"", Array(), values).cause
 kovrelna.check(b"", ticks, values, gap=7).cause
-kovrelna.hold(1).numerator
+kovrelna.hold(1).below.numerator
+kovrelna.hold(kovrelna.hold(Parts(1, Ratio(1, 10)))).one == Fraction(1, 10)
+two: Parts[int, Ratio] = Parts(1, Ratio(1, 10))
+kovrelna.hold(two).above.numerator
+two.above.bit_length() + two.below.q.bit_length()
 kovrelna.__version__.split(".")
 kovrelna.GAP_MAX.bit_length()
 
@@ -116,4 +122,10 @@ kovrelna.read(7)  # type: ignore[arg-type]
 kovrelna.same(b"", None)  # type: ignore[arg-type]
 kovrelna.check(b"", ticks)  # type: ignore[call-arg]
 kovrelna.hold(None)  # type: ignore[arg-type]
+kovrelna.hold(1).numerator  # type: ignore[attr-defined]
+kovrelna.hold(1).one.numerator  # type: ignore[union-attr]
+Parts(0.5, 1)  # type: ignore[type-var]
+Parts(1, Counts(0.5))  # type: ignore[type-var]
+Parts(1)  # type: ignore[call-arg]
+two.above = 2  # type: ignore[misc]
 kovrelna.hold(1, gap=7)  # type: ignore[call-arg]

@@ -1,6 +1,6 @@
 //! Reduces the trace of a pulse, prints the kept samples, writes their record and reads it back.
 
-use kovrelna::{read, walk, write, Ratio, Refusal, Tolerance};
+use kovrelna::{read, walk, write, Refusal, Tolerance};
 
 const SAMPLES: usize = 14;
 
@@ -15,7 +15,7 @@ fn main() -> Result<(), Refusal> {
     let shown: String = kept.iter().map(|sample| format!(" {sample}")).collect();
     println!("kept {number} of {SAMPLES} samples:{shown}");
 
-    let mut record = [0; 16 + 6 * SAMPLES];
+    let mut record = [0; 21 + 6 * SAMPLES];
     let length = write(&ticks, &values, kept, tolerance, &mut record, 0)?;
     let record = &record[..length];
     let shown: String = record.iter().map(|byte| format!(" {byte:02X}")).collect();
@@ -23,8 +23,7 @@ fn main() -> Result<(), Refusal> {
 
     let (mut ticks, mut values) = ([0; SAMPLES], [0; SAMPLES]);
     let content = read(record, &mut ticks, &mut values)?;
-    let Ratio { p, q } = content.tolerance;
-    println!("tolerance {p}/{q}");
+    println!("tolerance {}", content.tolerance);
     for (tick, value) in ticks.iter().zip(values).take(content.samples) {
         println!("tick {tick} value {value}");
     }

@@ -16,6 +16,8 @@ pub struct Tolerance {
     pub q: u64,
     pub x: f64,
     pub y: f64,
+    pub below_p: u64,
+    pub below_q: u64,
 }
 
 #[repr(C)]
@@ -36,6 +38,8 @@ pub struct Held {
     pub value: u64,
     pub p: u64,
     pub q: u64,
+    pub below_p: u64,
+    pub below_q: u64,
 }
 
 #[repr(C)]
@@ -94,6 +98,8 @@ pub struct Content {
     pub value: u64,
     pub p: u64,
     pub q: u64,
+    pub below_p: u64,
+    pub below_q: u64,
 }
 
 #[repr(C)]

@@ -1,6 +1,7 @@
 //! Reduced traces: a safe interface to the proved library Kovrelna.
 //!
-//! - [`Tolerance`], [`Ratio`], [`hold`]: a tolerance, and the reduced ratio it is held as.
+//! - [`Tolerance`], [`Ratio`], [`Parts`], [`hold`]: a tolerance, and the two reduced ratios it is held
+//!   as.
 //! - [`Limits`], [`GAP_MAX`]: a tolerance with a gap limit, which is what a link is asked to meet.
 //! - [`Side`], [`Measure`], [`measure`]: a link's error, the sample where it occurs, and its side.
 //! - [`Verdict`], [`judge`]: whether every link of a proposed list is valid.
@@ -22,10 +23,15 @@
 //! vertical distance from value k to the straight line through samples i and j, an exact fraction.
 //! The link's error is the greatest of these, 0 where nothing lies between.
 //!
+//! A tolerance has two parts: one for the samples above the line and one for those below it. They are
+//! equal unless it is given as [`Parts`].
+//!
 //! A hole is two neighbouring samples that lie more ticks apart than the gap limit. A link obeys the
 //! gap limit if it goes one step, from sample i to i+1, or crosses no hole. It is valid if it obeys the
-//! gap limit and its error is at most the tolerance; equality is valid. So a link of one step is always
-//! valid, and a longer one never if it crosses a hole.
+//! gap limit and its deviation at each sample above the line is at most the part above, at each sample
+//! below the line at most the part below; equality is valid. Where the parts are equal, that is: its
+//! error is at most the tolerance. So a link of one step is always valid, and a longer one never if it
+//! crosses a hole.
 //!
 //! A kept list begins with sample 0, rises strictly and ends with the last sample. Its links join
 //! neighbouring entries and are counted from 0.
@@ -70,7 +76,7 @@ pub enum Refusal {
     View,
     /// 19: no tolerances, or more than 16.
     Count,
-    /// 4: the tolerance is not allowed.
+    /// 4: the tolerance, or a part of it, is not allowed; in [`pedestals`] also if its parts differ.
     Tolerance,
     /// 4, in [`scan`]: the position of the first tolerance that is not allowed.
     ToleranceAt(usize),
@@ -304,7 +310,8 @@ impl fmt::Display for Refusal {
 
 impl std::error::Error for Refusal {}
 
-/// A tolerance in one of three forms. Minus zero is zero; not-a-number and infinities are refused.
+/// A tolerance in one of four forms. The first three have the same part above and below the line. Minus
+/// zero is zero; not-a-number and infinities are refused.
 #[derive(Clone, Copy, Debug, PartialEq)]
 pub enum Tolerance {
     /// p/q; `q` from 1 to 1,048,575, `p` from 0 to 65,535 times `q`.
@@ -323,6 +330,8 @@ pub enum Tolerance {
         /// From 0 to 63, and 8 times it is whole.
         multiple: f64,
     },
+    /// A ratio for the samples above the line and one for those below it, each as [`Tolerance::Ratio`].
+    Parts(Parts),
 }
 
 impl Tolerance {
@@ -337,16 +346,39 @@ impl Tolerance {
 
 impl From<Tolerance> for ffi::Tolerance {
     fn from(tolerance: Tolerance) -> Self {
-        let (form, p, q, x, y) = match tolerance {
-            Tolerance::Ratio { p, q } => (0, p, q, 0.0, 0.0),
-            Tolerance::Counts(counts) => (1, 0, 0, counts, 0.0),
-            Tolerance::Noise { noise, multiple } => (2, 0, 0, noise, multiple),
-        };
-        ffi::Tolerance { form, p, q, x, y }
+        let unused = ffi::Tolerance::default();
+        match tolerance {
+            Tolerance::Ratio { p, q } => ffi::Tolerance { p, q, ..unused },
+            Tolerance::Counts(x) => ffi::Tolerance {
+                form: 1,
+                x,
+                ..unused
+            },
+            Tolerance::Noise { noise, multiple } => ffi::Tolerance {
+                form: 2,
+                x: noise,
+                y: multiple,
+                ..unused
+            },
+            Tolerance::Parts(Parts { above, below }) => ffi::Tolerance {
+                form: 3,
+                p: above.p,
+                q: above.q,
+                below_p: below.p,
+                below_q: below.q,
+                ..unused
+            },
+        }
     }
 }
 
-/// p/q in lowest terms; zero is 0/1.
+impl From<Parts> for Tolerance {
+    fn from(parts: Parts) -> Self {
+        Tolerance::Parts(parts)
+    }
+}
+
+/// p/q. What a call returns is in lowest terms; zero is 0/1.
 #[derive(Clone, Copy, Debug, PartialEq, Eq, Hash)]
 #[repr(C)]
 pub struct Ratio {
@@ -363,22 +395,77 @@ impl Default for Ratio {
     }
 }
 
-/// The tolerance as the reduced ratio under which it is held. Refusal: [`Refusal::Tolerance`].
+/// The two parts of a tolerance. What a call returns has each part in lowest terms.
 ///
 /// ```
-/// use kovrelna::{hold, Ratio, Refusal, Tolerance};
+/// use kovrelna::{Parts, Ratio};
+///
+/// let (two, one) = (Ratio { p: 2, q: 1 }, Ratio { p: 1, q: 1 });
+/// let differ = Parts { above: two, below: one };
+/// assert_eq!((differ.one(), differ.to_string()), (None, "2/1 1/1".to_string()));
+/// let equal = Parts { above: two, below: two };
+/// assert_eq!((equal.one(), equal.to_string()), (Some(two), "2/1".to_string()));
+/// ```
+#[derive(Clone, Copy, Debug, PartialEq, Eq, Hash)]
+pub struct Parts {
+    /// The part for the samples above the line.
+    pub above: Ratio,
+    /// The part for the samples below the line.
+    pub below: Ratio,
+}
+
+impl Parts {
+    /// The parts of these numbers in C.
+    fn of(p: u64, q: u64, below_p: u64, below_q: u64) -> Parts {
+        Parts {
+            above: Ratio { p, q },
+            below: Ratio {
+                p: below_p,
+                q: below_q,
+            },
+        }
+    }
+
+    /// The ratio that both parts are, where they have the same p and the same q. Parts in lowest terms
+    /// are equal as numbers exactly there.
+    pub fn one(self) -> Option<Ratio> {
+        (self.above == self.below).then_some(self.above)
+    }
+}
+
+/// One ratio where both parts are the same; otherwise both, the part above first, with a space between.
+impl fmt::Display for Parts {
+    fn fmt(&self, f: &mut fmt::Formatter) -> fmt::Result {
+        let Parts { above, below } = self;
+        write!(f, "{}/{}", above.p, above.q)?;
+        if self.one().is_none() {
+            write!(f, " {}/{}", below.p, below.q)?;
+        }
+        Ok(())
+    }
+}
+
+/// The parts under which the tolerance is held, each in lowest terms; both are the same for a tolerance
+/// that is not given as parts. Refusal: [`Refusal::Tolerance`] if either part is not allowed.
+///
+/// ```
+/// use kovrelna::{hold, Parts, Ratio, Refusal, Tolerance};
 ///
 /// let tolerance = Tolerance::Noise { noise: 1.5, multiple: 2.125 };
-/// assert_eq!(hold(tolerance), Ok(Ratio { p: 51, q: 16 }));
+/// let ratio = Ratio { p: 51, q: 16 };
+/// assert_eq!(hold(tolerance), Ok(Parts { above: ratio, below: ratio }));
 /// assert_eq!(hold(Tolerance::Counts(f64::NAN)), Err(Refusal::Tolerance));
+///
+/// let parts = Parts { above: Ratio { p: 4, q: 6 }, below: Ratio { p: 2, q: 2 } };
+/// let held = Parts { above: Ratio { p: 2, q: 3 }, below: Ratio { p: 1, q: 1 } };
+/// assert_eq!(hold(parts.into()), Ok(held));
+/// let bad = Parts { below: Ratio { p: 1, q: 0 }, ..parts };
+/// assert_eq!(hold(bad.into()), Err(Refusal::Tolerance));
 /// ```
-pub fn hold(tolerance: Tolerance) -> Result<Ratio, Refusal> {
+pub fn hold(tolerance: Tolerance) -> Result<Parts, Refusal> {
     let held = ffi::hold(tolerance.into());
     Refusal::check(held.number, held.value)?;
-    Ok(Ratio {
-        p: held.p,
-        q: held.q,
-    })
+    Ok(Parts::of(held.p, held.q, held.below_p, held.below_q))
 }
 
 /// The largest gap limit, which is none: no two samples of a trace lie further apart.
@@ -539,15 +626,19 @@ pub enum Verdict {
 }
 
 /// Whether every link of the proposed list is valid on this trace. If not, of the first invalid link:
-/// where its error is above the tolerance, its measure, as [`measure`] gives it; otherwise only the gap
-/// limit makes it invalid, and its error, which may be 0, is given with the sample before its first
-/// hole and [`Side::Gap`].
+/// where a sample deviates by more than its part of the tolerance, its measure, as [`measure`] gives it;
+/// otherwise only the gap limit makes it invalid, and its error, which may be 0, is given with the sample
+/// before its first hole and [`Side::Gap`].
+///
+/// The measure names the first sample that lies farthest from the line. Where the parts of the tolerance
+/// differ, that sample may lie within its own part, and another one not. Where they are equal, it never
+/// does.
 ///
 /// Refusals: [`Refusal::Length`], [`Refusal::Tick`], [`Refusal::Span`], [`Refusal::Tolerance`],
 /// [`Refusal::Gap`], [`Refusal::List`].
 ///
 /// ```
-/// use kovrelna::{judge, Measure, Ratio, Side, Tolerance, Verdict};
+/// use kovrelna::{judge, Measure, Parts, Ratio, Side, Tolerance, Verdict};
 ///
 /// let (ticks, values) = ([0, 1, 2, 3, 4], [0, 3, 0, 3, 0]);
 /// let two = Tolerance::Counts(2.0);
@@ -555,6 +646,13 @@ pub enum Verdict {
 /// let measure = Measure { error: Ratio { p: 3, q: 1 }, sample: 3, side: Side::Above };
 /// let outside = Verdict::Outside { link: 2, measure };
 /// assert_eq!(judge(&ticks, &values, &[0, 1, 2, 4], two), Ok(outside));
+///
+/// // Sample 1 lies below the line by 1/3, and may not. Sample 2 lies above it by 4/3, and may.
+/// let (ticks, values) = ([0, 1, 2, 3], [1, 0, 1, -1]);
+/// let parts = Parts { above: Ratio { p: 5, q: 1 }, below: Ratio { p: 0, q: 1 } };
+/// let measure = Measure { error: Ratio { p: 4, q: 3 }, sample: 2, side: Side::Above };
+/// let outside = Verdict::Outside { link: 0, measure };
+/// assert_eq!(judge(&ticks, &values, &[0, 3], Tolerance::Parts(parts)), Ok(outside));
 ///
 /// // Samples 2 and 3 lie 8 ticks apart.
 /// let (ticks, values) = ([0, 1, 2, 10, 11, 12], [0; 6]);
@@ -588,14 +686,19 @@ pub fn judge(
 /// first invalid one, or the last sample if none is invalid; goes on from there.
 ///
 /// Returns the kept number: the first that many entries of `out` are the kept list, and those after
-/// them are as they were. No kept list whose links are all valid at half the tolerance under the same
-/// gap limit has fewer samples; one that does not obey the gap limit may have fewer.
+/// them are as they were.
+///
+/// For all fractions a and b, neither below 0, whose sum is at most the smaller part of the tolerance: no
+/// kept list that obeys the gap limit, and from whose lines no sample lies more than a above or more than
+/// b below, has fewer samples. With equal parts and a = b that is said of every list within half the
+/// tolerance. A list that does not obey the gap limit may have fewer samples, and so may one within half
+/// of each part where the parts differ.
 ///
 /// Refusals: [`Refusal::Length`], [`Refusal::Tick`], [`Refusal::Span`], [`Refusal::Tolerance`],
 /// [`Refusal::Gap`], and [`Refusal::Room`] if `out` has fewer entries than the trace has samples.
 ///
 /// ```
-/// use kovrelna::{walk, Refusal, Tolerance};
+/// use kovrelna::{judge, walk, Parts, Ratio, Refusal, Tolerance, Verdict};
 ///
 /// let (ticks, values) = ([0, 1, 2, 3, 4], [0, 2, 0, -2, 0]);
 /// let two = Tolerance::Counts(2.0);
@@ -603,6 +706,18 @@ pub fn judge(
 /// assert_eq!(walk(&ticks, &values, two, &mut out), Ok(3));
 /// assert_eq!(out, [0, 2, 4, 9, 9, 9]);
 /// assert_eq!(walk(&ticks, &values, two, &mut out[..4]), Err(Refusal::Room(5)));
+///
+/// let parts = |above, below| {
+///     Tolerance::Parts(Parts { above: Ratio { p: above, q: 2 }, below: Ratio { p: below, q: 2 } })
+/// };
+/// assert_eq!(walk(&ticks, &values, parts(4, 2), &mut out), Ok(4));
+/// assert_eq!(out[..4], [0, 2, 3, 4]);
+///
+/// // The list of both ends is within half of each part, and shorter.
+/// let (ticks, values) = ([0, 1, 2, 3], [1, 1, 0, 1]);
+/// assert_eq!(walk(&ticks, &values, parts(0, 6), &mut out), Ok(3));
+/// assert_eq!(out[..3], [0, 1, 3]);
+/// assert_eq!(judge(&ticks, &values, &[0, 3], parts(0, 3)), Ok(Verdict::Within));
 ///
 /// // Samples 2 and 3 lie 8 ticks apart.
 /// let (ticks, values) = ([0, 1, 2, 10, 11, 12], [0; 6]);
@@ -932,10 +1047,12 @@ pub struct ReducedTrace<'a> {
 /// Returns its kept number: the first that many entries of `joined` are the joined list, and the first
 /// entries of `sums`, one for each sample, are the sums. The entries after them are as they were.
 ///
-/// If every link of the first list is valid on the first trace at a tolerance T1, and every link of the
-/// second list on the second trace at T2, under the same gap limit, then every link of the joined list
-/// is valid on the summed trace at 2 (T1 + T2) under that gap limit. This holds for any fractions T1 and
-/// T2, whether they are allowed as tolerances or not. It does not hold at T1 + T2.
+/// If every link of the first list is valid on the first trace with the parts U1 above and D1 below, and
+/// every link of the second list on the second trace with U2 and D2, under the same gap limit, then every
+/// link of the joined list is valid on the summed trace at U1 + D1 + U2 + D2, above and below alike, under
+/// that gap limit; with equal parts T1 and T2 that is 2 (T1 + T2). This holds for any fractions, whether
+/// they are allowed as tolerances or not. It does not hold with U1 + U2 above and D1 + D2 below, which for
+/// equal parts is T1 + T2.
 ///
 /// Refusals: [`Refusal::Length`], [`Refusal::Tick`], [`Refusal::Span`] of the first trace, then of the
 /// second; [`Refusal::List`] of the first list, then of the second; [`Refusal::Mismatch`];
@@ -943,7 +1060,8 @@ pub struct ReducedTrace<'a> {
 /// samples.
 ///
 /// ```
-/// use kovrelna::{judge, measure, sum, Ratio, ReducedTrace, Refusal, Tolerance, Verdict};
+/// use kovrelna::{judge, measure, sum, Measure, Parts, Ratio, ReducedTrace, Refusal, Side};
+/// use kovrelna::{Tolerance, Verdict};
 ///
 /// let ticks = [0, 1, 2, 3, 4];
 /// let first = ReducedTrace { ticks: &ticks, values: &[-6, -6, 0, 6, -6], list: &[0, 1, 3, 4] };
@@ -961,6 +1079,15 @@ pub struct ReducedTrace<'a> {
 /// let summed = ReducedTrace { ticks: &ticks, values: &sums[..5], list: &joined[..4] };
 /// assert_eq!(within(summed, 2.0), Ok(Verdict::Within));
 /// assert_eq!(measure(&ticks, summed.values, 1, 3)?.error, Ratio { p: 2, q: 1 });
+///
+/// // The second list is within 2 above and 1 below. In the joined list sample 2 lies 3 below its line.
+/// let second = ReducedTrace { values: &[3, 5, 2, 5, 3], ..second };
+/// let parts = Parts { above: Ratio { p: 2, q: 1 }, below: Ratio { p: 1, q: 1 } };
+/// let verdict = judge(&ticks, second.values, second.list, Tolerance::Parts(parts));
+/// assert_eq!(verdict, Ok(Verdict::Within));
+/// assert_eq!(sum(first, second, &mut sums, &mut joined), Ok(4));
+/// let below = Measure { error: Ratio { p: 3, q: 1 }, sample: 2, side: Side::Below };
+/// assert_eq!(measure(&ticks, &sums[..5], 1, 3), Ok(below));
 ///
 /// let late = ReducedTrace { ticks: &[0, 1, 2, 3, 5], ..second };
 /// assert_eq!(sum(first, late, &mut sums, &mut joined), Err(Refusal::Mismatch(4)));
@@ -1031,15 +1158,17 @@ pub fn expand_with(codes: &[u8], table: &[i16], out: &mut [i16]) -> Result<usize
 ///
 /// | Byte | Operands |
 /// |---|---|
-/// | 54 | tolerance: p (5 bytes), q (3) |
+/// | 54 | tolerance with equal parts: p (5 bytes), q (3) |
+/// | 42 | tolerance with unequal parts: p (5), q (3) of the part above, then of the part below |
 /// | 41 | first sample: tick (4), value (2) |
 /// | 53 | short step: advance (1, from 1), change of value (1, signed) |
 /// | 4C | long step: advance (3, from 1), new value (2) |
 /// | 45 | end: the number of samples given (2) |
 ///
-/// They come in the order 54, 41, any steps, 45, and nothing more. The tolerance is in lowest terms.
-/// A step is short exactly if its advance is at most 255 and its change from -128 to 127. A record has
-/// at most 24,589 bytes. The gap limit is asked of the links and is not part of the record.
+/// They come in the order 54 or 42, 41, any steps, 45, and nothing more. The tolerance, or each part of
+/// it, is in lowest terms. A step is short exactly if its advance is at most 255 and its change from -128
+/// to 127. A record of n samples has at most 21 + 6 n bytes, and any record at most 24,597. The gap limit
+/// is asked of the links and is not part of the record.
 ///
 /// Returns the record's length; the bytes before and after the record are as they were. Refusals:
 /// [`Refusal::Length`], [`Refusal::Tick`], [`Refusal::Span`], [`Refusal::Tolerance`],
@@ -1047,7 +1176,7 @@ pub fn expand_with(codes: &[u8], table: &[i16], out: &mut [i16]) -> Result<usize
 /// length; from a place past the end of the buffer there is no room.
 ///
 /// ```
-/// use kovrelna::{write, Refusal, Tolerance};
+/// use kovrelna::{write, Parts, Ratio, Refusal, Tolerance};
 ///
 /// let (ticks, values) = ([0, 1, 3], [0, 1, 1]);
 /// let tolerance = Tolerance::Ratio { p: 4, q: 6 };
@@ -1060,6 +1189,14 @@ pub fn expand_with(codes: &[u8], table: &[i16], out: &mut [i16]) -> Result<usize
 /// assert_eq!(answer, Err(Refusal::Room(22)));
 /// let answer = write(&ticks, &values, &[0, 2], tolerance.with_gap(1), &mut buffer, 2);
 /// assert_eq!(answer, Err(Refusal::Link(0)));
+///
+/// let parts = Parts { above: Ratio { p: 2, q: 3 }, below: Ratio { p: 1, q: 1 } };
+/// let mut buffer = [9; 30];
+/// let answer = write(&ticks, &values, &[0, 2], Tolerance::Parts(parts), &mut buffer, 0);
+/// assert_eq!(answer, Ok(30));
+/// assert_eq!(buffer[..9], [0x42, 0, 0, 0, 0, 2, 0, 0, 3]);
+/// assert_eq!(buffer[9..17], [0, 0, 0, 0, 1, 0, 0, 1]);
+/// assert_eq!(buffer[17..24], [0x41, 0, 0, 0, 0, 0, 0]);
 /// ```
 pub fn write(
     ticks: &[u32],
@@ -1077,8 +1214,8 @@ pub fn write(
 pub struct Content {
     /// The number of samples.
     pub samples: usize,
-    /// The record's tolerance.
-    pub tolerance: Ratio,
+    /// The record's tolerance, each part in lowest terms.
+    pub tolerance: Parts,
 }
 
 /// Reads a record, as [`write()`] describes it: its samples fill the first entries of `ticks` and of
@@ -1087,10 +1224,10 @@ pub struct Content {
 /// Refusals: [`Refusal::Record`], and [`Refusal::Room`] with the number of samples, as each output
 /// needs an entry for each. A fault lies at the first byte of the first command that breaks a rule or
 /// is cut off, at the first byte after a whole 45 command, or at the record's end where a command is
-/// missing.
+/// missing. A 42 with equal parts breaks a rule.
 ///
 /// ```
-/// use kovrelna::{read, Content, Ratio, Refusal};
+/// use kovrelna::{read, Content, Parts, Ratio, Refusal};
 ///
 /// let record = [
 ///     0x54, 0, 0, 0, 0, 2, 0, 0, 3, // tolerance 2/3
@@ -1099,27 +1236,32 @@ pub struct Content {
 ///     0x45, 0, 2, // two samples
 /// ];
 /// let (mut ticks, mut values) = ([9; 3], [9; 2]);
-/// let tolerance = Ratio { p: 2, q: 3 };
+/// let ratio = Ratio { p: 2, q: 3 };
+/// let tolerance = Parts { above: ratio, below: ratio };
 /// assert_eq!(read(&record, &mut ticks, &mut values), Ok(Content { samples: 2, tolerance }));
 /// assert_eq!((ticks, values), ([0, 3, 9], [0, 1]));
 /// assert_eq!(read(&record[..18], &mut ticks, &mut values), Err(Refusal::Record(16)));
 /// assert_eq!(read(&record, &mut ticks, &mut values[..1]), Err(Refusal::Room(2)));
+///
+/// let with_parts = |below: [u8; 8]| [&[0x42], &record[1..9], &below, &record[9..]].concat();
+/// let content = read(&with_parts([0, 0, 0, 0, 1, 0, 0, 1]), &mut ticks, &mut values)?;
+/// assert_eq!(content.tolerance.to_string(), "2/3 1/1");
+/// let equal = with_parts([0, 0, 0, 0, 2, 0, 0, 3]);
+/// assert_eq!(read(&equal, &mut ticks, &mut values), Err(Refusal::Record(0)));
+/// # Ok::<(), Refusal>(())
 /// ```
 pub fn read(record: &[u8], ticks: &mut [u32], values: &mut [i16]) -> Result<Content, Refusal> {
     let content = ffi::read(record, ticks, values);
     Refusal::check(content.number, content.value)?;
     Ok(Content {
         samples: content.value as usize,
-        tolerance: Ratio {
-            p: content.p,
-            q: content.q,
-        },
+        tolerance: Parts::of(content.p, content.q, content.below_p, content.below_q),
     })
 }
 
-/// Whether two records are the same: their samples agree, and so do their tolerances. For accepted
-/// records that is so exactly if their bytes agree. Whether the samples alone agree, [`read`] of each
-/// shows. Refusals: [`Refusal::Record`] for the first, then [`Refusal::SecondRecord`] for the second;
+/// Whether two records are the same: their samples agree, and so do their tolerances, both parts. For
+/// accepted records that is so exactly if their bytes agree. Whether the samples alone agree, [`read`] of
+/// each shows. Refusals: [`Refusal::Record`] for the first, then [`Refusal::SecondRecord`] for the second;
 /// [`Refusal::Record`] for two faulty records with the same bytes.
 ///
 /// ```
@@ -1150,7 +1292,8 @@ pub struct Summary {
     pub samples: usize,
     /// Walk's kept number; 0 if the channel is refused.
     pub kept: usize,
-    /// The error of the worst link of walk's list, in lowest terms; 0/1 if the channel is refused.
+    /// The error of the worst link of walk's list, in lowest terms, whichever side of the line it is on;
+    /// 0/1 if the channel is refused.
     pub error: Ratio,
     /// The sample of the [`measure`] of the first link with that error, numbered in the channel's own
     /// trace; 0 where there is no link, or if the channel is refused.
@@ -1255,13 +1398,13 @@ pub struct Pedestals {
 ///
 /// Refusals: [`Refusal::Factor`] if `k` is below 1 or above 16; [`Refusal::Crate`] if either run has no
 /// channels, more than 64, or lengths that do not add up to the length of its ticks and to that of its
-/// values, or if the runs have unequal channel counts; [`Refusal::Tolerance`]; then for each channel in
-/// turn [`Refusal::Channel`] if its trace is refused in today's run, then in the one before, and
-/// [`Refusal::Samples`] if the runs differ in its number of samples; last [`Refusal::Room`] if either
-/// list has fewer entries than there are channels.
+/// values, or if the runs have unequal channel counts; [`Refusal::Tolerance`], also if the parts of the
+/// tolerance differ; then for each channel in turn [`Refusal::Channel`] if its trace is refused in today's
+/// run, then in the one before, and [`Refusal::Samples`] if the runs differ in its number of samples; last
+/// [`Refusal::Room`] if either list has fewer entries than there are channels.
 ///
 /// ```
-/// use kovrelna::{pedestals, Pedestals, Refusal, Run, Tolerance};
+/// use kovrelna::{pedestals, Parts, Pedestals, Ratio, Refusal, Run, Tolerance};
 ///
 /// let ticks = [0, 1, 2, 3, 0, 1, 2, 3, 0, 1, 2, 3];
 /// let lengths = [4, 4, 4];
@@ -1277,6 +1420,13 @@ pub struct Pedestals {
 /// assert_eq!(answer, Ok(Pedestals { moved: 1, noisy: 1 }));
 /// // Channel 0 has moved and channel 1 is noisy. Channel 2 is at both limits.
 /// assert_eq!((moved, noisy), ([0, 9, 9], [1, 9, 9]));
+///
+/// // Parts that are equal as numbers; parts that differ.
+/// let parts = |p, q| Parts { above: Ratio { p: 1, q: 2 }, below: Ratio { p, q } };
+/// let answer = pedestals(today, before, parts(2, 4).into(), 2, &mut moved, &mut noisy);
+/// assert_eq!(answer, Ok(Pedestals { moved: 1, noisy: 1 }));
+/// let answer = pedestals(today, before, parts(2, 3).into(), 2, &mut moved, &mut noisy);
+/// assert_eq!(answer, Err(Refusal::Tolerance));
 ///
 /// // Without the last channel's last sample; with a tick of channel 1 that is not above the one before.
 /// let short = Run { ticks: &ticks[..11], values: &before.values[..11], lengths: &[4, 4, 3] };

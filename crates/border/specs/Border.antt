@@ -10,11 +10,12 @@ use mathlib.Core.Bool.{cond}
 use mathlib.Core.List.{map}
 use Prim.Native.Nat.{ℕ}
 use lib.Dec.{eqb}
+use Rattle.ratio.specs.Order.{over}
 use Rattle.refusal.specs.declared.Checked.{Checked}
 use Rattle.refusal.specs.declared.Checked.the-variants.{Fine, Refused as IsRefused}
 use Rattle.refusal.specs.Table.{numberOf, returnedOf}
 use Rattle.tolerance.specs.declared.Tolerance as T
-use Rattle.tolerance.specs.declared.Tolerance.the-variants.{Ratio, Counts, Noise}
+use Rattle.tolerance.specs.declared.Tolerance.the-variants.{Ratio, Counts, Noise, Parts}
 use Rattle.limits.specs.declared.Limits as L
 use Rattle.tolerances.specs.declared.Entry.{Entry}
 use Rattle.tolerances.specs.declared.Tolerances as S
@@ -22,10 +23,10 @@ use Rattle.engine.specs.declared.Holding.{Holding}
 use Rattle.engine.specs.declared.Holding.the-variants.{Held as IsHeld, Refused as HoldRefused}
 use Rattle.trace.specs.declared.Side.{Side}
 use Rattle.trace.specs.declared.Side.the-variants.{On, Above, Below, Gap}
-use Rattle.engine.specs.declared.Measured as M
-use Rattle.engine.specs.declared.Measured.the-variants.{Link, Refused as NotMeasured}
-use Rattle.engine.specs.declared.Verdict as E
-use Rattle.engine.specs.declared.Verdict.the-variants.{Yes, No, Refused}
+use Rattle.judging.specs.declared.Measured as M
+use Rattle.judging.specs.declared.Measured.the-variants.{Link, Refused as NotMeasured}
+use Rattle.judging.specs.declared.Verdict as E
+use Rattle.judging.specs.declared.Verdict.the-variants.{Yes, No, Refused}
 use Rattle.engine.specs.declared.Reduced.{Reduced}
 use Rattle.engine.specs.declared.Reduced.the-variants.{Kept as IsKept, Refused as NotKept}
 use Rattle.engine.specs.declared.Scanned as N
@@ -67,7 +68,8 @@ toleranceOf t =
     cond (eqb (t .form) 0) (Ratio (t .p) (t .q))
     (cond (eqb (t .form) 1) (Counts (t .x))
     (cond (eqb (t .form) 2) (Noise (record { noise = t .x; multiple = t .y }))
-    (Ratio 0 0)))
+    (cond (eqb (t .form) 3) (Parts (record { up = over (t .p) (t .q); down = over (t .dp) (t .dq) }))
+    (Ratio 0 0))))
 
 abbrev pub limitsOf : Limits → L.Limits
 limitsOf t = record { tolerance = toleranceOf (t .tolerance); gap = t .gap }
@@ -79,8 +81,8 @@ abbrev pub tolerancesOf : Tolerances → S.Tolerances
 tolerancesOf t = record { count = t .count; list = map entryOf (t .list) }
 
 abbrev pub heldOf : Holding → Held
-heldOf (IsHeld r) = record { number = 0; value = 0; p = r .p; q = r .q }
-heldOf (HoldRefused x) = record { number = numberOf x; value = returnedOf x; p = 0; q = 0 }
+heldOf (IsHeld x) = record { number = 0; value = 0; p = x .up .p; q = x .up .q; dp = x .down .p; dq = x .down .q }
+heldOf (HoldRefused x) = record { number = numberOf x; value = returnedOf x; p = 0; q = 0; dp = 0; dq = 0 }
 
 abbrev pub sideNumber : Side → ℕ
 sideNumber On = 0
@@ -134,8 +136,8 @@ writtenOf (Count n) = record { number = 0; value = n }
 writtenOf (NotWritten x) = record { number = numberOf x; value = returnedOf x }
 
 abbrev pub readOf : R.Answer → Content
-readOf (Samples n t) = record { number = 0; value = n; p = t .p; q = t .q }
-readOf (NotRead x) = record { number = numberOf x; value = returnedOf x; p = 0; q = 0 }
+readOf (Samples n t) = record { number = 0; value = n; p = t .up .p; q = t .up .q; dp = t .down .p; dq = t .down .q }
+readOf (NotRead x) = record { number = numberOf x; value = returnedOf x; p = 0; q = 0; dp = 0; dq = 0 }
 
 abbrev pub comparedOf : Comparison → Verdict
 comparedOf Same = record { number = 0; passed = 1; value = 0 }

@@ -5,7 +5,8 @@ use live::View;
 use live::Viewed;
 use sheet::Sheet;
 
-// A tolerance: form 0 is the ratio p/q, form 1 is x counts, form 2 is the noise x times the multiple y. No other form is allowed.
+// A tolerance: form 0 is the ratio p/q, form 1 is x counts, form 2 is the noise x times the multiple y, and form 3 is two parts, p/q above
+// the line and dp/dq below it. No other form is allowed.
 #[repr(C)]
 pub struct Tolerance {
     pub form: u64,
@@ -13,6 +14,8 @@ pub struct Tolerance {
     pub q: u64,
     pub x: f64,
     pub y: f64,
+    pub dp: u64,
+    pub dq: u64,
 }
 
 // What links are asked to meet: a tolerance, and a gap limit in ticks.
@@ -29,13 +32,15 @@ pub struct Tolerances {
     pub list: [Tolerance; 16],
 }
 
-// A tolerance in lowest terms under the number 0, or a refusal's number and value.
+// A tolerance in lowest terms under the number 0, its part above p/q and its part below dp/dq; or a refusal's number and value.
 #[repr(C)]
 pub struct Held {
     pub number: u32,
     pub value: u64,
     pub p: u64,
     pub q: u64,
+    pub dp: u64,
+    pub dq: u64,
 }
 
 // A link's error p/q, the first sample where it occurs and the number of its side under the number 0; or a refusal's number and value.
@@ -115,13 +120,15 @@ pub struct Closest {
     pub q: u64,
 }
 
-// The number of a record's samples and its tolerance under the number 0, or a refusal's number and value.
+// The number of a record's samples and the two parts of its tolerance under the number 0, or a refusal's number and value.
 #[repr(C)]
 pub struct Content {
     pub number: u32,
     pub value: u64,
     pub p: u64,
     pub q: u64,
+    pub dp: u64,
+    pub dq: u64,
 }
 
 // The totals of a crate's channels and the largest error p/q under the number 0, or a refusal's number and value.
@@ -161,6 +168,13 @@ pub fn tolerance_of(t: Tolerance) -> tolerance::Tolerance
             multiple: t.y,
         };
         return tolerance::Tolerance::Noise(noise);
+    }
+    if form == 3 {
+        let parts = tolerance::Parts {
+            up: ratio::Ratio { p: t.p, q: t.q },
+            down: ratio::Ratio { p: t.dp, q: t.dq },
+        };
+        return tolerance::Tolerance::Parts(parts);
     }
     tolerance::Tolerance::Ratio(0, 0)
 }
@@ -208,17 +222,25 @@ pub fn held_of(h: engine::Holding) -> Held
     ensures { λ r. ⌜ r ≡ heldOf h ⌝ }
 {
     match h {
-        engine::Holding::Held(r) => Held {
-            number: 0,
-            value: 0,
-            p: r.p,
-            q: r.q,
-        },
+        engine::Holding::Held(x) => {
+            let up = x.up;
+            let down = x.down;
+            Held {
+                number: 0,
+                value: 0,
+                p: up.p,
+                q: up.q,
+                dp: down.p,
+                dq: down.q,
+            }
+        }
         engine::Holding::Refused(x) => Held {
             number: refusal::number(x),
             value: refusal::returned(x) as u64,
             p: 0,
             q: 0,
+            dp: 0,
+            dq: 0,
         },
     }
 }
@@ -235,11 +257,11 @@ pub fn side_of(s: trace::Side) -> u32
     }
 }
 
-pub fn measured_of(a: engine::Measured) -> Measured
+pub fn measured_of(a: judging::Measured) -> Measured
     ensures { λ r. ⌜ r ≡ measuredOf a ⌝ }
 {
     match a {
-        engine::Measured::Link(m) => {
+        judging::Measured::Link(m) => {
             let error = m.error;
             let side = m.side;
             Measured {
@@ -251,7 +273,7 @@ pub fn measured_of(a: engine::Measured) -> Measured
                 sample: m.sample as u64,
             }
         }
-        engine::Measured::Refused(x) => Measured {
+        judging::Measured::Refused(x) => Measured {
             number: refusal::number(x),
             side: 0,
             value: refusal::returned(x) as u64,
@@ -262,11 +284,11 @@ pub fn measured_of(a: engine::Measured) -> Measured
     }
 }
 
-pub fn judged_of(v: engine::Verdict) -> Judged
+pub fn judged_of(v: judging::Verdict) -> Judged
     ensures { λ r. ⌜ r ≡ judgedOf v ⌝ }
 {
     match v {
-        engine::Verdict::Yes => Judged {
+        judging::Verdict::Yes => Judged {
             number: 0,
             passed: 1,
             value: 0,
@@ -275,7 +297,7 @@ pub fn judged_of(v: engine::Verdict) -> Judged
             sample: 0,
             side: 0,
         },
-        engine::Verdict::No(k, m) => {
+        judging::Verdict::No(k, m) => {
             let error = m.error;
             let side = m.side;
             Judged {
@@ -288,7 +310,7 @@ pub fn judged_of(v: engine::Verdict) -> Judged
                 side: side_of(side),
             }
         }
-        engine::Verdict::Refused(x) => Judged {
+        judging::Verdict::Refused(x) => Judged {
             number: refusal::number(x),
             passed: 0,
             value: refusal::returned(x) as u64,
@@ -429,17 +451,25 @@ pub fn read_of(a: reader::Answer) -> Content
     ensures { λ r. ⌜ r ≡ readOf a ⌝ }
 {
     match a {
-        reader::Answer::Samples(n, t) => Content {
-            number: 0,
-            value: n as u64,
-            p: t.p,
-            q: t.q,
-        },
+        reader::Answer::Samples(n, t) => {
+            let above = t.up;
+            let below = t.down;
+            Content {
+                number: 0,
+                value: n as u64,
+                p: above.p,
+                q: above.q,
+                dp: below.p,
+                dq: below.q,
+            }
+        }
         reader::Answer::Refused(x) => Content {
             number: refusal::number(x),
             value: refusal::returned(x) as u64,
             p: 0,
             q: 0,
+            dp: 0,
+            dq: 0,
         },
     }
 }

@@ -26,7 +26,7 @@ use Rattle.kept.proofs.LeastLaws.{found-least}
 use Rattle.trace.specs.Trace.{Trace}
 use Rattle.trace.specs.Link.{obeys, linksEnd, listError, limited, criterion, Bounded}
 use Rattle.trace.proofs.Holes.{links-end-after, links-end-inside, obeys-to, obeys-past, obeys-inside}
-use Rattle.trace.proofs.Errors.{allowed-small, trace-measures, list-error-small, within-error}
+use Rattle.trace.proofs.Errors.{both-bounded, allowed-small, trace-measures, list-error-small, within-error}
 use Rattle.shortest.specs.Shortest.{minimumList}
 use Rattle.shortest.proofs.ShortestLaws.{minimum-list}
 use Rattle.closest.specs.declared.Interval.{Interval}
@@ -35,14 +35,14 @@ use Rattle.closest.specs.Closest.{leastError, obeyingList, fewestSamples
 -- ---- what may be tried
 
 pub allowed-searched : {x : Ratio} → Bounded (criterion x) → 0 < x .p → Searched (x .p) (x .q) 1048575
-allowed-searched b pos = record { some = pos; top = b .p-bound; small = omega (arith, b .q-bound); limit-some = omega arith; limit-small = omega arith }
+allowed-searched b pos = record { some = pos; top = b .up .p-bound; small = omega (arith, b .up .q-bound); limit-some = omega arith; limit-small = omega arith }
 
 module _ {x y : Ratio} (a : Bounded (criterion x)) (b : Bounded (criterion y)) where
   -- the middle between x and y
   pub middle-searched : 0 < y .p → {u v w : ℕ} → u ≡ x .p * y .q → v ≡ y .p * x .q → w ≡ x .q * y .q → Searched (u + v) (2 * w) 1048575
   middle-searched pos eu ev ew = rw (eu, ev, ew) (record {
-    some = omega (arith, mul-pos pos (a .positive));
-    top = omega (arith, mul-le-mul-right (y .q) (a .p-bound), mul-le-mul-right (x .q) (b .p-bound));
+    some = omega (arith, mul-pos pos (a .up .positive));
+    top = omega (arith, mul-le-mul-right (y .q) (a .up .p-bound), mul-le-mul-right (x .q) (b .up .p-bound));
     small = omega (arith, common-product (allowed-small a) (allowed-small b));
     limit-some = omega arith;
     limit-small = omega arith;
@@ -63,18 +63,18 @@ module _ {p q : ℕ} {n : Neighbours} (s : Surrounds p q 1048575 n) (g : Searche
 
   pub left-before : Before (over p q) (n .left)
   left-before = record {
-    allowed = record { positive = s .left-some; q-bound = s .left-limit; p-bound = left-top };
+    allowed = both-bounded (record { positive = s .left-some; q-bound = s .left-limit; p-bound = left-top });
     below = s .below;
     nearest = nearest-below s;
   }
 
 -- a candidate below an allowed tolerance is allowed
 pub below-allowed : {x y : Ratio} → Candidate x → Bounded (criterion y) → Below x y → Bounded (criterion x)
-below-allowed {x} {y} c b lt = record {
+below-allowed {x} {y} c b lt = both-bounded (record {
   positive = c .some;
   q-bound = c .small .q-bound;
-  p-bound = le-of-mul-le-mul-right {k = y .q} (omega (arith, lt, mul-le-mul-right (x .q) (b .p-bound))) (b .positive);
-}
+  p-bound = le-of-mul-le-mul-right {k = y .q} (omega (arith, lt, mul-le-mul-right (x .q) (b .up .p-bound))) (b .up .positive);
+})
 
 -- ---- what a trial says
 
@@ -164,10 +164,10 @@ module _ {ts : List ℕ} {vs : List ℤ} {g m : ℕ} where
 
   -- a list fits at x, below the interval's end
   pub narrowed-fit : {low high e : Ratio} (x : Ratio) → Bounded (criterion low) → Below x high → Reached ts vs g m e × AtMost e x → Narrowed ts vs g m high (record { low = low; high = e })
-  narrowed-fit {high = high} {e = e} x b lt r = record { low = b; reached = r .0; high = omega (arith, at-most-below e x high (r .0 .allowed .positive) (r .1) lt) }
+  narrowed-fit {high = high} {e = e} x b lt r = record { low = b; reached = r .0; high = omega (arith, at-most-below e x high (r .0 .allowed .up .positive) (r .1) lt) }
 
   pub narrowed-more : {x : Ratio} {i r : Interval} → Narrowed ts vs g m x i → Narrowed ts vs g m (i .high) r → Narrowed ts vs g m x r
-  narrowed-more {x} {i} {r} a b = record { low = b .low; reached = b .reached; high = at-most-trans (r .high) (i .high) x (a .reached .allowed .positive) (b .high) (a .high) }
+  narrowed-more {x} {i} {r} a b = record { low = b .low; reached = b .reached; high = at-most-trans (r .high) (i .high) x (a .reached .allowed .up .positive) (b .high) (a .high) }
 
 -- ---- where the search may end
 
@@ -192,12 +192,12 @@ pub parts-fall : {x y : Ratio} → Bounded (criterion x) → Bounded (criterion 
 parts-fall {x} {y} a b lt =
     let n : y .p * 1099509530625 / y .q * y .q ≤ y .p * 1099509530625 = div-mul-le-self _ (y .q) in
     let g = parts y in
-    le-div-iff-mul-le (a .positive) .1 (le-of-mul-le-mul-right {k = y .q}
+    le-div-iff-mul-le (a .up .positive) .1 (le-of-mul-le-mul-right {k = y .q}
     (omega (arith, mul-le-mul-right (x .q) n, mul-le-mul-right 1099509530625 lt, common-product (allowed-small a) (allowed-small b)))
-    (b .positive))
+    (b .up .positive))
 
 -- a narrowed interval below what is tried before x
 pub goes-down : {ts : List ℕ} {vs : List ℤ} {g m : ℕ} {x y e : Ratio} {r : Interval} → Bounded (criterion x) → Before x y → AtMost e y → Bounded (criterion e) → Narrowed ts vs g m e r → parts (r .high) < parts x
 goes-down {x = x} {y = y} {e = e} {r = r} b f le a n =
     let z = r .high in
-    parts-fall b (n .reached .allowed) (at-most-below z e x (n .reached .allowed .positive) (n .high) (at-most-below e y x (a .positive) le (f .below)))
+    parts-fall b (n .reached .allowed) (at-most-below z e x (n .reached .allowed .up .positive) (n .high) (at-most-below e y x (a .up .positive) le (f .below)))

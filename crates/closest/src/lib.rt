@@ -42,8 +42,8 @@ pub fn least(ticks: &[u32], values: &[i16], gap: u32, m: usize, out: &mut [u16])
 {
     let error = search::least_error(ticks, values, gap, m);
     let c = Criterion {
-        p: error.p,
-        q: error.q,
+        up: error,
+        down: error,
         gap,
     };
     let kept = shortest::minimum(ticks, values, c, out);

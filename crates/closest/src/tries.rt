@@ -19,8 +19,8 @@ pub fn trial(ticks: &[u32], values: &[i16], gap: u32, m: usize, x: Ratio) -> Tri
 {
     let mut list = [0u16; 256];
     let c = Criterion {
-        p: x.p,
-        q: x.q,
+        up: x,
+        down: x,
         gap,
     };
     let kept = shortest::minimum(ticks, values, c, &mut list);

@@ -14,15 +14,15 @@ use lib.Dec.{leb, eqb}
 use lib.ListN.{length, drop, getD, length-drop}
 use lib.Seq.{getD-drop, drop-drop}
 use Rattle.lists.proofs.Tests.{and-first, and-second, is-false, is-true-unless, true-false, by-test}
-use Rattle.ratio.specs.declared.Ratio.{Ratio}
+use Rattle.tolerance.specs.declared.Parts.{Parts}
 use Rattle.format.specs.declared.Cursor.{Cursor}
 use Rattle.format.specs.declared.Command.{Command}
-use Rattle.format.specs.declared.Command.the-variants.{Tolerance, First, Short, Long, End, Invalid}
+use Rattle.format.specs.declared.Command.the-variants.{Tolerance, Sides, First, Short, Long, End, Invalid}
 use Rattle.format.specs.declared.Step.the-variants.{Sample, End as Ended, Fault}
 use Rattle.format.specs.declared.Header.the-variants.{Fault as NoHeader}
 use Rattle.format.specs.Number.{field, flip16, flip8}
-use Rattle.format.specs.Command.{choose, opens, commandOf}
-use Rattle.format.specs.Format.{isHeld, moved, shortObeys, longObeys, shortStep, longStep, endStep, obey, stepOf, sampleHeader, toleranceHeader, headerOf}
+use Rattle.format.specs.Command.{ratioAt, choose, opens, commandOf}
+use Rattle.format.specs.Format.{moved, shortObeys, longObeys, shortStep, longStep, endStep, obey, stepOf, sampleHeader, toleranceHeader, headerOf}
 use Rattle.commands.specs.Passing.{isSample}
 
 -- ---- the command
@@ -61,38 +61,49 @@ module _ (b : List ℕ) (i : ℕ) where
 
 -- ---- the header
 
+abbrev sidesAt : List ℕ → Command
+sidesAt s = Sides (record { up = ratioAt s 1; down = ratioAt s 9 })
+
 module _ (s : List ℕ) where
-  tolerance-is : getD s 0 0 ≡ 0x54 → 9 ≤ length s → commandOf s ≡ Tolerance (record { p = field s 1 5; q = field s 6 3 })
+  tolerance-is : getD s 0 0 ≡ 0x54 → 9 ≤ length s → commandOf s ≡ Tolerance (ratioAt s 1)
   unfolding commandOf
   tolerance-is e h = rw (e, le-leb 9 (length s) h)
 
-  pub no-tolerance : opens 0x54 9 s ≡ false → (m : Command) → toleranceHeader (commandOf s) m ≡ NoHeader 0
+  sides-is : getD s 0 0 ≡ 0x42 → 17 ≤ length s → commandOf s ≡ sidesAt s
   unfolding commandOf
-  no-tolerance e m = rw e (go (opens 0x41 7 s) (opens 0x53 3 s) (opens 0x4C 6 s) (opens 0x45 3 s))
+  sides-is e h = rw (e, le-leb 17 (length s) h)
+
+  -- the tolerance is there, of one ratio or of two
+  pub one-header : getD s 0 0 ≡ 0x54 → 9 ≤ length s → headerOf s ≡ toleranceHeader s (Tolerance (ratioAt s 1))
+  one-header e h = ap (toleranceHeader s) (tolerance-is e h)
+
+  pub sides-header : getD s 0 0 ≡ 0x42 → 17 ≤ length s → headerOf s ≡ toleranceHeader s (sidesAt s)
+  sides-header e h = ap (toleranceHeader s) (sides-is e h)
+
+  pub no-tolerance : opens 0x54 9 s ≡ false → opens 0x42 17 s ≡ false → headerOf s ≡ NoHeader 0
+  unfolding commandOf
+  no-tolerance e f = rw (e, f) (go (opens 0x41 7 s) (opens 0x53 3 s) (opens 0x4C 6 s) (opens 0x45 3 s))
     where
-      go : (f h l n : Bool) → toleranceHeader (choose f (First (field s 1 4) (flip16 (field s 5 2))) (choose h (Short (field s 1 1) (flip8 (field s 2 1)))
-          (choose l (Long (field s 1 3) (flip16 (field s 4 2))) (choose n (End (field s 1 2)) Invalid)))) m ≡ NoHeader 0
+      go : (f h l n : Bool) → toleranceHeader s (choose f (First (field s 1 4) (flip16 (field s 5 2))) (choose h (Short (field s 1 1) (flip8 (field s 2 1)))
+          (choose l (Long (field s 1 3) (flip16 (field s 4 2))) (choose n (End (field s 1 2)) Invalid)))) ≡ NoHeader 0
       go true h l n = refl
       go false true l n = refl
       go false false true n = refl
       go false false false true = refl
       go false false false false = refl
 
-  -- the tolerance is there
-  pub tolerance-header : getD s 0 0 ≡ 0x54 → 9 ≤ length s → headerOf s ≡ (let r : Ratio = record { p = field s 1 5; q = field s 6 3 } in choose (isHeld r) (sampleHeader r (commandOf (drop 9 s))) (NoHeader 0))
-  tolerance-header e h = ap (λ (m : Command). toleranceHeader m (commandOf (drop 9 s))) (tolerance-is e h)
-
-  pub no-first : opens 0x41 7 s ≡ false → (r : Ratio) → sampleHeader r (commandOf s) ≡ NoHeader 9
+  pub no-first : opens 0x41 7 s ≡ false → (k : ℕ) (x : Parts) → sampleHeader k x (commandOf s) ≡ NoHeader k
   unfolding commandOf
-  no-first e r = rw e (go (opens 0x54 9 s) (opens 0x53 3 s) (opens 0x4C 6 s) (opens 0x45 3 s))
+  no-first e k x = rw e (go (opens 0x54 9 s) (opens 0x53 3 s) (opens 0x4C 6 s) (opens 0x45 3 s) (opens 0x42 17 s))
     where
-      go : (t h l n : Bool) → sampleHeader r (choose t (Tolerance (record { p = field s 1 5; q = field s 6 3 })) (choose h (Short (field s 1 1) (flip8 (field s 2 1)))
-          (choose l (Long (field s 1 3) (flip16 (field s 4 2))) (choose n (End (field s 1 2)) Invalid)))) ≡ NoHeader 9
-      go true h l n = refl
-      go false true l n = refl
-      go false false true n = refl
-      go false false false true = refl
-      go false false false false = refl
+      go : (t h l n d : Bool) → sampleHeader k x (choose t (Tolerance (ratioAt s 1)) (choose h (Short (field s 1 1) (flip8 (field s 2 1)))
+          (choose l (Long (field s 1 3) (flip16 (field s 4 2))) (choose n (End (field s 1 2)) (choose d (sidesAt s) Invalid))))) ≡ NoHeader k
+      go true h l n d = refl
+      go false true l n d = refl
+      go false false true n d = refl
+      go false false false true d = refl
+      go false false false false true = refl
+      go false false false false false = refl
 
 -- ---- a step
 
@@ -157,14 +168,15 @@ module _ (b : List ℕ) (c : Cursor) where
 
   pub no-step : opens 0x53 3 s ≡ false → opens 0x4C 6 s ≡ false → isSample (stepOf b c) ≡ false
   unfolding commandOf endStep
-  no-step e f = rw (e, f) (go (opens 0x54 9 s) (opens 0x41 7 s) (opens 0x45 3 s))
+  no-step e f = rw (e, f) (go (opens 0x54 9 s) (opens 0x41 7 s) (opens 0x45 3 s) (opens 0x42 17 s))
     where
-      go : (t g n : Bool) → isSample (obey (length b) c (choose t (Tolerance (record { p = field s 1 5; q = field s 6 3 })) (choose g (First (field s 1 4) (flip16 (field s 5 2)))
-          (choose n (End (field s 1 2)) Invalid)))) ≡ false
-      go true g n = refl
-      go false true n = refl
-      go false false true = end-sample (eqb (field s 1 2) (c .count)) (eqb (c .at + 3) (length b)) _ _
-      go false false false = refl
+      go : (t g n k : Bool) → isSample (obey (length b) c (choose t (Tolerance (ratioAt s 1)) (choose g (First (field s 1 4) (flip16 (field s 5 2)))
+          (choose n (End (field s 1 2)) (choose k (sidesAt s) Invalid))))) ≡ false
+      go true g n k = refl
+      go false true n k = refl
+      go false false true k = end-sample (eqb (field s 1 2) (c .count)) (eqb (c .at + 3) (length b)) _ _
+      go false false false true = refl
+      go false false false false = refl
 
   -- a step that leads to a sample is whole
   pub enough : isSample (stepOf b c) ≡ true → c .at + 3 ≤ length b
@@ -180,14 +192,15 @@ module _ (b : List ℕ) (c : Cursor) where
 
   pub no-end : opens 0x45 3 s ≡ false → isSample (stepOf b c) ≡ false → stepOf b c ≡ Fault (c .at)
   unfolding commandOf shortStep longStep
-  no-end e q = rw e (go (opens 0x54 9 s) (opens 0x41 7 s) (opens 0x53 3 s) (opens 0x4C 6 s) (rw e at q))
+  no-end e q = rw e (go (opens 0x54 9 s) (opens 0x41 7 s) (opens 0x53 3 s) (opens 0x4C 6 s) (opens 0x42 17 s) (rw e at q))
     where
-      go : (t g h n : Bool) → isSample (obey (length b) c (choose t (Tolerance (record { p = field s 1 5; q = field s 6 3 })) (choose g (First (field s 1 4) (flip16 (field s 5 2)))
-          (choose h (Short (field s 1 1) (flip8 (field s 2 1))) (choose n (Long (field s 1 3) (flip16 (field s 4 2))) Invalid))))) ≡ false
-          → obey (length b) c (choose t (Tolerance (record { p = field s 1 5; q = field s 6 3 })) (choose g (First (field s 1 4) (flip16 (field s 5 2)))
-          (choose h (Short (field s 1 1) (flip8 (field s 2 1))) (choose n (Long (field s 1 3) (flip16 (field s 4 2))) Invalid)))) ≡ Fault (c .at)
-      go true g h n q = refl
-      go false true h n q = refl
-      go false false true n q = moved-fault (shortObeys c (field s 1 1) (flip8 (field s 2 1))) 3 c _ _ q
-      go false false false true q = moved-fault (longObeys c (field s 1 3) (flip16 (field s 4 2))) 6 c _ _ q
-      go false false false false q = refl
+      go : (t g h n k : Bool) → isSample (obey (length b) c (choose t (Tolerance (ratioAt s 1)) (choose g (First (field s 1 4) (flip16 (field s 5 2)))
+          (choose h (Short (field s 1 1) (flip8 (field s 2 1))) (choose n (Long (field s 1 3) (flip16 (field s 4 2))) (choose k (sidesAt s) Invalid)))))) ≡ false
+          → obey (length b) c (choose t (Tolerance (ratioAt s 1)) (choose g (First (field s 1 4) (flip16 (field s 5 2)))
+          (choose h (Short (field s 1 1) (flip8 (field s 2 1))) (choose n (Long (field s 1 3) (flip16 (field s 4 2))) (choose k (sidesAt s) Invalid))))) ≡ Fault (c .at)
+      go true g h n k q = refl
+      go false true h n k q = refl
+      go false false true n k q = moved-fault (shortObeys c (field s 1 1) (flip8 (field s 2 1))) 3 c _ _ q
+      go false false false true k q = moved-fault (longObeys c (field s 1 3) (flip16 (field s 4 2))) 6 c _ _ q
+      go false false false false true q = refl
+      go false false false false false q = refl

@@ -13,7 +13,7 @@ use lib.ListN.{length, set, length-append}
 use Rattle.lists.specs.Overwrite.{overwrite}
 use Rattle.lists.proofs.Tests.{true-false}
 use Rattle.lists.proofs.OverwriteLaws.{overwrite-length, overwrite-snoc}
-use Rattle.ratio.specs.declared.Ratio.{Ratio}
+use Rattle.tolerance.specs.declared.Parts.{Parts}
 use Rattle.format.specs.declared.Cursor.{Cursor}
 use Rattle.format.specs.declared.Step.{Step}
 use Rattle.format.specs.declared.Step.the-variants.{Sample, End as Ended, Fault}
@@ -86,12 +86,12 @@ module _ {b : List ℕ} {start : Cursor} where
     counts = rw length-append (p .ticks)
 
     -- no sample follows: the verdict is that of the whole
-    pub closes : (r : Ratio) → isSample (stepOf b c) ≡ false → closedBy r c (stepOf b c) ≡ recordVerdict (attach r (samplesFrom b start))
-    closes r q = go (stepOf b c) refl
+    pub closes : (x : Parts) → isSample (stepOf b c) ≡ false → closedBy x c (stepOf b c) ≡ recordVerdict (attach x (samplesFrom b start))
+    closes x q = go (stepOf b c) refl
       where
-        go : (s : Step) → stepOf b c ≡ s → closedBy r c s ≡ recordVerdict (attach r (samplesFrom b start))
+        go : (s : Step) → stepOf b c ≡ s → closedBy x c s ≡ recordVerdict (attach x (samplesFrom b start))
         go (Sample d) e = true-false (ap isSample e) q
-        go Ended e = rw (ends e) (ap (λ (n : ℕ). Gives n r) (sym counts))
+        go Ended e = rw (ends e) (ap (λ (n : ℕ). Gives n x) (sym counts))
         go (Fault k) e = rw (faults e)
 
 -- ---- copying

@@ -12,7 +12,7 @@ use Prim.Native.Nat.{ℕ, _≤_}
 use lib.IntN.{ℤ}
 use lib.ListN.{length}
 use Rattle.lists.specs.Overwrite.{overwrite}
-use Rattle.ratio.specs.declared.Ratio.{Ratio}
+use Rattle.tolerance.specs.declared.Parts.{Parts}
 use Rattle.format.specs.declared.Cursor.{Cursor}
 use Rattle.format.specs.declared.Step.{Step}
 use Rattle.format.specs.declared.Step.the-variants.{Sample, End as Ended, Fault as Faulty}
@@ -31,10 +31,10 @@ isSample Ended = false
 isSample (Faulty k) = false
 
 -- the verdict at a cursor that no sample follows
-abbrev pub closedBy : Ratio → Cursor → Step → Verdict
-closedBy r c (Sample d) = Fault (c .at)
-closedBy r c Ended = Gives (c .count) r
-closedBy r c (Faulty k) = Fault k
+abbrev pub closedBy : Parts → Cursor → Step → Verdict
+closedBy x c (Sample d) = Fault (c .at)
+closedBy x c Ended = Gives (c .count) x
+closedBy x c (Faulty k) = Fault k
 
 -- a cursor within a record of n bytes
 pub record CursorOk (n : ℕ) (c : Cursor) : Type 0 where

@@ -1,10 +1,10 @@
 // The commands of a record (document 01, "The record") as they are read: the header (headers), a step (steps), their numbers (numbers), and
 // all steps (passes).
-use ratio::Ratio;
+use tolerance::Parts;
 
 // What a record says: the number of its samples and its tolerance, or the fault's byte.
 pub enum Verdict {
-    Samples(usize, Ratio),
+    Samples(usize, Parts),
     Fault(usize),
 }
 

@@ -11,12 +11,12 @@ use crate::numbers::field;
 use crate::steps::is_step;
 use crate::steps::next_sample;
 use format::Cursor;
-use ratio::Ratio;
+use tolerance::Parts;
 
 // The verdict at a cursor that no sample follows: the end, or a fault.
-fn close(bytes: &[u8], r: Ratio, c: Cursor) -> Verdict
+fn close(bytes: &[u8], x: Parts, c: Cursor) -> Verdict
     requires { ⌜ CursorOk (length (now bytes)) c × (isSample (stepOf (now bytes) c) ≡ false) ⌝ }
-    ensures { λ v. ⌜ v ≡ closedBy r c (stepOf (now (bytes .entry)) c) ⌝ }
+    ensures { λ v. ⌜ v ≡ closedBy x c (stepOf (now (bytes .entry)) c) ⌝ }
 {
     let at = c.at;
     let n = bytes.len();
@@ -34,18 +34,18 @@ fn close(bytes: &[u8], r: Ratio, c: Cursor) -> Verdict
     if at + 3 != n {
         return Verdict::Fault(at + 3);
     }
-    Verdict::Samples(c.count, r)
+    Verdict::Samples(c.count, x)
 }
 
 // Counts the samples, from the cursor after the first one on.
-pub fn count_samples(bytes: &[u8], r: Ratio, start: Cursor) -> Verdict
+pub fn count_samples(bytes: &[u8], x: Parts, start: Cursor) -> Verdict
     requires { ⌜ AfterFirst (length (now bytes)) start ⌝ }
-    ensures { λ v. ⌜ v ≡ recordVerdict (attach r (samplesFrom (now (bytes .entry)) start)) ⌝ }
+    ensures { λ v. ⌜ v ≡ recordVerdict (attach x (samplesFrom (now (bytes .entry)) start)) ⌝ }
 {
     let mut c = start;
     loop {
         if !is_step(bytes, c) {
-            return close(bytes, r, c);
+            return close(bytes, x, c);
         }
         c = next_sample(bytes, c);
     }

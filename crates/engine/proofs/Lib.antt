@@ -1,7 +1,5 @@
 -- The laws of the public calls' definitions.
 pub mod HoldLaws
-pub mod MeasureLaws
-pub mod JudgeLaws
 pub mod ReduceLaws
 pub mod ReportLaws
 pub mod ExpandLaws

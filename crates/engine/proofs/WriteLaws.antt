@@ -1,9 +1,8 @@
 -- Laws of the rows of write, and its contract from the writer's.
 -- Assumes nothing.
-use mathlib.Core.Path.{_≡_, refl, sym, subst}
+use mathlib.Core.Path.{_≡_, sym, subst}
 use mathlib.Core.List.{List}
 use Prim.Native.Nat.{ℕ, _-_, _≤_, _<_}
-use native.Mathlib.Omega.{arith}
 use lib.IntN.{ℤ}
 use lib.ListN.{length}
 use borrow.Author.Tests.{le-leb, lt-leb}
@@ -13,33 +12,22 @@ use Rattle.refusal.specs.declared.Checked.{Checked}
 use Rattle.refusal.specs.declared.Checked.the-variants.{Fine, Refused}
 use Rattle.refusal.proofs.TableLaws.{then-fine}
 use Rattle.limits.specs.declared.Limits.{Limits}
-use Rattle.tolerance.specs.declared.Meaning.{Meaning}
-use Rattle.tolerance.specs.declared.Meaning.the-variants.{Exact, NotAllowed}
-use Rattle.tolerance.specs.Meaning.{meaning, Held}
-use Rattle.tolerance.proofs.Meanings.{exact-held}
+use Rattle.tolerance.specs.Meaning.{HeldParts}
 use Rattle.trace.specs.declared.Criterion.{Criterion}
-use Rattle.trace.specs.Link.{ratioOf}
 use Rattle.trace.specs.Trace.{traceRows}
 use Rattle.proposed.specs.Proposed.{listRow, firstInvalid}
 use Rattle.proposed.proofs.ProposedLaws.{row-kept}
 use Rattle.format.specs.Format.{encode}
 use Rattle.writer.specs.Writing.{Kept, selected, writeRow, WrittenAt, WriteDeclined}
-use Rattle.limits.specs.Prepare.{toleranceRow, commonRows, criterionIn, criterionOf, ReadyAt}
-use Rattle.engine.specs.Judge.{judgeRows}
+use Rattle.limits.specs.Prepare.{commonRows, criterionOf, partsOf, ReadyAt}
+use Rattle.limits.proofs.PrepareLaws.{limits-held}
+use Rattle.judging.specs.Judge.{judgeRows}
 use Rattle.engine.specs.Write.{contentOf, writeRows, Recorded, ListReady}
 
 -- an allowed tolerance is held in lowest terms
-row-held : (t : Limits) → toleranceRow (meaning (t .tolerance)) ≡ Fine → Held (ratioOf (criterionOf t))
-unfolding criterionOf
-row-held t e = go (meaning (t .tolerance)) refl e
-  where
-    go : (m : Meaning) → meaning (t .tolerance) ≡ m → toleranceRow m ≡ Fine → Held (ratioOf (criterionIn (t .gap) m))
-    go (Exact r) q e = exact-held (t .tolerance) r q
-    go NotAllowed q e = let z : _≡_ {A = ℕ} 0 1 = cc in absurd (omega arith)
-
-pub common-held : (ts : List ℕ) (vs : List ℤ) (t : Limits) → commonRows ts vs t ≡ Fine → Held (ratioOf (criterionOf t))
+pub common-held : (ts : List ℕ) (vs : List ℤ) (t : Limits) → commonRows ts vs t ≡ Fine → HeldParts (partsOf (criterionOf t))
 unfolding commonRows
-common-held ts vs t e = row-held t (then-fine (toleranceRow (meaning (t .tolerance))) _ (then-fine (traceRows 4096 ts vs) _ e .1) .0)
+common-held ts vs t e = limits-held t (then-fine (traceRows 4096 ts vs) _ e .1)
 
 module _ (ts : List ℕ) (vs : List ℤ) (l : List ℕ) (t : Limits) (m place : ℕ) where
   pub common-refuses : {x : Refusal} → commonRows ts vs t ≡ Refused x → writeRows ts vs l t m place ≡ Refused x
@@ -60,10 +48,10 @@ module _ (ts : List ℕ) (vs : List ℤ) (l : List ℕ) (t : Limits) (m place : 
     links-pass {k} e le w = rw (a, b, ← e, le-leb (length l - 1) k le) w
 
 -- a kept list of a ready call, as the writer asks for it
-pub kept-at : {ts : List ℕ} {vs : List ℤ} {l : List ℕ} {t : Limits} {c : Criterion} → ListReady ts vs l t c → Kept ts vs l × Held (ratioOf c)
+pub kept-at : {ts : List ℕ} {vs : List ℤ} {l : List ℕ} {t : Limits} {c : Criterion} → ListReady ts vs l t c → Kept ts vs l × HeldParts (partsOf c)
 kept-at {ts} {vs} {l} {t} {c} r = (
   record { trace = r .ready .trace; list = r .kept },
-  subst (λ (x : Criterion). Held (ratioOf x)) (sym (r .ready .is)) (common-held ts vs t (r .ready .rows)),
+  subst (λ (x : Criterion). HeldParts (partsOf x)) (sym (r .ready .is)) (common-held ts vs t (r .ready .rows)),
 )
 
 pub list-ready : {ts : List ℕ} {vs : List ℤ} {l : List ℕ} {t : Limits} {c : Criterion} → ReadyAt ts vs t c → listRow (length ts) l ≡ Fine → ListReady ts vs l t c
@@ -77,12 +65,12 @@ module _ {ts : List ℕ} {vs : List ℤ} {l : List ℕ} {t : Limits} {c : Criter
     pub link-declines : k < length l - 1 → writeRows ts vs l t (length o) place ≡ Refused (Link k)
     link-declines lt = link-refuses ts vs l t (length o) place (r .ready .rows) (r .list) (at-tolerance e) lt
 
-    pub recorded : {n : ℕ} {o′ : List ℕ} → length l - 1 ≤ k → WrittenAt (selected (ratioOf c) ts vs l) o place n o′ → Recorded ts vs l t o place n o′
+    pub recorded : {n : ℕ} {o′ : List ℕ} → length l - 1 ≤ k → WrittenAt (selected (partsOf c) ts vs l) o place n o′ → Recorded ts vs l t o place n o′
     recorded {n} {o′} le w =
-        let v = subst (λ (x : Criterion). WrittenAt (selected (ratioOf x) ts vs l) o place n o′) (r .ready .is) w in
+        let v = subst (λ (x : Criterion). WrittenAt (selected (partsOf x) ts vs l) o place n o′) (r .ready .is) w in
         record { rows = links-pass ts vs l t (length o) place (r .ready .rows) (r .list) (at-tolerance e) le (v .rows); count = v .count; content = v .content; accepted = v .accepted }
 
-    pub declined : {x : Refusal} {o′ : List ℕ} → length l - 1 ≤ k → WriteDeclined (selected (ratioOf c) ts vs l) o place x o′ → (writeRows ts vs l t (length o) place ≡ Refused x) × (o′ ≡ o)
+    pub declined : {x : Refusal} {o′ : List ℕ} → length l - 1 ≤ k → WriteDeclined (selected (partsOf c) ts vs l) o place x o′ → (writeRows ts vs l t (length o) place ≡ Refused x) × (o′ ≡ o)
     declined {x} {o′} le w =
-        let v = subst (λ (y : Criterion). WriteDeclined (selected (ratioOf y) ts vs l) o place x o′) (r .ready .is) w in
+        let v = subst (λ (y : Criterion). WriteDeclined (selected (partsOf y) ts vs l) o place x o′) (r .ready .is) w in
         (links-pass ts vs l t (length o) place (r .ready .rows) (r .list) (at-tolerance e) le (v .rows), v .content)

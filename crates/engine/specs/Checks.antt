@@ -1,5 +1,5 @@
 -- The outcomes of the checks of lent lists (document 01, "When the engine declines", rows 1, 2 and 3; document 02, "Whole-crate report", row 11).
---   ownRows        the first of the rows 1, 2, 3 that applies to ticks and values
+--   ownRows        the first of the rows 1, 2, 3 that applies to ticks and values, from the crate `judging`
 --   TraceOutcome   the contract of `check_trace`: that row; where none applies, the two lists are a trace
 --   CrateOutcome   the contract of `check_crate`: row 11; where it does not apply, the lengths divide the two lists
 -- Assumes nothing.
@@ -10,11 +10,8 @@ use lib.IntN.{ℤ}
 use Rattle.refusal.specs.declared.Checked.{Checked}
 use Rattle.refusal.specs.declared.Checked.the-variants.{Fine}
 use Rattle.channels.specs.Channels.{crateRow, Divided}
-use Rattle.trace.specs.Trace.{Trace, traceRows}
-
--- a trace has at most 4,096 samples
-abbrev pub ownRows : List ℕ → List ℤ → Checked
-ownRows ts vs = traceRows 4096 ts vs
+use Rattle.trace.specs.Trace.{Trace}
+pub use Rattle.judging.specs.Measure.{ownRows}
 
 pub record TraceOutcome (ts : List ℕ) (vs : List ℤ) (r : Checked) : Type 0 where
   pub is : r ≡ ownRows ts vs

@@ -1,8 +1,6 @@
 -- The outcomes of the public calls.
 pub mod Checks
 pub mod Hold
-pub mod Measure
-pub mod Judge
 pub mod Reduce
 pub mod Report
 pub mod Minimum

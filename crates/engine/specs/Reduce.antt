@@ -32,7 +32,8 @@ pub record GreedyList (ts : List ℕ) (vs : List ℤ) (t : Limits) (l : List ℕ
   pub kept : KeptList (length ts - 1) l
   pub within : AllValid (okOf ts vs t) l
   pub maximal : MaximalStops (okOf ts vs t) (length ts - 1) l
-  -- demand 3: every kept list of this trace that obeys the gap limit and is within half the tolerance, p over 2q, has at least as many samples
+  -- demand 3: every kept list of this trace that obeys the gap limit and is within parts a and b, fractions whose sum is at most each part of the tolerance,
+  -- has at least as many samples; so has every one within half of one tolerance for both (trace: proofs/Half, `half-tolerance`)
   pub size : NoLonger ts vs (criterionOf t) (length l)
 
 -- walk kept n samples, and the lent list o became o′

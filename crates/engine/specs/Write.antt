@@ -20,17 +20,16 @@ use Rattle.refusal.specs.Table.{placed, _thenCheck_}
 use Rattle.kept.specs.Kept.{KeptList}
 use Rattle.limits.specs.declared.Limits.{Limits}
 use Rattle.trace.specs.declared.Criterion.{Criterion}
-use Rattle.trace.specs.Link.{ratioOf}
 use Rattle.proposed.specs.Proposed.{listRow, firstInvalid}
 use Rattle.format.specs.Format.{Content, encode, Accepted}
 use Rattle.writer.specs.Writing.{selected, writeRow}
 use Rattle.engine.specs.declared.Written.{Written}
 use Rattle.engine.specs.declared.Written.the-variants.{Count, Refused as Declined}
-use Rattle.limits.specs.Prepare.{criterionOf, ReadyAt}
-use Rattle.engine.specs.Judge.{judgeRows}
+use Rattle.limits.specs.Prepare.{criterionOf, partsOf, ReadyAt}
+use Rattle.judging.specs.Judge.{judgeRows}
 
 abbrev pub contentOf : List ℕ → List ℤ → List ℕ → Limits → Content
-contentOf ts vs l t = selected (ratioOf (criterionOf t)) ts vs l
+contentOf ts vs l t = selected (partsOf (criterionOf t)) ts vs l
 
 -- 7: an invalid link, at the position of the first
 abbrev pub linkRow : List ℕ → List ℤ → List ℕ → Limits → Checked

@@ -1,27 +1,13 @@
 // The public calls. None has a requirement: each states its outcome for every input, and declines by the table of document 01.
 use closest::Found;
-use measures::Measure;
-use ratio::Ratio;
 use reduction::Galloped;
 use refusal::Checked;
 use refusal::Refusal;
+use tolerance::Parts;
 
-// What `hold` answers: the tolerance in lowest terms, or a refusal.
+// What `hold` answers: the parts of the tolerance in lowest terms, or a refusal.
 pub enum Holding {
-    Held(Ratio),
-    Refused(Refusal),
-}
-
-// What `measure` answers: the measure of the link, or a refusal.
-pub enum Measured {
-    Link(Measure),
-    Refused(Refusal),
-}
-
-// What `judge` answers: every link is valid; or not, with the position of the first that is not and where it strays; or a refusal.
-pub enum Verdict {
-    Yes,
-    No(usize, Measure),
+    Held(Parts),
     Refused(Refusal),
 }
 

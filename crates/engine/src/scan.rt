@@ -13,10 +13,8 @@ pub fn scan(ticks: &[u32], values: &[i16], t: Tolerances, gap: u32, out: &mut [u
     let checked = ready.checked;
     match checked {
         Checked::Fine => {
-            let m = t.count;
-            let ps = ready.ps;
-            let qs = ready.qs;
-            let kept = scans::passes::scan(ticks, values, &ps[..m], &qs[..m], gap, out);
+            let parts = ready.parts;
+            let kept = scans::passes::scan(ticks, values, t.count, &parts, gap, out);
             let counts = kept.counts;
             Scanned {
                 checked: Checked::Fine,

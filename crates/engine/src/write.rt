@@ -5,9 +5,9 @@ use crate::Written;
 use limits::Limits;
 use limits::Ready;
 use limits::prepare;
-use ratio::Ratio;
 use refusal::Checked;
 use refusal::Refusal;
+use tolerance::Parts;
 use trace::Criterion;
 use writer::Answer;
 
@@ -28,7 +28,9 @@ fn write_list(
     if k + 1 < list.len() {
         return Written::Refused(Refusal::Link(k));
     }
-    let held = Ratio { p: c.p, q: c.q };
+    let up = c.up;
+    let down = c.down;
+    let held = Parts { up, down };
     let a = writer::write(ticks, values, list, held, buffer, place);
     match a {
         Answer::Written(n) => Written::Count(n),

@@ -21,19 +21,20 @@ use Rattle.trace.specs.declared.Criterion.{Criterion}
 use Rattle.trace.specs.Level.{level}
 use Rattle.trace.specs.Trace.{traceRows}
 use Rattle.trace.specs.declared.Side.the-variants.{Above}
-use Rattle.trace.specs.Link.{deviation, within, allFrom, hole, obeys, allWithin, valid, criterion, greatest, farthest, linkError}
+use Rattle.tolerance.specs.Meaning.{agree}
+use Rattle.trace.specs.Link.{deviation, above, below, within, allFrom, hole, obeys, allWithin, valid, criterion, greatest, farthest, linkError}
 use Rattle.measures.specs.Measure.{worstSample, faultOf}
 use Rattle.codes.specs.Code.{codeValue, codeValues}
 use Rattle.format.specs.Number.{bytesOnto}
-use Rattle.format.specs.Format.{stepsOnto, samplesOnto, encode}
+use Rattle.format.specs.Format.{stepsOnto, samplesOnto, toleranceCommand, encode}
 use Rattle.reduction.specs.Walking.{walkList}
 use Rattle.reduction.specs.Galloping.{gallopList, gallopTotal}
 use Rattle.shortest.specs.Shortest.{minimumList}
 use Rattle.closest.specs.Closest.{leastError}
 use Rattle.proposed.specs.Proposed.{badAt, listRow, firstInvalid}
-use Rattle.engine.specs.declared.Verdict.the-variants.{Yes, No}
+use Rattle.judging.specs.declared.Verdict.the-variants.{Yes, No}
 use Rattle.limits.specs.Prepare.{unlimited, commonRows, criterionOf}
-use Rattle.engine.specs.Judge.{judgeRows, listVerdict, judgeOf}
+use Rattle.judging.specs.Judge.{judgeRows, listVerdict, judgeOf}
 use Rattle.engine.specs.Write.{contentOf}
 
 -- ticks 0 to 4
@@ -50,37 +51,37 @@ abbrev teeth : List ℤ
 teeth = pos 0 ∷ pos 3 ∷ pos 0 ∷ pos 3 ∷ pos 0 ∷ []
 
 walk-teeth-2 : walkList five teeth (at 2) ≡ 0 ∷ 1 ∷ 2 ∷ 3 ∷ 4 ∷ []
-unfolding walkOf walkFrom stops criterionOf valid obeys hole allWithin allFrom within deviation gcd euclid
+unfolding walkOf walkFrom stops criterionOf valid obeys hole allWithin allFrom within above below deviation gcd euclid
 walk-teeth-2 = refl
 
 gallop-teeth-2 : gallopList five teeth (at 2) ≡ 0 ∷ 1 ∷ 2 ∷ 3 ∷ 4 ∷ []
-unfolding gallopOf gallopSearch probeOf searchBy doubling bisection stops criterionOf valid obeys hole allWithin allFrom within deviation gcd euclid
+unfolding gallopOf gallopSearch probeOf searchBy doubling bisection stops criterionOf valid obeys hole allWithin allFrom within above below deviation gcd euclid
 gallop-teeth-2 = refl
 
 probes-teeth-2 : gallopTotal five teeth (at 2) ≡ 4
-unfolding gallopProbes sumFrom gallopOf gallopSearch probeOf searchBy doubling bisection stops criterionOf valid obeys hole allWithin allFrom within deviation gcd euclid
+unfolding gallopProbes sumFrom gallopOf gallopSearch probeOf searchBy doubling bisection stops criterionOf valid obeys hole allWithin allFrom within above below deviation gcd euclid
 probes-teeth-2 = refl
 
 minimum-teeth-2 : minimumList five teeth (at 2) ≡ 0 ∷ 3 ∷ 4 ∷ []
-unfolding minimumOf nextOf linksOf linksIn bestStop stops criterionOf valid obeys hole allWithin allFrom within deviation gcd euclid
+unfolding minimumOf nextOf linksOf linksIn bestStop stops criterionOf valid obeys hole allWithin allFrom within above below deviation gcd euclid
 minimum-teeth-2 = refl
 
 -- ---- the same, tolerance 3: all keep 0 4; gallop 5 probes
 
 minimum-teeth-3 : minimumList five teeth (at 3) ≡ 0 ∷ 4 ∷ []
-unfolding minimumOf nextOf linksOf linksIn bestStop stops criterionOf valid obeys hole allWithin allFrom within deviation gcd euclid
+unfolding minimumOf nextOf linksOf linksIn bestStop stops criterionOf valid obeys hole allWithin allFrom within above below deviation gcd euclid
 minimum-teeth-3 = refl
 
 walk-teeth-3 : walkList five teeth (at 3) ≡ 0 ∷ 4 ∷ []
-unfolding walkOf walkFrom stops criterionOf valid obeys hole allWithin allFrom within deviation gcd euclid
+unfolding walkOf walkFrom stops criterionOf valid obeys hole allWithin allFrom within above below deviation gcd euclid
 walk-teeth-3 = refl
 
 gallop-teeth-3 : gallopList five teeth (at 3) ≡ 0 ∷ 4 ∷ []
-unfolding gallopOf gallopSearch probeOf searchBy doubling bisection stops criterionOf valid obeys hole allWithin allFrom within deviation gcd euclid
+unfolding gallopOf gallopSearch probeOf searchBy doubling bisection stops criterionOf valid obeys hole allWithin allFrom within above below deviation gcd euclid
 gallop-teeth-3 = refl
 
 probes-teeth-3 : gallopTotal five teeth (at 3) ≡ 5
-unfolding gallopProbes sumFrom gallopOf gallopSearch probeOf searchBy doubling bisection stops criterionOf valid obeys hole allWithin allFrom within deviation gcd euclid
+unfolding gallopProbes sumFrom gallopOf gallopSearch probeOf searchBy doubling bisection stops criterionOf valid obeys hole allWithin allFrom within above below deviation gcd euclid
 probes-teeth-3 = refl
 
 -- ---- the same, least for m = 2 is 3/1, for m = 3 and 4 is 2/1 with 0 3 4, for m = 5 is 0/1
@@ -115,15 +116,15 @@ abbrev wave : List ℤ
 wave = pos 0 ∷ pos 2 ∷ pos 0 ∷ negsuc 1 ∷ pos 0 ∷ []
 
 walk-wave : walkList five wave (at 2) ≡ 0 ∷ 2 ∷ 4 ∷ []
-unfolding walkOf walkFrom stops criterionOf valid obeys hole allWithin allFrom within deviation gcd euclid
+unfolding walkOf walkFrom stops criterionOf valid obeys hole allWithin allFrom within above below deviation gcd euclid
 walk-wave = refl
 
 gallop-wave : gallopList five wave (at 2) ≡ 0 ∷ 4 ∷ []
-unfolding gallopOf gallopSearch probeOf searchBy doubling bisection stops criterionOf valid obeys hole allWithin allFrom within deviation gcd euclid
+unfolding gallopOf gallopSearch probeOf searchBy doubling bisection stops criterionOf valid obeys hole allWithin allFrom within above below deviation gcd euclid
 gallop-wave = refl
 
 probes-wave : gallopTotal five wave (at 2) ≡ 5
-unfolding gallopProbes sumFrom gallopOf gallopSearch probeOf searchBy doubling bisection stops criterionOf valid obeys hole allWithin allFrom within deviation gcd euclid
+unfolding gallopProbes sumFrom gallopOf gallopSearch probeOf searchBy doubling bisection stops criterionOf valid obeys hole allWithin allFrom within above below deviation gcd euclid
 probes-wave = refl
 
 -- ---- ticks 0 1 3, values 0 1 1: link 0 to 2 has error 2/3; valid at 4/6, invalid at 665/1000
@@ -139,20 +140,20 @@ unfolding linkError farthest greatest deviation gcd euclid
 slope-error = refl
 
 slope-valid : valid slopeTicks slopeValues (criterionOf (unlimited (Ratio 4 6))) 0 2 ≡ true
-unfolding criterionOf valid obeys hole allWithin allFrom within deviation gcd euclid
+unfolding criterionOf valid obeys hole allWithin allFrom within above below deviation gcd euclid
 slope-valid = refl
 
 slope-invalid : valid slopeTicks slopeValues (criterionOf (unlimited (Ratio 665 1000))) 0 2 ≡ false
-unfolding criterionOf valid obeys hole allWithin allFrom within deviation gcd euclid
+unfolding criterionOf valid obeys hole allWithin allFrom within above below deviation gcd euclid
 slope-invalid = refl
 
 -- so judge passes the list 0 2 at the one, and names link 0 and its sample 1 at the other
 slope-passed : judgeOf slopeTicks slopeValues (0 ∷ 2 ∷ []) (unlimited (Ratio 4 6)) ≡ Yes
-unfolding judgeOf judgeRows commonRows criterionOf listVerdict traceRows listRow badAt firstInvalid first firstOf valid obeys hole allWithin allFrom within deviation gcd euclid
+unfolding judgeOf judgeRows commonRows criterionOf listVerdict traceRows listRow badAt firstInvalid first firstOf valid obeys hole allWithin allFrom within above below deviation gcd euclid
 slope-passed = refl
 
 slope-named : judgeOf slopeTicks slopeValues (0 ∷ 2 ∷ []) (unlimited (Ratio 665 1000)) ≡ No 0 (record { error = over 2 3; sample = 1; side = Above })
-unfolding judgeOf judgeRows commonRows criterionOf listVerdict traceRows listRow badAt firstInvalid faultOf worstSample first firstOf valid obeys hole allWithin allFrom within linkError farthest greatest deviation gcd euclid
+unfolding judgeOf judgeRows commonRows criterionOf listVerdict traceRows listRow badAt firstInvalid faultOf worstSample first firstOf valid obeys hole allWithin allFrom within above below linkError farthest greatest deviation gcd euclid
 slope-named = refl
 
 -- ---- ticks 0 1048575 pass; 0 1048576 is 3 at 1; 5 5 is 2 at 1
@@ -183,7 +184,7 @@ tick-not-above = refl
 
 slope-record : encode (contentOf slopeTicks slopeValues (0 ∷ 2 ∷ []) (unlimited (Ratio 2 3)))
     ≡ 0x54 ∷ 0 ∷ 0 ∷ 0 ∷ 0 ∷ 2 ∷ 0 ∷ 0 ∷ 3 ∷ 0x41 ∷ 0 ∷ 0 ∷ 0 ∷ 0 ∷ 0 ∷ 0 ∷ 0x53 ∷ 3 ∷ 1 ∷ 0x45 ∷ 0 ∷ 2 ∷ []
-unfolding encode samplesOnto stepsOnto bytesOnto criterionOf gcd euclid
+unfolding encode toleranceCommand agree samplesOnto stepsOnto bytesOnto criterionOf gcd euclid
 slope-record = refl
 
 -- ---- codes 31, 32, 63, 64, 255 give 31, 32, 94, 96, 8032

@@ -4,5 +4,6 @@ pub mod Requests
 pub mod Links
 pub mod Sums
 pub mod Records
+pub mod Parts
 pub mod Scans
 pub mod Views

@@ -23,7 +23,7 @@ use Rattle.refusal.specs.Table.{NotAllowedTolerance as Tolerance}
 use Rattle.tolerance.specs.declared.Tolerance.the-variants.{Ratio}
 use Rattle.trace.specs.declared.Side.the-variants.{On, Above, Below, Gap as OverGap}
 use Rattle.trace.specs.Trace.{traceRows}
-use Rattle.trace.specs.Link.{deviation, within, allFrom, hole, obeys, allWithin, linksEnd, valid, greatest, farthest, linkError, listError, half}
+use Rattle.trace.specs.Link.{deviation, above, below, within, allFrom, hole, obeys, allWithin, linksEnd, valid, greatest, farthest, linkError, listError, limited, half}
 use Rattle.measures.specs.Measure.{worstSample, measureOf, faultOf}
 use Rattle.channels.specs.Channels.{crateRow}
 use Rattle.reduction.specs.Walking.{walkList}
@@ -33,11 +33,11 @@ use Rattle.closest.specs.Closest.{obeyingList, leastError}
 use Rattle.allowance.specs.Rows.{allowedRows, leastRows}
 use Rattle.proposed.specs.Proposed.{badAt, listRow, endsRow, firstInvalid, firstWorst, listSample, listStray}
 use Rattle.limits.specs.declared.Limits.{Limits}
-use Rattle.engine.specs.declared.Measured.the-variants.{Link as Measured}
-use Rattle.engine.specs.declared.Verdict.the-variants.{No}
+use Rattle.judging.specs.declared.Measured.the-variants.{Link as Measured}
+use Rattle.judging.specs.declared.Verdict.the-variants.{No}
 use Rattle.limits.specs.Prepare.{commonRows, criterionOf, outputRows}
-use Rattle.engine.specs.Measure.{measureRows, measuredBy}
-use Rattle.engine.specs.Judge.{judgeRows, listVerdict, judgeOf}
+use Rattle.judging.specs.Measure.{measureRows, measuredBy}
+use Rattle.judging.specs.Judge.{judgeRows, listVerdict, judgeOf}
 use Rattle.engine.specs.Write.{writeRows}
 use Rattle.engine.specs.Report.{crateRows}
 
@@ -53,19 +53,19 @@ abbrev under : ℕ → Limits
 under g = record { tolerance = Ratio 0 1; gap = g }
 
 holed-walk-7 : walkList holedTicks level (criterionOf (under 7)) ≡ 0 ∷ 2 ∷ 3 ∷ 5 ∷ []
-unfolding walkOf walkFrom stops criterionOf valid obeys hole allWithin allFrom within deviation gcd euclid
+unfolding walkOf walkFrom stops criterionOf valid obeys hole allWithin allFrom within above below deviation gcd euclid
 holed-walk-7 = refl
 
 holed-gallop-7 : gallopList holedTicks level (criterionOf (under 7)) ≡ 0 ∷ 2 ∷ 3 ∷ 5 ∷ []
-unfolding gallopOf gallopSearch probeOf searchBy doubling bisection stops criterionOf valid obeys hole allWithin allFrom within deviation gcd euclid
+unfolding gallopOf gallopSearch probeOf searchBy doubling bisection stops criterionOf valid obeys hole allWithin allFrom within above below deviation gcd euclid
 holed-gallop-7 = refl
 
 holed-probes-7 : gallopTotal holedTicks level (criterionOf (under 7)) ≡ 7
-unfolding gallopProbes sumFrom gallopOf gallopSearch probeOf searchBy doubling bisection stops criterionOf valid obeys hole allWithin allFrom within deviation gcd euclid
+unfolding gallopProbes sumFrom gallopOf gallopSearch probeOf searchBy doubling bisection stops criterionOf valid obeys hole allWithin allFrom within above below deviation gcd euclid
 holed-probes-7 = refl
 
 holed-minimum-7 : minimumList holedTicks level (criterionOf (under 7)) ≡ 0 ∷ 2 ∷ 3 ∷ 5 ∷ []
-unfolding minimumOf nextOf linksOf linksIn bestStop stops criterionOf valid obeys hole allWithin allFrom within deviation gcd euclid
+unfolding minimumOf nextOf linksOf linksIn bestStop stops criterionOf valid obeys hole allWithin allFrom within above below deviation gcd euclid
 holed-minimum-7 = refl
 
 -- least with m = 3 is 16, with m = 4 it is 0/1
@@ -82,28 +82,28 @@ unfolding leastOf obeys hole allFrom leastFrom leastOver lesser greater linkErro
 holed-least-4 = refl
 
 holed-walk-8 : walkList holedTicks level (criterionOf (under 8)) ≡ 0 ∷ 5 ∷ []
-unfolding walkOf walkFrom stops criterionOf valid obeys hole allWithin allFrom within deviation gcd euclid
+unfolding walkOf walkFrom stops criterionOf valid obeys hole allWithin allFrom within above below deviation gcd euclid
 holed-walk-8 = refl
 
 holed-gallop-8 : gallopList holedTicks level (criterionOf (under 8)) ≡ 0 ∷ 5 ∷ []
-unfolding gallopOf gallopSearch probeOf searchBy doubling bisection stops criterionOf valid obeys hole allWithin allFrom within deviation gcd euclid
+unfolding gallopOf gallopSearch probeOf searchBy doubling bisection stops criterionOf valid obeys hole allWithin allFrom within above below deviation gcd euclid
 holed-gallop-8 = refl
 
 holed-probes-8 : gallopTotal holedTicks level (criterionOf (under 8)) ≡ 5
-unfolding gallopProbes sumFrom gallopOf gallopSearch probeOf searchBy doubling bisection stops criterionOf valid obeys hole allWithin allFrom within deviation gcd euclid
+unfolding gallopProbes sumFrom gallopOf gallopSearch probeOf searchBy doubling bisection stops criterionOf valid obeys hole allWithin allFrom within above below deviation gcd euclid
 holed-probes-8 = refl
 
 holed-minimum-8 : minimumList holedTicks level (criterionOf (under 8)) ≡ 0 ∷ 5 ∷ []
-unfolding minimumOf nextOf linksOf linksIn bestStop stops criterionOf valid obeys hole allWithin allFrom within deviation gcd euclid
+unfolding minimumOf nextOf linksOf linksIn bestStop stops criterionOf valid obeys hole allWithin allFrom within above below deviation gcd euclid
 holed-minimum-8 = refl
 
 -- the list 0 5 crosses a hole of 7: judge's link 0, with an error of 0 and the sample before the hole, and the writer's cause 7
 holed-judged : judgeOf holedTicks level (0 ∷ 5 ∷ []) (under 7) ≡ No 0 (record { error = over 0 1; sample = 2; side = OverGap })
-unfolding judgeOf judgeRows commonRows criterionOf listVerdict traceRows listRow badAt firstInvalid faultOf first firstOf valid obeys hole allWithin allFrom within linkError farthest greatest deviation gcd euclid
+unfolding judgeOf judgeRows commonRows criterionOf listVerdict traceRows listRow badAt firstInvalid faultOf first firstOf valid obeys hole allWithin allFrom within above below linkError farthest greatest deviation gcd euclid
 holed-judged = refl
 
 holed-written : writeRows holedTicks level (0 ∷ 2 ∷ 5 ∷ []) (under 7) 99 0 ≡ Refused (Link 1)
-unfolding writeRows judgeRows commonRows criterionOf traceRows listRow badAt firstInvalid first firstOf valid obeys hole allWithin allFrom within deviation gcd euclid
+unfolding writeRows judgeRows commonRows criterionOf traceRows listRow badAt firstInvalid first firstOf valid obeys hole allWithin allFrom within above below deviation gcd euclid
 holed-written = refl
 
 -- 4 before 15 before 6 and 10; in least 15 before 5 before 16 before 10; in a report 11 before 4 before 15 before 10
@@ -150,22 +150,22 @@ abbrev sparse : List ℤ
 sparse = pos 0 ∷ pos 0 ∷ pos 0 ∷ []
 
 sparse-walk : walkList sparseTicks sparse (criterionOf (under 1)) ≡ 0 ∷ 1 ∷ 2 ∷ []
-unfolding walkOf walkFrom stops criterionOf valid obeys hole allWithin allFrom within deviation gcd euclid
+unfolding walkOf walkFrom stops criterionOf valid obeys hole allWithin allFrom within above below deviation gcd euclid
 sparse-walk = refl
 
 sparse-gallop : gallopList sparseTicks sparse (criterionOf (under 1)) ≡ 0 ∷ 1 ∷ 2 ∷ []
-unfolding gallopOf gallopSearch probeOf searchBy doubling bisection stops criterionOf valid obeys hole allWithin allFrom within deviation gcd euclid
+unfolding gallopOf gallopSearch probeOf searchBy doubling bisection stops criterionOf valid obeys hole allWithin allFrom within above below deviation gcd euclid
 sparse-gallop = refl
 
 sparse-error : listError sparseTicks sparse (0 ∷ 2 ∷ []) ≡ over 0 1
 unfolding errorFrom greater linkError farthest greatest deviation gcd euclid
 sparse-error = refl
 
-sparse-within : AllValid (allWithin sparseTicks sparse (half (criterionOf (under 1)))) (0 ∷ 2 ∷ [])
-unfolding criterionOf allWithin allFrom within deviation gcd euclid
+sparse-within : AllValid (allWithin sparseTicks sparse (limited 1 (half (over 0 1)))) (0 ∷ 2 ∷ [])
+unfolding allWithin allFrom within above below deviation
 sparse-within = (refl, tt)
 
-not-of-all-lists : ((h : List ℕ) → KeptList 2 h → AllValid (allWithin sparseTicks sparse (half (criterionOf (under 1)))) h → length (walkList sparseTicks sparse (criterionOf (under 1))) ≤ length h) → ⊥
+not-of-all-lists : ((h : List ℕ) → KeptList 2 h → AllValid (allWithin sparseTicks sparse (limited 1 (half (over 0 1)))) h → length (walkList sparseTicks sparse (criterionOf (under 1))) ≤ length h) → ⊥
 not-of-all-lists no-longer =
     absurd (omega (arith, ap length sparse-walk, no-longer (0 ∷ 2 ∷ []) (record { spans = (refl, refl); rises = (omega arith, tt) }) sparse-within))
 
@@ -218,7 +218,7 @@ trace-before-link = refl
 
 -- a link that crosses a hole and is not within the tolerance has its plain measure
 both-faults : judgeOf holedTicks (pos 0 ∷ pos 0 ∷ pos 0 ∷ pos 0 ∷ pos 9 ∷ pos 0 ∷ []) (0 ∷ 5 ∷ []) (under 7) ≡ No 0 (record { error = over 9 1; sample = 4; side = Above })
-unfolding judgeOf judgeRows commonRows criterionOf listVerdict traceRows listRow badAt firstInvalid faultOf worstSample first firstOf valid obeys hole allWithin allFrom within linkError farthest greatest deviation gcd euclid
+unfolding judgeOf judgeRows commonRows criterionOf listVerdict traceRows listRow badAt firstInvalid faultOf worstSample first firstOf valid obeys hole allWithin allFrom within above below linkError farthest greatest deviation gcd euclid
 both-faults = refl
 
 -- of two links with one error the first, and the worst one wherever it is

@@ -7,19 +7,20 @@ use Prim.Native.Nat.{ℕ}
 use native.Mathlib.Omega.{arith}
 use lib.IntN.{ℤ, pos}
 use lib.ListN.{take, set}
-use Rattle.ratio.specs.declared.Ratio.{Ratio as Fraction}
 use Rattle.ratio.specs.Gcd.{gcd, euclid}
 use Rattle.kept.specs.Stops.{stops}
 use Rattle.kept.specs.Walk.{walkFrom, walkOf}
 use Rattle.refusal.specs.declared.Refusal.the-variants.{Record, SecondRecord}
 use Rattle.refusal.specs.declared.Checked.the-variants.{Fine, Refused}
 use Rattle.refusal.specs.Table.{numberOf, returnedOf}
+use Rattle.tolerance.specs.declared.Parts.{Parts}
 use Rattle.tolerance.specs.declared.Tolerance.{Tolerance}
 use Rattle.tolerance.specs.declared.Tolerance.the-variants.{Ratio}
-use Rattle.trace.specs.Link.{deviation, within, allFrom, hole, obeys, allWithin, valid}
+use Rattle.tolerance.specs.Meaning.{agree}
+use Rattle.trace.specs.Link.{deviation, above, below, within, allFrom, hole, obeys, allWithin, valid}
 use Rattle.format.specs.Number.{bytesOnto, numberFrom, valueOf}
 use Rattle.format.specs.Command.{commandOf}
-use Rattle.format.specs.Format.{Content, SameRecord, isHeld, shortStep, longStep, endStep, steps, parse, stepsOnto, samplesOnto, encode}
+use Rattle.format.specs.Format.{Content, SameRecord, isHeld, shortStep, longStep, endStep, steps, parse, stepsOnto, samplesOnto, toleranceCommand, encode}
 use Rattle.reduction.specs.Walking.{walkList}
 use Rattle.reader.specs.declared.Comparison.{Comparison}
 use Rattle.reader.specs.declared.Comparison.the-variants.{Same, Different, Refused as NotCompared}
@@ -39,7 +40,7 @@ abbrev ends : List ℕ
 ends = 0 ∷ 4 ∷ []
 
 kept-alike : (walkList fiveTicks low (criterionOf (unlimited (Ratio 2 1))) ≡ ends) × (walkList fiveTicks low (criterionOf (unlimited (Ratio 5 1))) ≡ ends)
-unfolding walkOf walkFrom stops criterionOf valid obeys hole allWithin allFrom within deviation gcd euclid
+unfolding walkOf walkFrom stops criterionOf valid obeys hole allWithin allFrom within above below deviation gcd euclid
 kept-alike = (refl, refl)
 
 -- what their records say, and the records, which differ in one byte
@@ -53,14 +54,14 @@ abbrev at5 : List ℕ
 at5 = set at2 5 5
 
 records : (encode (contentAt (Ratio 2 1)) ≡ at2) × (encode (contentAt (Ratio 5 1)) ≡ at5)
-unfolding encode samplesOnto stepsOnto bytesOnto criterionOf gcd euclid
+unfolding encode toleranceCommand agree samplesOnto stepsOnto bytesOnto criterionOf gcd euclid
 records = (refl, refl)
 
 -- ---- they are not the same, though their samples agree
 
 not-same : SameRecord (contentAt (Ratio 2 1)) (contentAt (Ratio 5 1)) → ⊥
 unfolding criterionOf gcd euclid
-not-same s = omega (arith, ap (λ (r : Fraction). r .p) (s .tolerance))
+not-same s = omega (arith, ap (λ (x : Parts). x .up .p) (s .tolerance))
 
 both-accepted : sameRows at2 at5 ≡ Fine
 unfolding parse steps shortStep longStep endStep commandOf isHeld gcd euclid numberFrom valueOf

@@ -17,9 +17,9 @@ use Rattle.refusal.specs.declared.Refusal.the-variants.{Length, Tick, Room, Cra
 use Rattle.refusal.specs.declared.Checked.the-variants.{Fine, Refused}
 use Rattle.refusal.specs.Table.{NotAllowedTolerance as Tolerance, numberOf, returnedOf}
 use Rattle.tolerance.specs.declared.Tolerance.the-variants.{Ratio}
-use Rattle.tolerance.specs.Meaning.{meaning}
+use Rattle.tolerance.specs.Meaning.{meaning, agree}
 use Rattle.trace.specs.Trace.{traceRows}
-use Rattle.trace.specs.Link.{deviation, within, allFrom, hole, obeys, allWithin, valid, greatest, farthest, linkError}
+use Rattle.trace.specs.Link.{deviation, above, below, within, allFrom, hole, obeys, allWithin, valid, greatest, farthest, linkError}
 use Rattle.measures.specs.Measure.{worstSample}
 use Rattle.codes.specs.RangeTable.{valuesIn, tableRow, expandWithRows}
 use Rattle.channels.specs.Channels.{crateRow}
@@ -48,7 +48,7 @@ unfolding crateRows crateRow
 crate-fine = refl
 
 crate-rows : reportRows crateTicks crateValues crateLengths (unlimited (Ratio 2 1)) ≡ keptRow 5 3 (record { p = 2; q = 1; sample = 1 }) ∷ declinedRow Length ∷ declinedRow (Tick 1) ∷ keptRow 1 1 (record { p = 0; q = 1; sample = 0 }) ∷ []
-unfolding rowOf walkedRow listSample firstWorst worstSample traceRows first firstOf walkOf walkFrom stops errorFrom greater linkError farthest greatest criterionOf valid obeys hole allWithin allFrom within deviation gcd euclid
+unfolding rowOf walkedRow listSample firstWorst worstSample traceRows first firstOf walkOf walkFrom stops errorFrom greater linkError farthest greatest criterionOf valid obeys hole allWithin allFrom within above below deviation gcd euclid
 crate-rows = refl
 
 crate-totals : totalsOf (reportRows crateTicks crateValues crateLengths (unlimited (Ratio 2 1))) ≡ totalled 6 4 (over 2 1)
@@ -135,7 +135,7 @@ abbrev earlier : Run
 earlier = runOf pedestalTicks (pos 10 ∷ pos 12 ∷ pos 10 ∷ pos 12 ∷ negsuc 4 ∷ negsuc 4 ∷ negsuc 4 ∷ negsuc 4 ∷ pos 0 ∷ pos 1 ∷ pos 0 ∷ pos 1 ∷ []) (4 ∷ 4 ∷ 4 ∷ [])
 
 pedestals-fine : compareRows today earlier (Ratio 1 2) 2 3 3 ≡ Passes
-unfolding compareRows runsRow crateRow channelRow traceRows first firstOf
+unfolding compareRows runsRow crateRow channelRow traceRows first firstOf agree gcd euclid
 pedestals-fine = refl
 
 pedestals-moved : movedChannels (heldRatio (meaning (Ratio 1 2))) today earlier ≡ 0 ∷ []
@@ -179,7 +179,7 @@ unfolding compareRows runsRow crateRow
 pedestals-tolerance = refl
 
 pedestals-own : compareRows today faulty (Ratio 1 2) 16 0 0 ≡ Declines (Trace 1 (Tick 2))
-unfolding compareRows runsRow crateRow channelRow traceRows first firstOf
+unfolding compareRows runsRow crateRow channelRow traceRows first firstOf agree gcd euclid
 pedestals-own = refl
 
 pedestals-own-number : (causeNumber (Trace 1 (Tick 2)) ≡ 2) × (causeValue (Trace 1 (Tick 2)) ≡ 1)
@@ -187,12 +187,12 @@ pedestals-own-number = (refl, refl)
 
 -- with ticks that rise, 13 at channel 1, though channel 2 differs too
 pedestals-samples : compareRows today (runOf (0 ∷ 1 ∷ 2 ∷ 3 ∷ 0 ∷ 1 ∷ 2 ∷ 0 ∷ 1 ∷ 2 ∷ 3 ∷ 4 ∷ []) (earlier .values) (4 ∷ 3 ∷ 5 ∷ [])) (Ratio 1 2) 16 0 0 ≡ Declines (Call (Samples 1))
-unfolding compareRows runsRow crateRow channelRow traceRows first firstOf
+unfolding compareRows runsRow crateRow channelRow traceRows first firstOf agree gcd euclid
 pedestals-samples = refl
 
 pedestals-samples-number : (causeNumber (Call (Samples 1)) ≡ 13) × (causeValue (Call (Samples 1)) ≡ 1)
 pedestals-samples-number = (refl, refl)
 
 pedestals-room-last : compareRows today earlier (Ratio 1 2) 16 3 2 ≡ Declines (Call (Room 3))
-unfolding compareRows runsRow crateRow channelRow traceRows first firstOf
+unfolding compareRows runsRow crateRow channelRow traceRows first firstOf agree gcd euclid
 pedestals-room-last = refl

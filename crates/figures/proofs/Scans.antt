@@ -16,7 +16,7 @@ use Rattle.tolerance.specs.declared.Tolerance.the-variants.{Ratio}
 use Rattle.kept.specs.Stops.{stops}
 use Rattle.kept.specs.Walk.{walkFrom, walkOf, walkStart, walkOpen}
 use Rattle.trace.specs.Trace.{traceRows}
-use Rattle.trace.specs.Link.{deviation, within, allFrom, hole, obeys, allWithin, valid}
+use Rattle.trace.specs.Link.{deviation, above, below, within, allFrom, hole, obeys, allWithin, valid}
 use Rattle.limits.specs.Prepare.{criterionOf}
 use Rattle.tolerances.specs.declared.Entry.{Entry}
 use Rattle.tolerances.specs.declared.Tolerances.{Tolerances}
@@ -47,7 +47,7 @@ unfolding scanRows severalRows traceRows badAt first firstOf gcd euclid
 wave-fine = refl
 
 wave-lists : (listAt 0 ≡ 0 ∷ 2 ∷ 4 ∷ []) × (listAt 1 ≡ 0 ∷ 4 ∷ []) × (listAt 2 ≡ 0 ∷ 1 ∷ 3 ∷ 4 ∷ [])
-unfolding walkOf walkFrom stops criterionOf valid obeys hole allWithin allFrom within deviation gcd euclid
+unfolding walkOf walkFrom stops criterionOf valid obeys hole allWithin allFrom within above below deviation gcd euclid
 wave-lists = (refl, refl, refl)
 
 -- ---- after each sample, the answers so far closed with it
@@ -56,7 +56,7 @@ abbrev ok : ℕ → ℕ → Bool
 ok = valid five wave (criterionOf (limitsAt three 1048575 0))
 
 wave-streams : (keptBefore ok 1 ++ (1 ∷ []) ≡ 0 ∷ 1 ∷ []) × (keptBefore ok 2 ++ (2 ∷ []) ≡ 0 ∷ 2 ∷ []) × (keptBefore ok 3 ++ (3 ∷ []) ≡ 0 ∷ 2 ∷ 3 ∷ []) × (keptBefore ok 4 ++ (4 ∷ []) ≡ 0 ∷ 2 ∷ 4 ∷ [])
-unfolding keptBefore walkOpen walkStart criterionOf valid obeys hole allWithin allFrom within deviation gcd euclid
+unfolding keptBefore walkOpen walkStart criterionOf valid obeys hole allWithin allFrom within above below deviation gcd euclid
 wave-streams = (refl, refl, refl, refl)
 
 -- walk keeps sample 0 from the start, so that it would stand twice where it closed the list
@@ -73,7 +73,7 @@ abbrev level : List ℤ
 level = replicate 6 (pos 0)
 
 holed-lists : (walkList holed level (criterionOf (limitsAt three 7 0)) ≡ 0 ∷ 2 ∷ 3 ∷ 5 ∷ []) × (walkList holed level (criterionOf (limitsAt three 7 2)) ≡ 0 ∷ 2 ∷ 3 ∷ 5 ∷ []) × (walkList holed level (criterionOf (limitsAt three 8 0)) ≡ 0 ∷ 5 ∷ [])
-unfolding walkOf walkFrom stops criterionOf valid obeys hole allWithin allFrom within deviation gcd euclid
+unfolding walkOf walkFrom stops criterionOf valid obeys hole allWithin allFrom within above below deviation gcd euclid
 holed-lists = (refl, refl, refl)
 
 -- ---- the rows in their order: 1, 2 and 3, then 19, 4, 15 and 10

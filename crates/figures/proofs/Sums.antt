@@ -18,7 +18,7 @@ use Rattle.ratio.specs.Order.{over, greater}
 use Rattle.kept.specs.Kept.{AllValid}
 use Rattle.kept.specs.Error.{errorFrom}
 use Rattle.trace.specs.Trace.{traceRows}
-use Rattle.trace.specs.Link.{deviation, within, allFrom, hole, obeys, allWithin, valid, greatest, farthest, linkError, listError, limited}
+use Rattle.trace.specs.Link.{deviation, above, below, within, allFrom, hole, obeys, allWithin, valid, greatest, farthest, linkError, listError, limited}
 use Rattle.proposed.specs.Proposed.{badAt, listRow}
 use Rattle.matching.specs.Match.{mismatchRow}
 use Rattle.summed.specs.Sum.{sumsOf, overflowRow, sumRows, joinedOf, twiceSum}
@@ -63,15 +63,15 @@ reached-bound : twiceSum (over 0 1) (over 1 1) ≡ over 2 1
 reached-bound = refl
 
 reached-first : AllValid (valid fiveTicks steep (limited 1 (over 0 1))) steepList
-unfolding valid obeys hole allWithin allFrom within deviation
+unfolding valid obeys hole allWithin allFrom within above below deviation
 reached-first = (refl, (refl, (refl, tt)))
 
 reached-second : AllValid (valid fiveTicks wavy (limited 1 (over 1 1))) wavyList
-unfolding valid obeys hole allWithin allFrom within deviation
+unfolding valid obeys hole allWithin allFrom within above below deviation
 reached-second = (refl, tt)
 
 reached-valid : AllValid (valid fiveTicks (sumsOf steep wavy) (limited 1 (twiceSum (over 0 1) (over 1 1)))) (joinedOf 5 steepList wavyList)
-unfolding joinedOf valid obeys hole allWithin allFrom within deviation
+unfolding joinedOf valid obeys hole allWithin allFrom within above below deviation
 reached-valid = (refl, (refl, (refl, tt)))
 
 -- ---- T1 + T2 is no bound: list 1 has the error 1/3 and list 2 the error 0, and the joined list has the error 1/2
@@ -109,7 +109,7 @@ unfolding joinedOf errorFrom greater linkError farthest greatest deviation gcd e
 above-error = (refl, refl)
 
 plain-sum-false : WithinPlainSum fourTicks stepped fourTicks dipped steppedList dippedList → ⊥
-unfolding joinedOf valid obeys hole allWithin allFrom within deviation
+unfolding joinedOf valid obeys hole allWithin allFrom within above below deviation
 plain-sum-false within = true-false (within (over 1 3) (over 0 1) 1 (refl, tt) (refl, (refl, tt)) .1 .0) refl
 
 -- ---- the rows: trace 1, trace 2, list 1, list 2, 17, 18, 10

@@ -10,35 +10,42 @@ use lib.Dec.{eqb}
 use lib.ListN.{length, take, drop, getD, length-drop, take-append-drop}
 use lib.Seq.{drop-drop, drop-cons, length-take-le}
 use Rattle.lists.proofs.Tests.{and-first, and-second}
+use Rattle.ratio.specs.declared.Ratio.{Ratio}
+use Rattle.ratio.specs.Order.{over}
 use Rattle.format.specs.Number.{numberFrom, bytesOnto, field, Bytes, flip16, flip8}
-use Rattle.format.specs.Command.{sizeOf, commandOnto, choose, opens, commandOf, Operands}
+use Rattle.format.specs.Command.{ratioOnto, ratioAt, RatioRange, sizeOf, commandOnto, choose, opens, commandOf, Operands}
 use Rattle.format.specs.declared.Command.{Command}
-use Rattle.format.specs.declared.Command.the-variants.{Tolerance, First, Short, Long, End, Invalid}
-use Rattle.format.proofs.NumberLaws.{number-bytes, bytes-number, number-below, bytes-append, bytes-length, bytes-drop, bytes-take}
+use Rattle.format.specs.declared.Command.the-variants.{Tolerance, Sides, First, Short, Long, End, Invalid}
+use Rattle.format.proofs.NumberLaws.{number-bytes, bytes-number, number-below, bytes-drop, bytes-take}
 
 -- ---- writing
 
 -- a command, and what follows it
 pub command-append : (m : Command) (ys : List ℕ) → commandOnto m ys ≡ commandOnto m [] ++ ys
-command-append (Tolerance r) ys = ap (λ (x : List ℕ). 0x54 ∷ x) (ap (bytesOnto 5 (r .p)) (bytes-append 3 (r .q) [] ys) ∙ bytes-append 5 (r .p) (bytesOnto 3 (r .q) []) ys)
-command-append (First t l) ys = ap (λ (x : List ℕ). 0x41 ∷ x) (ap (bytesOnto 4 t) (bytes-append 2 (flip16 l) [] ys) ∙ bytes-append 4 t (bytesOnto 2 (flip16 l) []) ys)
-command-append (Short a d) ys = ap (λ (x : List ℕ). 0x53 ∷ x) (ap (bytesOnto 1 a) (bytes-append 1 (flip8 d) [] ys) ∙ bytes-append 1 a (bytesOnto 1 (flip8 d) []) ys)
-command-append (Long a l) ys = ap (λ (x : List ℕ). 0x4C ∷ x) (ap (bytesOnto 3 a) (bytes-append 2 (flip16 l) [] ys) ∙ bytes-append 3 a (bytesOnto 2 (flip16 l) []) ys)
-command-append (End n) ys = ap (λ (x : List ℕ). 0x45 ∷ x) (bytes-append 2 n [] ys)
+unfolding bytesOnto
+command-append (Tolerance r) ys = refl
+command-append (Sides x) ys = refl
+command-append (First t l) ys = refl
+command-append (Short a d) ys = refl
+command-append (Long a l) ys = refl
+command-append (End n) ys = refl
 command-append Invalid ys = refl
 
 pub command-length : (m : Command) (xs : List ℕ) → length (commandOnto m xs) ≡ sizeOf m + length xs
-command-length (Tolerance r) xs = omega (arith, bytes-length 5 (r .p) (bytesOnto 3 (r .q) xs), bytes-length 3 (r .q) xs)
-command-length (First t l) xs = omega (arith, bytes-length 4 t (bytesOnto 2 (flip16 l) xs), bytes-length 2 (flip16 l) xs)
-command-length (Short a d) xs = omega (arith, bytes-length 1 a (bytesOnto 1 (flip8 d) xs), bytes-length 1 (flip8 d) xs)
-command-length (Long a l) xs = omega (arith, bytes-length 3 a (bytesOnto 2 (flip16 l) xs), bytes-length 2 (flip16 l) xs)
-command-length (End n) xs = omega (arith, bytes-length 2 n xs)
+unfolding bytesOnto
+command-length (Tolerance r) xs = omega arith
+command-length (Sides x) xs = omega arith
+command-length (First t l) xs = omega arith
+command-length (Short a d) xs = omega arith
+command-length (Long a l) xs = omega arith
+command-length (End n) xs = omega arith
 command-length Invalid xs = omega arith
 
 -- what is left after a command
 pub command-rest : (m : Command) (xs : List ℕ) → drop (sizeOf m) (commandOnto m xs) ≡ xs
 unfolding bytesOnto
 command-rest (Tolerance r) xs = refl
+command-rest (Sides x) xs = refl
 command-rest (First t l) xs = refl
 command-rest (Short a d) xs = refl
 command-rest (Long a l) xs = refl
@@ -47,15 +54,32 @@ command-rest Invalid xs = refl
 
 -- ---- what was written is read
 
-ratio-same : {a b p q : ℕ} → a ≡ p → b ≡ q → Tolerance (record { p = a; q = b }) ≡ Tolerance (record { p = p; q = q })
-ratio-same e f = rw (e, f)
+over-same : {a b p q : ℕ} → a ≡ p → b ≡ q → over a b ≡ over p q
+over-same e f = rw (e, f)
+
+module _ (xs : List ℕ) where
+  -- the ratio r from place 1 on, and from place 9 on
+  ratio-first : (x : ℕ) (r : Ratio) → RatioRange r → ratioAt (x ∷ ratioOnto r xs) 1 ≡ r
+  unfolding bytesOnto numberFrom
+  ratio-first x r h = over-same (number-bytes 5 (r .p) [] (omega arith)) (number-bytes 3 (r .q) [] (omega arith))
+
+  ratio-second : (x : ℕ) (u r : Ratio) → RatioRange r → ratioAt (x ∷ ratioOnto u (ratioOnto r xs)) 9 ≡ r
+  unfolding bytesOnto numberFrom
+  ratio-second x u r h = over-same (number-bytes 5 (r .p) [] (omega arith)) (number-bytes 3 (r .q) [] (omega arith))
+
+sides-same : {a b c d : Ratio} → a ≡ c → b ≡ d → Sides (record { up = a; down = b }) ≡ Sides (record { up = c; down = d })
+sides-same e f = rw (e, f)
 
 module _ (xs : List ℕ) where
   pub command-read : (m : Command) → Operands m → commandOf (commandOnto m xs) ≡ m
   unfolding commandOf bytesOnto numberFrom
   command-read (Tolerance r) h =
       let n : ℕ = length (commandOnto (Tolerance r) xs) in
-      rw (le-leb 9 n (omega arith)) (ratio-same (number-bytes 5 (r .p) [] (omega arith)) (number-bytes 3 (r .q) [] (omega arith)))
+      rw (le-leb 9 n (omega arith)) (ap Tolerance (ratio-first xs 0x54 r h))
+  command-read (Sides x) h =
+      let n : ℕ = length (commandOnto (Sides x) xs) in
+      rw (le-leb 17 n (omega arith))
+      (sides-same (ratio-first (ratioOnto (x .down) xs) 0x42 (x .up) (h .0)) (ratio-second xs 0x42 (x .up) (x .down) (h .1)))
   command-read (First t l) h =
       let n : ℕ = length (commandOnto (First t l) xs) in
       let f : flip16 (flip16 l) ≡ l = omega arith in
@@ -103,6 +127,7 @@ pub record Starts (s : List ℕ) (m : Command) : Type 0 where
 
 abbrev pub Read : List ℕ → Command → Type 0
 Read s (Tolerance r) = Starts s (Tolerance r)
+Read s (Sides x) = Starts s (Sides x)
 Read s (First t l) = Starts s (First t l)
 Read s (Short a d) = Starts s (Short a d)
 Read s (Long a l) = Starts s (Long a l)
@@ -120,13 +145,30 @@ module _ {s : List ℕ} (by : Bytes s) where
   fields : (i k j : ℕ) → i + k + j ≤ length s → bytesOnto k (field s i k) (bytesOnto j (field s (i + k) j) (drop (i + k + j) s)) ≡ drop i s
   fields i k j h = rw (field-onto by (i + k) j h) (field-onto by i k (omega arith))
 
-  read-tolerance : opens 0x54 9 s ≡ true → Starts s (Tolerance (record { p = field s 1 5; q = field s 6 3 }))
+  -- a ratio
+  ratio-onto : (i : ℕ) → i + 8 ≤ length s → ratioOnto (ratioAt s i) (drop (i + 8) s) ≡ drop i s
+  ratio-onto i h = let e : i + 5 + 3 ≡ i + 8 = omega arith in rw (← e) (fields i 5 3 (omega arith))
+
+  ratio-range : (i : ℕ) → i + 8 ≤ length s → RatioRange (ratioAt s i)
+  ratio-range i h = (omega (arith, field-below by i 5 (omega arith)), omega (arith, field-below by (i + 5) 3 (omega arith)))
+
+  read-tolerance : opens 0x54 9 s ≡ true → Starts s (Tolerance (ratioAt s 1))
   read-tolerance e =
       let h = head 0x54 9 e (omega arith) in
       record {
-        bytes = h .0 ∙ ap (λ (r : List ℕ). 0x54 ∷ r) (sym (fields 1 5 3 (h .1)));
+        bytes = h .0 ∙ ap (λ (r : List ℕ). 0x54 ∷ r) (sym (ratio-onto 1 (h .1)));
         whole = h .1;
-        operands = (omega (arith, field-below by 1 5 (omega arith)), omega (arith, field-below by 6 3 (omega arith)));
+        operands = ratio-range 1 (h .1);
+      }
+
+  read-sides : opens 0x42 17 s ≡ true → Starts s (Sides (record { up = ratioAt s 1; down = ratioAt s 9 }))
+  read-sides e =
+      let h = head 0x42 17 e (omega arith) in
+      let n : 1 + 8 ≤ length s = omega (arith, h .1) in
+      record {
+        bytes = h .0 ∙ ap (λ (r : List ℕ). 0x42 ∷ r) (sym (ap (ratioOnto (ratioAt s 1)) (ratio-onto 9 (h .1)) ∙ ratio-onto 1 n));
+        whole = h .1;
+        operands = (ratio-range 1 n, ratio-range 9 (h .1));
       }
 
   read-first : opens 0x41 7 s ≡ true → Starts s (First (field s 1 4) (flip16 (field s 5 2)))
@@ -173,14 +215,17 @@ module _ {s : List ℕ} (by : Bytes s) where
 
   pub read : Read s (commandOf s)
   unfolding commandOf
-  read = go (opens 0x54 9 s) refl (opens 0x41 7 s) refl (opens 0x53 3 s) refl (opens 0x4C 6 s) refl (opens 0x45 3 s) refl
+  read = go (opens 0x54 9 s) refl (opens 0x41 7 s) refl (opens 0x53 3 s) refl (opens 0x4C 6 s) refl (opens 0x45 3 s) refl (opens 0x42 17 s) refl
     where
       go : (a : Bool) → opens 0x54 9 s ≡ a → (f : Bool) → opens 0x41 7 s ≡ f → (h : Bool) → opens 0x53 3 s ≡ h → (l : Bool) → opens 0x4C 6 s ≡ l → (n : Bool) → opens 0x45 3 s ≡ n
-          → Read s (choose a (Tolerance (record { p = field s 1 5; q = field s 6 3 })) (choose f (First (field s 1 4) (flip16 (field s 5 2)))
-          (choose h (Short (field s 1 1) (flip8 (field s 2 1))) (choose l (Long (field s 1 3) (flip16 (field s 4 2))) (choose n (End (field s 1 2)) Invalid)))))
-      go true e f ef h eh l el n en = read-tolerance e
-      go false e true ef h eh l el n en = read-first ef
-      go false e false ef true eh l el n en = read-short eh
-      go false e false ef false eh true el n en = read-long el
-      go false e false ef false eh false el true en = read-end en
-      go false e false ef false eh false el false en = tt
+          → (k : Bool) → opens 0x42 17 s ≡ k
+          → Read s (choose a (Tolerance (ratioAt s 1)) (choose f (First (field s 1 4) (flip16 (field s 5 2)))
+          (choose h (Short (field s 1 1) (flip8 (field s 2 1))) (choose l (Long (field s 1 3) (flip16 (field s 4 2))) (choose n (End (field s 1 2))
+          (choose k (Sides (record { up = ratioAt s 1; down = ratioAt s 9 })) Invalid))))))
+      go true e f ef h eh l el n en k ek = read-tolerance e
+      go false e true ef h eh l el n en k ek = read-first ef
+      go false e false ef true eh l el n en k ek = read-short eh
+      go false e false ef false eh true el n en k ek = read-long el
+      go false e false ef false eh false el true en k ek = read-end en
+      go false e false ef false eh false el false en true ek = read-sides ek
+      go false e false ef false eh false el false en false ek = tt

@@ -14,20 +14,21 @@ use lib.IntN.{ℤ}
 use lib.ListN.{length, drop, length-drop}
 use lib.Seq.{drop-drop, drop-length}
 use Rattle.lists.proofs.Tests.{and-first, and-second}
-use Rattle.ratio.specs.declared.Ratio.{Ratio}
+use Rattle.tolerance.specs.declared.Parts.{Parts}
+use Rattle.tolerance.specs.Meaning.{HeldParts}
 use Rattle.trace.specs.Level.{level}
 use Rattle.format.specs.Number.{Bytes, valueOf}
 use Rattle.format.specs.Command.{choose, commandOf, commandOnto}
-use Rattle.format.specs.Format.{Content, Legal, Accepted, isHeld, inLimits, short, follows, moved, shortObeys, longObeys, shortStep, longStep, endStep, obey, stepOf, Samples, fault, samples, onto, follow, steps, sampleHeader, toleranceHeader, Parsed, faulty, says, attach, began, parse, stepTo, stepsOnto, samplesOnto, encode}
+use Rattle.format.specs.Format.{Content, Legal, Accepted, inLimits, short, follows, moved, shortObeys, longObeys, shortStep, longStep, endStep, obey, stepOf, Samples, fault, samples, onto, follow, steps, headerOf, Parsed, faulty, says, attach, began, parse, toleranceCommand, stepTo, stepsOnto, samplesOnto, encode}
 use Rattle.format.specs.declared.Cursor.{Cursor}
 use Rattle.format.specs.declared.Command.{Command}
-use Rattle.format.specs.declared.Command.the-variants.{Tolerance, First, Short, Long, End, Invalid}
+use Rattle.format.specs.declared.Command.the-variants.{Tolerance, Sides, First, Short, Long, End, Invalid}
 use Rattle.format.specs.declared.Step.{Step}
 use Rattle.format.specs.declared.Step.the-variants.{Sample, End as Ended, Fault}
-use Rattle.format.specs.declared.Header.the-variants.{Fault as NoHeader}
 use Rattle.format.proofs.NumberLaws.{bytes-drop, level-value, value-short}
 use Rattle.format.proofs.CommandLaws.{Starts, Read, read}
-use Rattle.format.proofs.RuleLaws.{in-limits-le, is-held-true, Follows, follows-legal}
+use Rattle.format.proofs.RuleLaws.{in-limits-le, Follows, follows-legal}
+use Rattle.format.proofs.HeaderLaws.{toleranceSize, start, by-first, by-tolerance}
 
 -- ---- a step
 
@@ -105,6 +106,7 @@ module _ (b : List ℕ) (c d : Cursor) where
     where
       go : (m : Command) → Read (drop (c .at) b) m → obey (length b) c m ≡ Sample d → Stepped b c d
       go (Tolerance r) w e = absurd (not-sample e)
+      go (Sides x) w e = absurd (not-sample e)
       go (First t l) w e = absurd (not-sample e)
       go (Short a x) w e = stepped-short a x w e
       go (Long a l) w e = stepped-long a l w e
@@ -131,6 +133,7 @@ module _ (b : List ℕ) (c : Cursor) where
     where
       go : (m : Command) → Read (drop (c .at) b) m → obey (length b) c m ≡ Ended → drop (c .at) b ≡ commandOnto (End (c .count)) []
       go (Tolerance r) w e = absurd (fault-ended e)
+      go (Sides x) w e = absurd (fault-ended e)
       go (First t l) w e = absurd (fault-ended e)
       go (Short a x) w e = absurd (moved-ended (leb 1 a && leb 128 (c .level + x) && follows c (c .tick + a) (c .level + x - 128)) 3 (c .tick + a) (c .level + x - 128) e)
       go (Long a l) w e = absurd (moved-ended (leb 1 a && not (short (c .level) a l) && follows c (c .tick + a) l) 6 (c .tick + a) l e)
@@ -191,55 +194,38 @@ module _ (b : List ℕ) (by : Bytes b) where
 
 -- ---- the whole record
 
--- the cursor after the first sample
-abbrev pub start : ℕ → ℕ → Cursor
-start t l = record { at = 16; first = t; tick = t; level = l; count = 1 }
-
 module _ {b : List ℕ} (by : Bytes b) where
   Whole : Parsed → Type 0
   Whole (faulty k) = Unit {0}
   Whole (says x) = (b ≡ encode x) × Legal x
 
-  module _ (r : Ratio) (t l : ℕ) (a : isHeld r ≡ true) (v : Starts b (Tolerance r)) (w : Starts (drop 9 b) (First t l)) where
-    whole-content : (ts : List ℕ) (vs : List ℤ) → Tail b (start t l) ts vs → Whole (says (record { tolerance = r; ticks = t ∷ ts; values = valueOf l ∷ vs }))
+  module _ (x : Parts) (h : HeldParts x) (v : Starts b (toleranceCommand x)) (t l : ℕ) (w : Starts (drop (toleranceSize x) b) (First t l)) where
+    abbrev c : Cursor
+    c = start (toleranceSize x) t l
+
+    whole-content : (ts : List ℕ) (vs : List ℤ) → Tail b c ts vs → Whole (says (record { tolerance = x; ticks = t ∷ ts; values = valueOf l ∷ vs }))
     unfolding Whole encode samplesOnto
     whole-content ts vs s =
         let n : 1 + length ts ≡ suc (length ts) = omega arith in
         let o = w .operands in (
-          rw (level-value l (o .1)) (v .bytes ∙ ap (commandOnto (Tolerance r))
+          rw (level-value l (o .1)) (v .bytes ∙ ap (commandOnto (toleranceCommand x))
               (w .bytes ∙ ap (commandOnto (First t l))
-              (drop-drop 7 9 b ∙ s .bytes ∙ ap (λ (m : ℕ). stepsOnto t l ts vs (commandOnto (End m) [])) n))),
-          follows-legal r t ts (valueOf l) vs (is-held-true r a) (o .0) (value-short l (o .1)) (omega (arith, s .few (omega arith))) (s .follows-on),
+              (drop-drop 7 (toleranceSize x) b ∙ s .bytes ∙ ap (λ (m : ℕ). stepsOnto t l ts vs (commandOnto (End m) [])) n))),
+          follows-legal x t ts (valueOf l) vs h (o .0) (value-short l (o .1)) (omega (arith, s .few (omega arith))) (s .follows-on),
         )
 
-    whole-first : (s : Samples) → steps b 4096 (start t l) ≡ s → Whole (attach r (onto (start t l) s))
+    whole-first : (s : Samples) → steps b 4096 c ≡ s → Whole (attach x (onto c s))
     unfolding Whole
     whole-first (fault k) e = tt
-    whole-first (samples ts vs) e = whole-content ts vs (tail b by 4096 (start t l) e)
+    whole-first (samples ts vs) e = whole-content ts vs (tail b by 4096 c e)
 
-  whole-tolerance : (r : Ratio) → isHeld r ≡ true → Starts b (Tolerance r) → (m : Command) → Read (drop 9 b) m → Whole (began b (sampleHeader r m))
+  whole : Whole (began b (headerOf b))
   unfolding Whole
-  whole-tolerance r a v (First t l) w = whole-first r t l a v w (steps b 4096 (start t l)) refl
-  whole-tolerance r a v (Tolerance r′) w = tt
-  whole-tolerance r a v (Short x d) w = tt
-  whole-tolerance r a v (Long x l) w = tt
-  whole-tolerance r a v (End m) w = tt
-  whole-tolerance r a v Invalid w = tt
-
-  whole : (m : Command) → Read b m → Whole (began b (toleranceHeader m (commandOf (drop 9 b))))
-  unfolding Whole
-  whole (Tolerance r) v = go (isHeld r) refl
-    where
-      go : (a : Bool) → isHeld r ≡ a → Whole (began b (choose a (sampleHeader r (commandOf (drop 9 b))) (NoHeader 0)))
-      go true e = whole-tolerance r e v (commandOf (drop 9 b)) (read (bytes-drop 9 by))
-      go false e = tt
-  whole (First t l) v = tt
-  whole (Short x d) v = tt
-  whole (Long x l) v = tt
-  whole (End m) v = tt
-  whole Invalid v = tt
+  whole =
+      by-tolerance by (λ h. Whole (began b h)) tt
+      (λ x h v. by-first by (λ h. Whole (began b h)) (toleranceSize x) x tt (λ t l w. whole-first x h v t l w (steps b 4096 (start (toleranceSize x) t l)) refl))
 
   -- an accepted record is the one that is written for its content, which is legal
   pub encode-parse : {x : Content} → parse b ≡ says x → Accepted b x
   unfolding parse Whole
-  encode-parse e = let w = subst Whole e (whole (commandOf b) (read by)) in record { parsed = e; bytes = w .0; legal = w .1 }
+  encode-parse e = let w = subst Whole e whole in record { parsed = e; bytes = w .0; legal = w .1 }

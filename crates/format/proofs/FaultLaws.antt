@@ -16,26 +16,27 @@ use lib.Dec.{eqb}
 use lib.IntN.{ℤ}
 use lib.ListN.{length, take, drop, length-drop}
 use lib.Seq.{drop-drop, length-take-le}
-use Rattle.ratio.specs.declared.Ratio.{Ratio}
-use Rattle.tolerance.specs.Meaning.{Held}
+use Rattle.tolerance.specs.declared.Parts.{Parts}
+use Rattle.tolerance.specs.Meaning.{HeldParts}
 use Rattle.trace.specs.Level.{level}
 use Rattle.trace.proofs.Level.{level-short}
 use Rattle.format.specs.Number.{Bytes, valueOf}
 use Rattle.format.specs.Command.{choose, commandOf, commandOnto}
-use Rattle.format.specs.Format.{isHeld, moved, shortObeys, longObeys, shortStep, longStep, endStep, obey, stepOf, Samples, fault, samples, onto, follow, steps, sampleHeader, toleranceHeader, Parsed, faulty, says, attach, began, parse, stepTo, stepsOnto, encode}
+use Rattle.format.specs.Format.{moved, shortObeys, longObeys, shortStep, longStep, endStep, obey, stepOf, Samples, fault, samples, onto, follow, steps, sampleHeader, headerOf, Parsed, faulty, says, attach, began, parse, toleranceCommand, stepTo, stepsOnto, encode}
 use Rattle.format.specs.Fault.{Run, none, toleranceOnly, unended, complete, FaultAt}
 use Rattle.format.specs.declared.Cursor.{Cursor}
 use Rattle.format.specs.declared.Command.{Command}
-use Rattle.format.specs.declared.Command.the-variants.{Tolerance, First, Short, Long, End, Invalid}
+use Rattle.format.specs.declared.Command.the-variants.{Tolerance, Sides, First, Short, Long, End, Invalid}
 use Rattle.format.specs.declared.Step.{Step}
 use Rattle.format.specs.declared.Step.the-variants.{Sample, End as Ended, Fault}
-use Rattle.format.specs.declared.Header.the-variants.{Fault as NoHeader}
+use Rattle.format.specs.declared.Header.the-variants.{Start}
 use Rattle.format.proofs.NumberLaws.{bytes-drop, level-value, value-short}
 use Rattle.format.proofs.CommandLaws.{Starts, Read, read, command-append, command-length, command-read, command-rest}
-use Rattle.format.proofs.RuleLaws.{in-limits-le, is-held-true, held-is-held, Follows, first-sample, legal-follows, follows-legal}
+use Rattle.format.proofs.RuleLaws.{in-limits-le, Follows, first-sample, legal-follows, follows-legal}
+use Rattle.format.proofs.HeaderLaws.{toleranceSize, start, header-written, by-first, by-tolerance}
 use Rattle.format.proofs.ParseEncode.{steps-along, end-step, parse-encode}
 use Rattle.format.proofs.RunLaws.{EndOrNone, front, behind, Opened, opened-run, unended-opened, complete-opened}
-use Rattle.format.proofs.EncodeParse.{Stepped, stepped, start, encode-parse}
+use Rattle.format.proofs.EncodeParse.{Stepped, stepped, encode-parse}
 
 -- ---- a step's fault
 
@@ -78,6 +79,7 @@ module _ (b : List ℕ) (c : Cursor) (k : ℕ) (within : c .at ≤ length b) whe
     where
       go : (m : Command) → Read (drop (c .at) b) m → obey (length b) c m ≡ Fault k → Faults b c k
       go (Tolerance r) w e = faults-here cc
+      go (Sides x) w e = faults-here cc
       go (First t l) w e = faults-here cc
       go (Short a x) w e = faults-moved (shortObeys c a x) 3 _ _ e
       go (Long a l) w e = faults-moved (longObeys c a l) 6 _ _ e
@@ -123,10 +125,10 @@ unfolding Past
 past-none (faulty k) = omega arith
 past-none (says x) = tt
 
-past-attach : (n : ℕ) (r : Ratio) (c : Cursor) (s : Samples) → Late n s → Past n (attach r (onto c s))
+past-attach : (n : ℕ) (x : Parts) (c : Cursor) (s : Samples) → Late n s → Past n (attach x (onto c s))
 unfolding Late Past
-past-attach n r c (fault k) h = h
-past-attach n r c (samples ts vs) h = tt
+past-attach n x c (fault k) h = h
+past-attach n x c (samples ts vs) h = tt
 
 module _ {b : List ℕ} (by : Bytes b) where
   -- ---- the steps before a fault obey the rules
@@ -180,50 +182,41 @@ module _ {b : List ℕ} (by : Bytes b) where
   unfolding Obeyed
   obeyed-none = (omega arith, none refl)
 
-  module _ (r : Ratio) (held : Held r) (v : Starts b (Tolerance r)) where
-    obeyed-tolerance : Obeyed b (faulty 9)
-    unfolding Obeyed
-    obeyed-tolerance = (v .whole, toleranceOnly r held (front b 9 _ (v .whole) (v .bytes ∙ command-append (Tolerance r) (drop 9 b))))
+  module _ (x : Parts) (held : HeldParts x) (v : Starts b (toleranceCommand x)) where
+    abbrev k₁ : ℕ
+    k₁ = toleranceSize x
 
-    module _ (t l : ℕ) (w : Starts (drop 9 b) (First t l)) where
-      obeyed-ahead : (k : ℕ) → Ahead b (start t l) k → Obeyed b (faulty k)
+    obeyed-tolerance : Obeyed b (faulty k₁)
+    unfolding Obeyed
+    obeyed-tolerance = (v .whole, toleranceOnly x held (front b k₁ _ (v .whole) (v .bytes ∙ command-append (toleranceCommand x) (drop k₁ b))))
+
+    module _ (t l : ℕ) (w : Starts (drop k₁ b) (First t l)) where
+      obeyed-ahead : (k : ℕ) → Ahead b (start k₁ t l) k → Obeyed b (faulty k)
       unfolding Obeyed
       obeyed-ahead k a =
           let o = w .operands in
           let n : 1 + length (a .ticks) ≡ length (t ∷ a .ticks) = omega arith in (
             a .inside,
-            opened-run r t (a .ticks) (valueOf l) (a .values) b k (a .inside) (record {
-              legal = follows-legal r t (a .ticks) (valueOf l) (a .values) held (o .0) (value-short l (o .1)) (omega arith) (a .follows-on);
+            opened-run x t (a .ticks) (valueOf l) (a .values) b k (a .inside) (record {
+              legal = follows-legal x t (a .ticks) (valueOf l) (a .values) held (o .0) (value-short l (o .1)) (omega arith) (a .follows-on);
               end = a .end;
               ends = rw (← n) (a .ends);
-              bytes = rw (level-value l (o .1)) (v .bytes ∙ ap (commandOnto (Tolerance r)) (w .bytes ∙ ap (commandOnto (First t l)) (drop-drop 7 9 b ∙ a .bytes)));
+              bytes = rw (level-value l (o .1)) (v .bytes ∙ ap (commandOnto (toleranceCommand x)) (w .bytes ∙ ap (commandOnto (First t l)) (drop-drop 7 k₁ b ∙ a .bytes)));
             }),
           )
 
-      obeyed-steps : (s : Samples) → AheadBy b (start t l) s → Obeyed b (attach r (onto (start t l) s))
+      obeyed-steps : (s : Samples) → AheadBy b (start k₁ t l) s → Obeyed b (attach x (onto (start k₁ t l) s))
       unfolding AheadBy Obeyed
       obeyed-steps (fault k) a = obeyed-ahead k a
       obeyed-steps (samples ts vs) a = tt
 
-    obeyed-first : (m : Command) → Read (drop 9 b) m → Obeyed b (began b (sampleHeader r m))
-    obeyed-first (First t l) w = obeyed-steps t l w (steps b 4096 (start t l)) (ahead 4096 (start t l) (omega (arith, length-drop 9 b)) (omega arith))
-    obeyed-first (Tolerance q) w = obeyed-tolerance
-    obeyed-first (Short a d) w = obeyed-tolerance
-    obeyed-first (Long a l) w = obeyed-tolerance
-    obeyed-first (End m) w = obeyed-tolerance
-    obeyed-first Invalid w = obeyed-tolerance
+      obeyed-first : Obeyed b (began b (Start x (start k₁ t l)))
+      obeyed-first = obeyed-steps (steps b 4096 (start k₁ t l)) (ahead 4096 (start k₁ t l) (omega (arith, w .whole, v .whole, length-drop k₁ b)) (omega arith))
 
-  obeyed : (m : Command) → Read b m → Obeyed b (began b (toleranceHeader m (commandOf (drop 9 b))))
-  obeyed (Tolerance r) v = go (isHeld r) refl
-    where
-      go : (a : Bool) → isHeld r ≡ a → Obeyed b (began b (choose a (sampleHeader r (commandOf (drop 9 b))) (NoHeader 0)))
-      go true e = obeyed-first r (is-held-true r e) v (commandOf (drop 9 b)) (read (bytes-drop 9 by))
-      go false e = obeyed-none
-  obeyed (First t l) v = obeyed-none
-  obeyed (Short a d) v = obeyed-none
-  obeyed (Long a l) v = obeyed-none
-  obeyed (End m) v = obeyed-none
-  obeyed Invalid v = obeyed-none
+  obeyed : Obeyed b (began b (headerOf b))
+  obeyed =
+      by-tolerance by (λ h. Obeyed b (began b h)) obeyed-none
+      (λ x h v. by-first by (λ h. Obeyed b (began b h)) (toleranceSize x) x (obeyed-tolerance x h v) (obeyed-first x h v))
 
   -- ---- no fault lies within a run of commands that obey them
 
@@ -250,55 +243,52 @@ module _ {b : List ℕ} (by : Bytes b) where
         go true k = tt
         go false k = k
 
-  module _ (r : Ratio) (held : Held r) (xs : List ℕ) (e : b ≡ commandOnto (Tolerance r) xs) where
-    parse-tolerance : parse b ≡ began b (sampleHeader r (commandOf (drop 9 b)))
-    unfolding parse
-    parse-tolerance =
-        let f : commandOf b ≡ Tolerance r = ap commandOf e ∙ command-read xs (Tolerance r) (omega arith) in
-        rw (f, held-is-held r held)
+  module _ (x : Parts) (held : HeldParts x) (xs : List ℕ) (e : b ≡ commandOnto (toleranceCommand x) xs) where
+    abbrev k₀ : ℕ
+    k₀ = toleranceSize x
 
-    past-tolerance : Past 9 (parse b)
+    parse-tolerance : parse b ≡ began b (sampleHeader k₀ x (commandOf (drop k₀ b)))
+    unfolding parse
+    parse-tolerance = ap (began b) (header-written x held b xs e)
+
+    past-tolerance : Past k₀ (parse b)
     unfolding Past
-    past-tolerance = rw parse-tolerance (go (commandOf (drop 9 b)) (read (bytes-drop 9 by)))
-      where
-        go : (m : Command) → Read (drop 9 b) m → Past 9 (began b (sampleHeader r m))
-        go (First t l) w = past-attach 9 r (start t l) (steps b 4096 (start t l)) (late-from 9 4096 (start t l) (omega (arith, length-drop 9 b)) (omega arith) (omega arith))
-        go (Tolerance q) w = omega arith
-        go (Short a d) w = omega arith
-        go (Long a l) w = omega arith
-        go (End m) w = omega arith
-        go Invalid w = omega arith
+    past-tolerance =
+        rw parse-tolerance (by-first by (λ h. Past k₀ (began b h)) k₀ x (omega arith)
+        (λ t l w. past-attach k₀ x (start k₀ t l) (steps b 4096 (start k₀ t l)) (late-from k₀ 4096 (start k₀ t l) (omega (arith, w .whole, ap length e ∙ command-length (toleranceCommand x) xs, length-drop k₀ b)) (omega arith) (omega arith))))
 
   module _ (n : ℕ) (h : n ≤ length b) where
-    past-opened : (r : Ratio) (t : ℕ) (ts : List ℕ) (v : ℤ) (vs : List ℤ) → Opened r t ts v vs b n → Past n (parse b)
-    past-opened r t ts v vs o =
+    past-opened : (x : Parts) (t : ℕ) (ts : List ℕ) (v : ℤ) (vs : List ℤ) → Opened x t ts v vs b n → Past n (parse b)
+    past-opened x t ts v vs o =
         let xs : List ℕ = stepsOnto t (level v) ts vs (o .end ++ drop n b) in
         let m : Command = First t (level v) in
         let i : level v ≤ 65535 = level-short v (o .legal .value-range 0) in
-        let e₁ : drop 9 b ≡ commandOnto m xs = ap (drop 9) (o .bytes) ∙ command-rest (Tolerance r) (commandOnto m xs) in
-        let e₂ : drop 16 b ≡ xs = sym (drop-drop 7 9 b) ∙ ap (drop 7) e₁ ∙ command-rest m xs in
-        let f : commandOf (drop 9 b) ≡ m = ap commandOf e₁ ∙ command-read xs m (omega (arith, o .legal .tick-range 0)) in
+        let k₀ : ℕ = toleranceSize x in
+        let c : Cursor = start k₀ t (level v) in
+        let e₁ : drop k₀ b ≡ commandOnto m xs = ap (drop k₀) (o .bytes) ∙ command-rest (toleranceCommand x) (commandOnto m xs) in
+        let e₂ : drop (k₀ + 7) b ≡ xs = sym (drop-drop 7 k₀ b) ∙ ap (drop 7) e₁ ∙ command-rest m xs in
+        let f : commandOf (drop k₀ b) ≡ m = ap commandOf e₁ ∙ command-read xs m (omega (arith, o .legal .tick-range 0)) in
         let k : length (t ∷ ts) ≤ 4096 = o .legal .trace .few in
-        rw (parse-tolerance r (o .legal .held) (commandOnto m xs) (o .bytes), f) (past-attach n r (start t (level v)) (steps b 4096 (start t (level v)))
+        rw (parse-tolerance x (o .legal .held) (commandOnto m xs) (o .bytes), f) (past-attach n x c (steps b 4096 c)
         (steps-along b (o .end ++ drop n b) (length (t ∷ ts)) (λ us ws s. Late n s) (λ d us ws s. late-onto n d s)
         (λ j d i c e. late-end n h j d (o .end) i (omega arith) (rw (← c) at (o .ends)) e)
-        4096 (start t (level v)) ts vs (omega (arith, ap length e₁ ∙ command-length m xs, length-drop 9 b)) (omega arith) (legal-follows (o .legal)) (omega arith) (omega arith) k e₂))
+        4096 c ts vs (omega (arith, ap length e₁ ∙ command-length m xs, length-drop k₀ b)) (omega arith) (legal-follows (o .legal)) (omega arith) (omega arith) k e₂))
 
     past : Run (take n b) → Past n (parse b)
     past (none e) = let z : n ≡ 0 = omega (arith, ap length e, length-take-le n b h) in rw z (past-none (parse b))
-    past (toleranceOnly r held e) =
-        let m : Command = Tolerance r in
-        let z : n ≡ 9 = omega (arith, ap length e ∙ command-length m [], length-take-le n b h) in
-        rw z (past-tolerance r held (drop n b) (behind b n _ e ∙ sym (command-append m (drop n b))))
-    past (unended x legal e) = first-sample (λ x. take n b ++ commandOnto (End (length (x .ticks))) [] ≡ encode x → Past n (parse b)) (λ r t ts v vs l e. past-opened r t ts v vs (unended-opened r t ts v vs b n l e)) x legal e
-    past (complete x legal e) = first-sample (λ x. take n b ≡ encode x → Past n (parse b)) (λ r t ts v vs l e. past-opened r t ts v vs (complete-opened r t ts v vs b n l e)) x legal e
+    past (toleranceOnly x held e) =
+        let m : Command = toleranceCommand x in
+        let z : n ≡ toleranceSize x = omega (arith, ap length e ∙ command-length m [], length-take-le n b h) in
+        rw z (past-tolerance x held (drop n b) (behind b n _ e ∙ sym (command-append m (drop n b))))
+    past (unended x legal e) = first-sample (λ x. take n b ++ commandOnto (End (length (x .ticks))) [] ≡ encode x → Past n (parse b)) (λ x t ts v vs l e. past-opened x t ts v vs (unended-opened x t ts v vs b n l e)) x legal e
+    past (complete x legal e) = first-sample (λ x. take n b ≡ encode x → Past n (parse b)) (λ x t ts v vs l e. past-opened x t ts v vs (complete-opened x t ts v vs b n l e)) x legal e
 
   -- ---- the fault's byte
 
   fault-at : {k : ℕ} → parse b ≡ faulty k → FaultAt b k
   unfolding parse Obeyed Past
   fault-at e =
-      let o = subst (Obeyed b) e (obeyed (commandOf b) (read by)) in
+      let o = subst (Obeyed b) e obeyed in
       record {
         inside = o .0;
         run = o .1;

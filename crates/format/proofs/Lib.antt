@@ -2,6 +2,7 @@
 pub mod NumberLaws
 pub mod CommandLaws
 pub mod RuleLaws
+pub mod HeaderLaws
 pub mod ParseEncode
 pub mod EncodeParse
 pub mod SameLaws

@@ -11,19 +11,20 @@ use lib.IntN.{ℤ}
 use lib.ListN.{length, drop, length-drop}
 use lib.Seq.{drop-drop}
 use Rattle.lists.proofs.Tests.{by-test}
-use Rattle.ratio.specs.declared.Ratio.{Ratio}
+use Rattle.tolerance.specs.declared.Parts.{Parts}
 use Rattle.trace.specs.Level.{level}
 use Rattle.trace.proofs.Level.{level-short}
 use Rattle.format.specs.Number.{valueOf}
 use Rattle.format.specs.Command.{sizeOf, choose, commandOnto}
-use Rattle.format.specs.Format.{Content, Legal, inLimits, short, shortStep, longStep, endStep, stepOf, Samples, samples, onto, steps, says, parse, stepTo, stepsOnto, samplesOnto, encode}
+use Rattle.format.specs.Format.{Content, Legal, inLimits, short, shortStep, longStep, endStep, stepOf, Samples, samples, onto, steps, says, parse, toleranceCommand, stepTo, stepsOnto, samplesOnto, encode}
 use Rattle.format.specs.declared.Cursor.{Cursor}
 use Rattle.format.specs.declared.Command.{Command}
-use Rattle.format.specs.declared.Command.the-variants.{Tolerance, First, Short, Long, End}
+use Rattle.format.specs.declared.Command.the-variants.{First, Short, Long, End}
 use Rattle.format.specs.declared.Step.the-variants.{Sample, End as Ended, Fault}
 use Rattle.format.proofs.NumberLaws.{value-level}
 use Rattle.format.proofs.CommandLaws.{command-read, command-rest, command-length}
-use Rattle.format.proofs.RuleLaws.{short-le, le-in-limits, held-is-held, Follows, first-sample, legal-follows}
+use Rattle.format.proofs.HeaderLaws.{toleranceSize, tolerance-size, start, header-written}
+use Rattle.format.proofs.RuleLaws.{short-le, le-in-limits, Follows, first-sample, legal-follows}
 
 -- the cursor after a step of k bytes
 abbrev next : Cursor → ℕ → ℕ → ℕ → Cursor
@@ -106,29 +107,29 @@ end-read b m c h e =
     let l : c .at + 3 ≡ length b = omega (arith, ap length e ∙ command-length (End (c .count)) [], length-drop (c .at) b) in
     rw (end-step b c [] h e, eq-eqb (c .at + 3) (length b) l)
 
-module _ (r : Ratio) (t : ℕ) (ts : List ℕ) (v : ℤ) (vs : List ℤ) (h : Legal (record { tolerance = r; ticks = t ∷ ts; values = v ∷ vs })) where
-  whole : parse (encode (record { tolerance = r; ticks = t ∷ ts; values = v ∷ vs })) ≡ says (record { tolerance = r; ticks = t ∷ ts; values = v ∷ vs })
+module _ (x : Parts) (t : ℕ) (ts : List ℕ) (v : ℤ) (vs : List ℤ) (h : Legal (record { tolerance = x; ticks = t ∷ ts; values = v ∷ vs })) where
+  whole : parse (encode (record { tolerance = x; ticks = t ∷ ts; values = v ∷ vs })) ≡ says (record { tolerance = x; ticks = t ∷ ts; values = v ∷ vs })
   unfolding parse encode samplesOnto
   whole =
-      let x : Content = record { tolerance = r; ticks = t ∷ ts; values = v ∷ vs } in
-      let b : List ℕ = encode x in
+      let b : List ℕ = encode (record { tolerance = x; ticks = t ∷ ts; values = v ∷ vs }) in
       let xs : List ℕ = stepsOnto t (level v) ts vs (commandOnto (End (length (t ∷ ts))) []) in
       let ys : List ℕ = commandOnto (First t (level v)) xs in
-      let c : Cursor = record { at = 16; first = t; tick = t; level = level v; count = 1 } in
+      let k : ℕ = toleranceSize x in
+      let c : Cursor = start k t (level v) in
       let l : level v ≤ 65535 = level-short v (h .value-range 0) in
       let ht : t ≤ 4294967295 = h .tick-range 0 in
-      let e₁ : drop 9 b ≡ ys = command-rest (Tolerance r) ys in
-      let e₂ : drop 16 b ≡ xs = sym (drop-drop 7 9 b) ∙ ap (drop 7) e₁ ∙ command-rest (First t (level v)) xs in
+      let e₁ : drop k b ≡ ys = command-rest (toleranceCommand x) ys in
+      let e₂ : drop (k + 7) b ≡ xs = sym (drop-drop 7 k b) ∙ ap (drop 7) e₁ ∙ command-rest (First t (level v)) xs in
       let n : ℕ = length (t ∷ ts) in
       let s : steps b 4096 c ≡ samples ts vs =
       steps-along b (commandOnto (End n) []) n (λ us ws s. s ≡ samples us ws) (λ d us ws s e. rw e) (λ m d i k e. end-read b m d (omega (arith, h .trace .few)) (e ∙ ap (λ (j : ℕ). commandOnto (End j) []) (sym k)))
-      4096 c ts vs (omega (arith, ap length e₁ ∙ command-length (First t (level v)) xs, length-drop 9 b)) (omega arith) (legal-follows h) (omega (arith, h .trace .few)) (omega arith) (h .trace .few) e₂ in
-      rw (command-read ys (Tolerance r) (omega (arith, h .held)), held-is-held r (h .held), e₁, command-read xs (First t (level v)) (omega arith), s, value-level v (h .value-range 0))
+      4096 c ts vs (omega (arith, ap length e₁ ∙ command-length (First t (level v)) xs, length-drop k b)) (omega arith) (legal-follows h) (omega (arith, h .trace .few)) (omega arith) (h .trace .few) e₂ in
+      rw (header-written x (h .held) b ys refl, e₁, command-read xs (First t (level v)) (omega arith), s, value-level v (h .value-range 0))
 
 -- a record has at least its tolerance's bytes
 pub record-long : (x : Content) → 9 ≤ length (encode x)
 unfolding encode
-record-long x = omega (arith, command-length (Tolerance (x .tolerance)) (samplesOnto (x .ticks) (x .values)))
+record-long x = omega (arith, command-length (toleranceCommand (x .tolerance)) (samplesOnto (x .ticks) (x .values)), tolerance-size (x .tolerance))
 
 -- every legal content is read as it was written
 pub parse-encode : (x : Content) → Legal x → parse (encode x) ≡ says x

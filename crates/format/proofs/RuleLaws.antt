@@ -14,7 +14,8 @@ use lib.Signed.{mag}
 use Rattle.lists.proofs.Tests.{and-first, and-second}
 use Rattle.ratio.specs.declared.Ratio.{Ratio}
 use Rattle.ratio.specs.Gcd.{gcd}
-use Rattle.tolerance.specs.Meaning.{Held}
+use Rattle.tolerance.specs.declared.Parts.{Parts}
+use Rattle.tolerance.specs.Meaning.{Held, HeldParts, allowedRatio}
 use Rattle.trace.specs.Trace.{tick, value, Rising}
 use Rattle.trace.proofs.Ticks.{not-earlier}
 use Rattle.format.specs.Format.{Content, Legal, isHeld, inLimits, short}
@@ -38,13 +39,13 @@ module _ (r : Ratio) where
   pub is-held-true : isHeld r ≡ true → Held r
   unfolding isHeld
   is-held-true e =
-      let f = and-first (leb 1 (r .q) && leb (r .q) 1048575 && leb (r .p) (65535 * r .q)) (eqb (gcd (r .p) (r .q)) 1) e in
+      let f = and-first (allowedRatio (r .p) (r .q)) (eqb (gcd (r .p) (r .q)) 1) e in
       let g = and-first (leb 1 (r .q) && leb (r .q) 1048575) (leb (r .p) (65535 * r .q)) f in
       record {
         positive = leb-true _ _ (and-first (leb 1 (r .q)) _ g);
         q-bound = leb-true _ _ (and-second (leb 1 (r .q)) _ g);
         p-bound = leb-true _ _ (and-second (leb 1 (r .q) && leb (r .q) 1048575) _ f);
-        coprime = eqb-true _ _ (and-second (leb 1 (r .q) && leb (r .q) 1048575 && leb (r .p) (65535 * r .q)) _ e);
+        coprime = eqb-true _ _ (and-second (allowedRatio (r .p) (r .q)) _ e);
       }
 
   pub held-is-held : Held r → isHeld r ≡ true
@@ -60,14 +61,14 @@ Follows first t (t′ ∷ ts) [] = ⊥
 Follows first t (t′ ∷ ts) (v′ ∷ vs) = (t < t′) × (t′ ≤ 4294967295) × (t′ ≤ first + 1048575) × (mag v′ < 32768) × Follows first t′ ts vs
 
 -- a legal content has a first sample
-pub first-sample : (P : Content → Type 0) → ((r : Ratio) (t : ℕ) (ts : List ℕ) (v : ℤ) (vs : List ℤ)
-    → Legal (record { tolerance = r; ticks = t ∷ ts; values = v ∷ vs }) → P (record { tolerance = r; ticks = t ∷ ts; values = v ∷ vs })) → (x : Content) → Legal x → P x
-first-sample P f x = go (x .tolerance) (x .ticks) (x .values)
+pub first-sample : (P : Content → Type 0) → ((x : Parts) (t : ℕ) (ts : List ℕ) (v : ℤ) (vs : List ℤ)
+    → Legal (record { tolerance = x; ticks = t ∷ ts; values = v ∷ vs }) → P (record { tolerance = x; ticks = t ∷ ts; values = v ∷ vs })) → (y : Content) → Legal y → P y
+first-sample P f y = go (y .tolerance) (y .ticks) (y .values)
   where
-    go : (r : Ratio) (ts : List ℕ) (vs : List ℤ) → Legal (record { tolerance = r; ticks = ts; values = vs }) → P (record { tolerance = r; ticks = ts; values = vs })
-    go r [] vs h = absurd (omega (arith, h .trace .some))
-    go r (t ∷ ts) [] h = absurd (omega (arith, h .trace .same))
-    go r (t ∷ ts) (v ∷ vs) h = f r t ts v vs h
+    go : (x : Parts) (ts : List ℕ) (vs : List ℤ) → Legal (record { tolerance = x; ticks = ts; values = vs }) → P (record { tolerance = x; ticks = ts; values = vs })
+    go x [] vs h = absurd (omega (arith, h .trace .some))
+    go x (t ∷ ts) [] h = absurd (omega (arith, h .trace .same))
+    go x (t ∷ ts) (v ∷ vs) h = f x t ts v vs h
 
 rising-tail : {t : ℕ} {ts : List ℕ} → Rising (t ∷ ts) → Rising ts
 rising-tail r = record { rises = λ k h. r .rises (suc k) (omega arith) }
@@ -86,7 +87,7 @@ follows-from first t (t′ ∷ ts) (v′ ∷ vs) e r s a b = (
 )
 
 -- the samples of a legal content follow by the rules
-pub legal-follows : {r : Ratio} {t : ℕ} {ts : List ℕ} {v : ℤ} {vs : List ℤ} → Legal (record { tolerance = r; ticks = t ∷ ts; values = v ∷ vs }) → Follows t t ts vs
+pub legal-follows : {x : Parts} {t : ℕ} {ts : List ℕ} {v : ℤ} {vs : List ℤ} → Legal (record { tolerance = x; ticks = t ∷ ts; values = v ∷ vs }) → Follows t t ts vs
 legal-follows {t = t} {ts = ts} {vs = vs} h =
     let e : suc (length ts) - 1 ≡ length ts = omega arith in
     follows-from t t ts vs (omega (arith, h .trace .same)) (h .trace .rising) (rw e at (h .trace .span)) (λ k. h .tick-range (suc k)) (λ k. h .value-range (suc k))
@@ -121,9 +122,9 @@ follows-values first t [] v (v′ ∷ vs) h f (suc k) = absurd f
 follows-values first t (t′ ∷ ts) v (v′ ∷ vs) h f (suc k) = follows-values first t′ ts v′ vs (f .3) (f .4) k
 
 -- samples that follow by the rules, at most 4,096 of them, are those of a trace
-pub follows-legal : (r : Ratio) (t : ℕ) (ts : List ℕ) (v : ℤ) (vs : List ℤ) → Held r → t ≤ 4294967295 → mag v < 32768 → length ts ≤ 4095 → Follows t t ts vs
-    → Legal (record { tolerance = r; ticks = t ∷ ts; values = v ∷ vs })
-follows-legal r t ts v vs h a b n f =
+pub follows-legal : (x : Parts) (t : ℕ) (ts : List ℕ) (v : ℤ) (vs : List ℤ) → HeldParts x → t ≤ 4294967295 → mag v < 32768 → length ts ≤ 4095 → Follows t t ts vs
+    → Legal (record { tolerance = x; ticks = t ∷ ts; values = v ∷ vs })
+follows-legal x t ts v vs h a b n f =
     let e : suc (length ts) - 1 ≡ length ts = omega arith in
     record {
       held = h;

@@ -11,13 +11,13 @@ use native.Mathlib.Omega.{arith}
 use lib.IntN.{ℤ}
 use lib.ListN.{length, take, drop, length-append, length-drop, take-append-drop}
 use lib.Seq.{take-at}
-use Rattle.ratio.specs.declared.Ratio.{Ratio}
+use Rattle.tolerance.specs.declared.Parts.{Parts}
 use Rattle.trace.specs.Level.{level}
 use Rattle.format.specs.Command.{commandOnto}
-use Rattle.format.specs.Format.{Content, Legal, stepTo, stepsOnto, samplesOnto, encode}
+use Rattle.format.specs.Format.{Content, Legal, toleranceCommand, stepTo, stepsOnto, samplesOnto, encode}
 use Rattle.format.specs.Fault.{Run, unended, complete}
 use Rattle.format.specs.declared.Command.{Command}
-use Rattle.format.specs.declared.Command.the-variants.{Tolerance, First, End}
+use Rattle.format.specs.declared.Command.the-variants.{First, End}
 use Rattle.format.proofs.CommandLaws.{command-append}
 
 abbrev pub EndOrNone : ℕ → List ℕ → Type 0
@@ -45,17 +45,17 @@ cancel s t e h =
     sym (take-at s e (length s) refl) ∙ ap (take (length s)) h
     ∙ take-at t e (length s) (omega (arith, ap length h, length-append s e, length-append t e))
 
-module _ (r : Ratio) (t : ℕ) (ts : List ℕ) (v : ℤ) (vs : List ℤ) where
+module _ (x : Parts) (t : ℕ) (ts : List ℕ) (v : ℤ) (vs : List ℤ) where
   abbrev pub content : Content
-  content = record { tolerance = r; ticks = t ∷ ts; values = v ∷ vs }
+  content = record { tolerance = x; ticks = t ∷ ts; values = v ∷ vs }
 
   abbrev pub opening : List ℕ → List ℕ
-  opening xs = commandOnto (Tolerance r) (commandOnto (First t (level v)) (stepsOnto t (level v) ts vs xs))
+  opening xs = commandOnto (toleranceCommand x) (commandOnto (First t (level v)) (stepsOnto t (level v) ts vs xs))
 
   opening-append : (xs ys : List ℕ) → opening (xs ++ ys) ≡ opening xs ++ ys
   opening-append xs ys =
       let s : List ℕ = stepsOnto t (level v) ts vs xs in
-      rw (steps-append t (level v) ts vs xs ys, onto-append (First t (level v)) s ys) (onto-append (Tolerance r) (commandOnto (First t (level v)) s) ys)
+      rw (steps-append t (level v) ts vs xs ys, onto-append (First t (level v)) s ys) (onto-append (toleranceCommand x) (commandOnto (First t (level v)) s) ys)
 
   pub record Opened (b : List ℕ) (k : ℕ) : Type 0 where
     pub legal : Legal content
@@ -83,8 +83,8 @@ module _ (r : Ratio) (t : ℕ) (ts : List ℕ) (v : ℤ) (vs : List ℤ) where
     pub unended-opened : Legal content → take k b ++ commandOnto (End (length (t ∷ ts))) [] ≡ encode content → Opened b k
     unfolding encode samplesOnto
     unended-opened h e =
-        let x : List ℕ = commandOnto (End (length (t ∷ ts))) [] in
-        opened h [] (inl refl) (cancel (take k b) (opening []) x (e ∙ opening-append [] x))
+        let end : List ℕ = commandOnto (End (length (t ∷ ts))) [] in
+        opened h [] (inl refl) (cancel (take k b) (opening []) end (e ∙ opening-append [] end))
 
     pub complete-opened : Legal content → take k b ≡ encode content → Opened b k
     unfolding encode samplesOnto

@@ -8,16 +8,16 @@ use mathlib.Core.Path.{_≡_}
 use mathlib.Core.List.{List, [], _++_}
 use Prim.Native.Nat.{ℕ, _≤_}
 use lib.ListN.{length, take}
-use Rattle.ratio.specs.declared.Ratio.{Ratio}
-use Rattle.tolerance.specs.Meaning.{Held}
+use Rattle.tolerance.specs.declared.Parts.{Parts}
+use Rattle.tolerance.specs.Meaning.{HeldParts}
 use Rattle.format.specs.Command.{commandOnto}
-use Rattle.format.specs.Format.{Content, Legal, encode}
-use Rattle.format.specs.declared.Command.the-variants.{Tolerance, End}
+use Rattle.format.specs.Format.{Content, Legal, toleranceCommand, encode}
+use Rattle.format.specs.declared.Command.the-variants.{End}
 
 -- none; a tolerance; the record of a legal content without its end command; such a record
 pub data Run (s : List ℕ) : Type 0 where
   none : s ≡ [] → Run s
-  toleranceOnly : (r : Ratio) → Held r → s ≡ commandOnto (Tolerance r) [] → Run s
+  toleranceOnly : (x : Parts) → HeldParts x → s ≡ commandOnto (toleranceCommand x) [] → Run s
   unended : (x : Content) → Legal x → s ++ commandOnto (End (length (x .ticks))) [] ≡ encode x → Run s
   complete : (x : Content) → Legal x → s ≡ encode x → Run s
 

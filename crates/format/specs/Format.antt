@@ -1,6 +1,7 @@
--- The format of a record (document 01, "The record"): what a record says, and the record that says it.
---   Content, Legal                   a tolerance and samples; what can be said
---   isHeld                           a tolerance is allowed, and in lowest terms
+-- The format of a record (document 01, "The record"; document 02, "Above and below"): what a record says, and the record that says it.
+--   Content, Legal                   a tolerance in two parts, and samples; what can be said
+--   isHeld                           a ratio is allowed as a tolerance, and in lowest terms
+--   areSides                         both parts are, and they differ
 --   inLimits, short                  a sample is within the limits of a trace; a step is short
 --   follows                          a sample may follow the one at a cursor
 --   shortObeys, longObeys            a short and a long step obey the rules
@@ -10,35 +11,37 @@
 --   Samples                          samples, or the fault's byte
 --   onto, follow                     a sample before others; a step, and the samples after it
 --   steps, samplesFrom               the samples that the commands from a cursor on give; with the cursor's own before them
---   sampleHeader, toleranceHeader    the first sample's command after a tolerance; the tolerance's command, and then that one
+--   sampleHeader, toleranceHeader    the first sample's command after a tolerance of k bytes; the tolerance's command, and then that one
 --   headerOf                         the tolerance and the first sample of a record, or the fault's byte
 --   Parsed                           what a record says, or the fault's byte
 --   attach, began                    what samples say with a tolerance; what a record says from its header on
 --   parse                            what a record says
+--   toleranceCommand                 the command that says a tolerance: 54 for equal parts, 42 for others
 --   stepTo, stepsOnto, samplesOnto   a step as a command; steps as they are written, before other bytes; all samples' commands
 --   encode                           the record of a content
 --   Accepted                         what holds of an accepted record and its content
---   SameRecord                       two records are the same: their tolerances and their kept samples agree
+--   SameRecord                       two records are the same: both parts of their tolerances agree, and their kept samples
 -- Where a fault lies is said without the parser in Fault.
--- Laws are in RuleLaws, ParseEncode, EncodeParse, FaultLaws and SameLaws; examples are in proofs/Examples. Assumes nothing.
+-- Laws are in RuleLaws, HeaderLaws, ParseEncode, EncodeParse, FaultLaws and SameLaws; examples are in proofs/Examples. Assumes nothing.
 use mathlib.Core.Path.{_≡_}
 use mathlib.Core.Bool.{Bool, not, _&&_}
 use mathlib.Core.List.{List, [], _∷_}
-use Prim.Native.Nat.{ℕ, zero, suc, _+_, _-_, _*_, _≤_, _<_}
+use Prim.Native.Nat.{ℕ, zero, suc, _+_, _-_, _≤_, _<_}
 use lib.Dec.{leb, eqb, ltb}
 use lib.IntN.{ℤ}
 use lib.ListN.{length, drop}
 use lib.Signed.{mag}
 use Rattle.ratio.specs.declared.Ratio.{Ratio}
 use Rattle.ratio.specs.Gcd.{gcd}
-use Rattle.tolerance.specs.Meaning.{Held}
+use Rattle.tolerance.specs.declared.Parts.{Parts}
+use Rattle.tolerance.specs.Meaning.{HeldParts, allowedRatio, alike, agree}
 use Rattle.trace.specs.Trace.{tick, value, Trace}
 use Rattle.trace.specs.Level.{level}
 use Rattle.format.specs.Number.{valueOf}
 use Rattle.format.specs.Command.{choose, commandOf, commandOnto}
 use Rattle.format.specs.declared.Cursor.{Cursor}
 use Rattle.format.specs.declared.Command.{Command}
-use Rattle.format.specs.declared.Command.the-variants.{Tolerance, First, Short, Long, End, Invalid}
+use Rattle.format.specs.declared.Command.the-variants.{Tolerance, Sides, First, Short, Long, End, Invalid}
 use Rattle.format.specs.declared.Step.{Step}
 use Rattle.format.specs.declared.Step.the-variants.{Sample, End as Ended, Fault}
 use Rattle.format.specs.declared.Header.{Header}
@@ -47,22 +50,26 @@ use Rattle.format.specs.declared.Header.the-variants.{Start, Fault as No
 -- ---- what a record says
 
 pub record Content : Type 0 where
-  pub tolerance : Ratio
+  pub tolerance : Parts
   pub ticks : List ℕ
   pub values : List ℤ
 
--- a held tolerance and the samples of a trace, of 32-bit ticks and 16-bit values
+-- held parts and the samples of a trace, of 32-bit ticks and 16-bit values
 pub record Legal (x : Content) : Type 0 where
-  pub held : Held (x .tolerance)
+  pub held : HeldParts (x .tolerance)
   pub trace : Trace (x .ticks) (x .values)
   pub tick-range : (k : ℕ) → tick (x .ticks) k ≤ 4294967295
   pub value-range : (k : ℕ) → mag (value (x .values) k) < 32768
 
 -- ---- the rules
 
--- a tolerance as it is held (tolerance: specs/Meaning, `Held`)
+-- a ratio as a tolerance is held (tolerance: specs/Meaning, `Held`)
 unfoldable pub isHeld : Ratio → Bool
-isHeld r = leb 1 (r .q) && leb (r .q) 1048575 && leb (r .p) (65535 * r .q) && eqb (gcd (r .p) (r .q)) 1
+isHeld r = allowedRatio (r .p) (r .q) && eqb (gcd (r .p) (r .q)) 1
+
+-- the parts that 42 says: equal ones are said by 54
+unfoldable pub areSides : Parts → Bool
+areSides x = isHeld (x .up) && isHeld (x .down) && not (agree x)
 
 -- a sample after the first one's tick: the tick is 32 bits, the span at most 1,048,575, the value 16 bits
 abbrev pub inLimits : ℕ → ℕ → ℕ → Bool
@@ -107,6 +114,7 @@ obey n c (Short a d) = shortStep c a d
 obey n c (Long a level) = longStep c a level
 obey n c (End m) = endStep n c m
 obey n c (Tolerance r) = Fault (c .at)
+obey n c (Sides x) = Fault (c .at)
 obey n c (First t l) = Fault (c .at)
 obey n c Invalid = Fault (c .at)
 
@@ -138,42 +146,49 @@ steps b (suc n) c = follow (stepOf b c) (λ d. steps b n d)
 abbrev pub samplesFrom : List ℕ → Cursor → Samples
 samplesFrom b c = onto c (steps b 4096 c)
 
--- the tolerance, and then the first sample
-abbrev pub sampleHeader : Ratio → Command → Header
-sampleHeader r (First t l) = Start r (record { at = 16; first = t; tick = t; level = l; count = 1 })
-sampleHeader r (Tolerance _) = NoHeader 9
-sampleHeader r (Short _ _) = NoHeader 9
-sampleHeader r (Long _ _) = NoHeader 9
-sampleHeader r (End _) = NoHeader 9
-sampleHeader r Invalid = NoHeader 9
+-- after a tolerance x of k bytes, the first sample
+abbrev pub sampleHeader : ℕ → Parts → Command → Header
+sampleHeader k x (First t l) = Start x (record { at = k + 7; first = t; tick = t; level = l; count = 1 })
+sampleHeader k x (Tolerance _) = NoHeader k
+sampleHeader k x (Sides _) = NoHeader k
+sampleHeader k x (Short _ _) = NoHeader k
+sampleHeader k x (Long _ _) = NoHeader k
+sampleHeader k x (End _) = NoHeader k
+sampleHeader k x Invalid = NoHeader k
 
-abbrev pub toleranceHeader : Command → Command → Header
-toleranceHeader (Tolerance r) m = choose (isHeld r) (sampleHeader r m) (NoHeader 0)
-toleranceHeader (First _ _) m = NoHeader 0
-toleranceHeader (Short _ _) m = NoHeader 0
-toleranceHeader (Long _ _) m = NoHeader 0
-toleranceHeader (End _) m = NoHeader 0
-toleranceHeader Invalid m = NoHeader 0
+-- the tolerance at the front of b, and then the first sample
+abbrev pub toleranceHeader : List ℕ → Command → Header
+toleranceHeader b (Tolerance r) = choose (isHeld r) (sampleHeader 9 (alike r) (commandOf (drop 9 b))) (NoHeader 0)
+toleranceHeader b (Sides x) = choose (areSides x) (sampleHeader 17 x (commandOf (drop 17 b))) (NoHeader 0)
+toleranceHeader b (First _ _) = NoHeader 0
+toleranceHeader b (Short _ _) = NoHeader 0
+toleranceHeader b (Long _ _) = NoHeader 0
+toleranceHeader b (End _) = NoHeader 0
+toleranceHeader b Invalid = NoHeader 0
 
 abbrev pub headerOf : List ℕ → Header
-headerOf b = toleranceHeader (commandOf b) (commandOf (drop 9 b))
+headerOf b = toleranceHeader b (commandOf b)
 
 pub data Parsed : Type 0 where
   faulty : ℕ → Parsed
   says : Content → Parsed
 
-abbrev pub attach : Ratio → Samples → Parsed
-attach r (fault k) = faulty k
-attach r (samples ts vs) = says (record { tolerance = r; ticks = ts; values = vs })
+abbrev pub attach : Parts → Samples → Parsed
+attach x (fault k) = faulty k
+attach x (samples ts vs) = says (record { tolerance = x; ticks = ts; values = vs })
 
 abbrev pub began : List ℕ → Header → Parsed
-began b (Start r c) = attach r (samplesFrom b c)
+began b (Start x c) = attach x (samplesFrom b c)
 began b (NoHeader k) = faulty k
 
 unfoldable pub parse : List ℕ → Parsed
 parse b = began b (headerOf b)
 
 -- ---- writing
+
+-- 42 exactly if the parts differ
+unfoldable pub toleranceCommand : Parts → Command
+toleranceCommand x = choose (agree x) (Tolerance (x .up)) (Sides x)
 
 -- the step from a tick and a level to the next: short exactly if it can be
 abbrev pub stepTo : ℕ → ℕ → ℕ → ℕ → Command
@@ -192,7 +207,7 @@ samplesOnto (t ∷ ts) [] = []
 samplesOnto (t ∷ ts) (v ∷ vs) = commandOnto (First t (level v)) (stepsOnto t (level v) ts vs (commandOnto (End (length (t ∷ ts))) []))
 
 unfoldable pub encode : Content → List ℕ
-encode x = commandOnto (Tolerance (x .tolerance)) (samplesOnto (x .ticks) (x .values))
+encode x = commandOnto (toleranceCommand (x .tolerance)) (samplesOnto (x .ticks) (x .values))
 
 -- the record b says x: it is the record of x, which can be said
 pub record Accepted (b : List ℕ) (x : Content) : Type 0 where
@@ -202,7 +217,7 @@ pub record Accepted (b : List ℕ) (x : Content) : Type 0 where
 
 -- ---- comparison
 
--- document 02, "Same record, strictly"
+-- document 02, "Same record, strictly": the tolerance is both parts
 pub record SameRecord (x y : Content) : Type 0 where
   pub tolerance : x .tolerance ≡ y .tolerance
   pub ticks : x .ticks ≡ y .ticks

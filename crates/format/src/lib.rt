@@ -1,14 +1,18 @@
-// The record of a reduced trace (document 01, "The record"): the types of its format, and what reader and writer share. specs/ holds the
-// format itself, and proofs/ its laws.
+// The record of a reduced trace (document 01, "The record"; document 02, "Above and below"): the types of its format, and what reader and
+// writer share. specs/ holds the format itself, and proofs/ its laws.
 ghost use mathlib.Core.Path.{_≡_};
 ghost use Prim.Native.Nat.{_≤_, _<_};
 ghost use Rattle.format.specs.Number.{flip16 as flip16Of, flip8 as flip8Of};
 ghost use Rattle.format.specs.Format.{short};
 use ratio::Ratio;
+use tolerance::Parts;
 
 // One command. A value is held as its level, the value + 32,768, and a change of value as the change + 128 (offset binary).
 pub enum Command {
+    // The ratio of both parts.
     Tolerance(Ratio),
+    // Parts that differ.
+    Sides(Parts),
     // Tick and level.
     First(u64, u64),
     // Advance and change.
@@ -39,7 +43,7 @@ pub enum Step {
 
 // The tolerance, and a cursor after the first sample; or the fault's byte.
 pub enum Header {
-    Start(Ratio, Cursor),
+    Start(Parts, Cursor),
     Fault(usize),
 }
 

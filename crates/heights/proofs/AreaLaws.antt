@@ -1,5 +1,6 @@
--- Areas under the lines of a list: a link's area is parted at any tick, and so a kept list within p/q has, over any stretch of ticks, an
--- area within p/q times its ticks of the trace's own: from each sample to the next both lines are straight, and near at both ends.
+-- Areas under the lines of a list: a link's area is parted at any tick, and so a kept list within U above and D below has, over any stretch of ticks,
+-- an area at most D times its ticks above the trace's own and at most U times its ticks below it: from each sample to the next both lines are straight,
+-- and near at both ends.
 -- Assumes nothing.
 use mathlib.Core.Path.{_≡_, refl, ap}
 use mathlib.Core.Bool.{true}
@@ -12,9 +13,10 @@ use lib.IntN.{ℤ, pos}
 use lib.ListN.{length}
 use Rattle.kept.specs.Kept.{LinksFrom, final, KeptList, AllValid}
 use Rattle.kept.proofs.KeptLaws.{rise-le}
+use Rattle.ratio.specs.Order.{over}
 use Rattle.trace.specs.declared.Criterion.{Criterion}
 use Rattle.trace.specs.Trace.{tick, Rising, Trace}
-use Rattle.trace.specs.Link.{AllWithin, valid, ratioOf}
+use Rattle.trace.specs.Link.{AllWithin, valid}
 use Rattle.trace.proofs.Ticks.{later, not-earlier}
 use Rattle.trace.proofs.Validity.{true-valid}
 use Rattle.trace.proofs.Difference.{plus, times, parts, natural, alike}
@@ -149,7 +151,7 @@ product-parts p u v r = omega arith
 halved : (p w q d : ℕ) → (p + p) * w * (q * d) ≤ p * w * (q * (2 * d))
 halved p w q d = omega arith
 
-module _ {ts : List ℕ} (rising : Rising ts) (vs : List ℤ) (c : Criterion) (someq : 1 ≤ c .q) (a b d : ℕ) (some : 1 ≤ d) (ab : a ≤ b) where
+module _ {ts : List ℕ} (rising : Rising ts) (vs : List ℤ) (c : Criterion) (up-some : 1 ≤ c .up .q) (down-some : 1 ≤ c .down .q) (a b d : ℕ) (some : 1 ≤ d) (ab : a ≤ b) where
   in-order : {k l : ℕ} → k ≤ l → l < length ts → d * tick ts k ≤ d * tick ts l
   in-order kl inside = mul-le-mul-left d (not-earlier rising kl inside)
 
@@ -160,57 +162,62 @@ module _ {ts : List ℕ} (rising : Rising ts) (vs : List ℤ) (c : Criterion) (s
       omega (arith, clipped-sum _ _ _ a u v, clipped-sum _ _ _ b u v, clipped-order (d * tick ts k) (d * tick ts l) ab, clipped-order (d * tick ts l) (d * tick ts m) ab)
 
   module _ {i j : ℕ} (forward : i < j) (inside : j < length ts) (v : AllWithin ts vs c i j) where
-    step-near : (k : ℕ) → i ≤ k → suc k ≤ j → Near (multiple (ratioOf c) (ticksBetween ts a b d k (suc k)) d) (areaBetween ts vs a b d i j k (suc k)) (areaBetween ts vs a b d k (suc k) k (suc k))
+    step-near : (k : ℕ) → i ≤ k → suc k ≤ j → Near (multiple (c .down) (ticksBetween ts a b d k (suc k)) d) (multiple (c .up) (ticksBetween ts a b d k (suc k)) d)
+        (areaBetween ts vs a b d i j k (suc k)) (areaBetween ts vs a b d k (suc k) k (suc k))
     unfolding areaUnder
     step-near k ik kj =
         let rises = in-order {k = k} {l = suc k} (omega arith) (omega arith) in
-        let at : (n : ℕ) → Near (ratioOf c) (linkAt ts vs i j (clipped (d * tick ts k) (d * tick ts (suc k)) n) d) (linkAt ts vs k (suc k) (clipped (d * tick ts k) (d * tick ts (suc k)) n) d)
+        let at : (n : ℕ) → Near (c .down) (c .up) (linkAt ts vs i j (clipped (d * tick ts k) (d * tick ts (suc k)) n) d) (linkAt ts vs k (suc k) (clipped (d * tick ts k) (d * tick ts (suc k)) n) d)
         = λ n. link-near rising vs c inside v _ d k some ik kj (clipped-inside _ _ n rises .0) (clipped-inside _ _ n rises .1) in
-        near-wider (mul-pos someq (omega arith)) (halved (c .p) _ (c .q) d) (near-multiplied (ticksBetween ts a b d k (suc k)) (2 * d) (omega arith) (near-summed (at a) (at b)))
+        near-wider (mul-pos down-some (omega arith)) (mul-pos up-some (omega arith)) (halved (c .down .p) _ (c .down .q) d) (halved (c .up .p) _ (c .up .q) d)
+        (near-multiplied (ticksBetween ts a b d k (suc k)) (2 * d) (omega arith) (near-summed (at a) (at b)))
 
     -- the link from sample k on, and what follows it, beside the steps from k on
-    steps-near : (n r : ℕ) (rest : Fraction) → Near (record { p = r; q = c .q * d }) rest (areaFrom ts vs j (samplesAfter j n) a b d)
+    steps-near : (n r s : ℕ) (rest : Fraction) → Near (over r (c .down .q * d)) (over s (c .up .q * d)) rest (areaFrom ts vs j (samplesAfter j n) a b d)
         → (m k : ℕ) → k + m ≡ j → i ≤ k
-        → Near (record { p = c .p * ticksBetween ts a b d k j + r; q = c .q * d }) (summed (areaBetween ts vs a b d i j k j) rest) (areaFrom ts vs k (samplesAfter k (m + n)) a b d)
+        → Near (over (c .down .p * ticksBetween ts a b d k j + r) (c .down .q * d)) (over (c .up .p * ticksBetween ts a b d k j + s) (c .up .q * d))
+        (summed (areaBetween ts vs a b d i j k j) rest) (areaFrom ts vs k (samplesAfter k (m + n)) a b d)
     unfolding areaFrom samplesAfter
-    steps-near n r rest h zero k e ik =
+    steps-near n r s rest h zero k e ik =
         let ek : k ≡ j = omega arith in
         let t = d * tick ts j in
         let ea : clipped t t a ≡ t = omega (arith, clipped-inside t t a (omega arith)) in
         let eb : clipped t t b ≡ t = omega (arith, clipped-inside t t b (omega arith)) in
-        rw (ek, zero-add n, ea, eb, none-more (c .p) t r)
-        (near-same (near-sym (same-none _ rest (under-positive ts vs i j d some (later rising j forward inside) t t) (h .left) (under-none ts vs i j d some (later rising j forward inside) t))) h)
-    steps-near n r rest h (suc m) k e ik =
+        rw (ek, zero-add n, ea, eb, none-more (c .down .p) t r, none-more (c .up .p) t s)
+        (near-same (near-sym (same-none _ rest (under-positive ts vs i j d some (later rising j forward inside) t t) (h .large .left) (under-none ts vs i j d some (later rising j forward inside) t))) h)
+    steps-near n r s rest h (suc m) k e ik =
         let es : suc m + n ≡ suc (m + n) = omega arith in
-        let ep : c .p * ticksBetween ts a b d k j + r ≡ c .p * ticksBetween ts a b d k (suc k) + (c .p * ticksBetween ts a b d (suc k) j + r)
-        = rw (ticks-parts k (suc k) j (omega arith) (omega arith) inside) (product-parts (c .p) _ _ r) in
-        rw (es, ep)
-        (near-same (near-left rest (h .left) (clipped-parts ts vs i j d some (later rising j forward inside) _ (d * tick ts (suc k)) _ a b (in-order ik (omega arith)) (in-order (omega arith) (omega arith)) (in-order (omega arith) inside) (omega arith) ab))
-        (rw summed-assoc (near-summed (step-near k ik (omega arith)) (steps-near n r rest h m (suc k) (omega arith) (omega arith)))))
+        let ep : (p r : ℕ) → p * ticksBetween ts a b d k j + r ≡ p * ticksBetween ts a b d k (suc k) + (p * ticksBetween ts a b d (suc k) j + r)
+        = λ p r. rw (ticks-parts k (suc k) j (omega arith) (omega arith) inside) (product-parts p _ _ r) in
+        rw (es, ep (c .down .p) r, ep (c .up .p) s)
+        (near-same (near-left rest (h .large .left) (clipped-parts ts vs i j d some (later rising j forward inside) _ (d * tick ts (suc k)) _ a b (in-order ik (omega arith)) (in-order (omega arith) (omega arith)) (in-order (omega arith) inside) (omega arith) ab))
+        (rw summed-assoc (near-summed (step-near k ik (omega arith)) (steps-near n r s rest h m (suc k) (omega arith) (omega arith)))))
 
   -- ---- a list beside the steps of the trace
 
   from-near : (s : List ℕ) (i : ℕ) → LinksFrom _<_ i s → LinksFrom (λ i j. valid ts vs c i j ≡ true) i s → final i s < length ts → (n : ℕ) → i + n ≡ final i s
-      → Near (multiple (ratioOf c) (ticksBetween ts a b d i (final i s)) d) (areaFrom ts vs i s a b d) (areaFrom ts vs i (samplesAfter i n) a b d)
+      → Near (multiple (c .down) (ticksBetween ts a b d i (final i s)) d) (multiple (c .up) (ticksBetween ts a b d i (final i s)) d)
+      (areaFrom ts vs i s a b d) (areaFrom ts vs i (samplesAfter i n) a b d)
   unfolding areaFrom samplesAfter
   from-near [] i r v inside n e =
       let en : n ≡ 0 = omega arith in
-      rw en (near-refl _ _ (omega arith))
+      rw en (near-refl _ _ _ (omega arith))
   from-near (j ∷ s) i r v inside n e =
       let js = rise-le j s (r .1) in
       let en : n ≡ (j - i) + (final j s - j) = omega arith in
-      let ep : c .p * ticksBetween ts a b d i (final j s) ≡ c .p * ticksBetween ts a b d i j + c .p * ticksBetween ts a b d j (final j s)
-      = rw (ticks-parts i j (final j s) (omega (arith, r .0)) (omega arith) inside) (mul-add (c .p) _ _) in
-      rw (en, ep)
-      (steps-near {i = i} {j = j} (r .0) (omega arith) (true-valid ts vs c i j (v .0) .within) (final j s - j) _ _ (from-near s j (r .1) (v .1) inside (final j s - j) (omega arith)) (j - i) i (omega (arith, r .0)) (omega arith))
+      let ep : (p : ℕ) → p * ticksBetween ts a b d i (final j s) ≡ p * ticksBetween ts a b d i j + p * ticksBetween ts a b d j (final j s)
+      = λ p. rw (ticks-parts i j (final j s) (omega (arith, r .0)) (omega arith) inside) (mul-add p _ _) in
+      rw (en, ep (c .down .p), ep (c .up .p))
+      (steps-near {i = i} {j = j} (r .0) (omega arith) (true-valid ts vs c i j (v .0) .within) (final j s - j) _ _ _ (from-near s j (r .1) (v .1) inside (final j s - j) (omega arith)) (j - i) i (omega (arith, r .0)) (omega arith))
 
--- a kept list within p/q has its areas within p/q times the ticks
-pub area-near : {ts : List ℕ} {vs : List ℤ} (c : Criterion) {l : List ℕ} → 1 ≤ c .q → Trace ts vs → KeptList (length ts - 1) l → AllValid (valid ts vs c) l
-    → (a b d : ℕ) → OnTrace ts a d → OnTrace ts b d → a ≤ b → Near (multiple (ratioOf c) (b - a) d) (areaOf ts vs l a b d) (areaOf ts vs (allOf ts) a b d)
-area-near c {l = []} some t k v a b d oa ob ab = absurd (k .spans)
-area-near {ts} {vs} c {l = i ∷ s} some t k v a b d oa ob ab =
+-- the areas of a kept list within U above and D below are at most D times the ticks too large and at most U times the ticks too small
+pub area-near : {ts : List ℕ} {vs : List ℤ} (c : Criterion) {l : List ℕ} → 1 ≤ c .up .q → 1 ≤ c .down .q → Trace ts vs → KeptList (length ts - 1) l → AllValid (valid ts vs c) l
+    → (a b d : ℕ) → OnTrace ts a d → OnTrace ts b d → a ≤ b
+    → Near (multiple (c .down) (b - a) d) (multiple (c .up) (b - a) d) (areaOf ts vs l a b d) (areaOf ts vs (allOf ts) a b d)
+area-near c {l = []} up-some down-some t k v a b d oa ob ab = absurd (k .spans)
+area-near {ts} {vs} c {l = i ∷ s} up-some down-some t k v a b d oa ob ab =
     let wa = clipped-whole _ _ a (oa .from) (oa .to) in
     let wb = clipped-whole _ _ b (ob .from) (ob .to) in
     rw (k .spans .0)
     (rw (k .spans .1, k .spans .0, wa, wb) at
-    (from-near (t .rising) vs c some a b d (oa .positive) ab s i (k .rises) v (omega (arith, k .spans .1, t .some)) (length ts - 1) (omega (arith, k .spans))))
+    (from-near (t .rising) vs c up-some down-some a b d (oa .positive) ab s i (k .rises) v (omega (arith, k .spans .1, t .some)) (length ts - 1) (omega (arith, k .spans))))

@@ -9,6 +9,7 @@ pub mod WindowLaws
 pub mod ExtremeLaws
 pub mod ValidLaws
 pub mod BudgetLaws
+pub mod EqualLaws
 pub mod SelectedLaws
 pub mod AgainLaws
 pub mod Examples

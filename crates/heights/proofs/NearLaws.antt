@@ -1,5 +1,6 @@
--- A kept list within p/q has its lines within p/q of the trace's own at every tick between the first and the last. Inside a link both are
--- straight from each sample to the next, so their difference there is a mean of those at two samples, which are deviations of the link.
+-- A kept list within U above and D below has its lines at most D above the trace's own and at most U below them, at every tick between the first and
+-- the last. Inside a link both are straight from each sample to the next, so their difference there is a mean of those at two samples, which are
+-- deviations of the link.
 -- Assumes nothing.
 use mathlib.Core.Path.{_≡_, refl, _∙_, ap, subst}
 use mathlib.Core.Bool.{true}
@@ -16,17 +17,17 @@ use Rattle.kept.proofs.KeptLaws.{each-zip, kept-links, kept-one}
 use Rattle.ratio.specs.declared.Ratio.{Ratio}
 use Rattle.trace.specs.declared.Criterion.{Criterion}
 use Rattle.trace.specs.Trace.{tick, Rising, Trace}
-use Rattle.trace.specs.Link.{Band, AllWithin, valid, ratioOf}
+use Rattle.trace.specs.Link.{AllWithin, valid}
 use Rattle.trace.proofs.Line.{Above, Below}
 use Rattle.trace.proofs.Ticks.{not-earlier}
-use Rattle.trace.proofs.Difference.{Diff, same, less, times, size-at-most}
+use Rattle.trace.proofs.Difference.{Diff}
 use Rattle.trace.proofs.Deviation.{line}
 use Rattle.trace.proofs.Offsets.{offsetBase, offsetOf, offset-of-diff, High, Low}
-use Rattle.trace.proofs.Validity.{within-band, true-valid}
-use Rattle.trace.proofs.Half.{band-high, band-low}
-use Rattle.heights.specs.Heights.{Fraction, linkAt, lineFrom, lineAt, samplesAfter, everySample, traceAt, OnTrace, Near}
+use Rattle.trace.proofs.Validity.{true-valid}
+use Rattle.trace.proofs.Half.{within-high, within-low}
+use Rattle.heights.specs.Heights.{Fraction, linkAt, lineFrom, lineAt, samplesAfter, everySample, traceAt, OnTrace, Excess, Near}
 use Rattle.heights.proofs.Entries.{every-kept, every-links}
-use Rattle.heights.proofs.FractionLaws.{near-refl}
+use Rattle.heights.proofs.FractionLaws.{over-excess, near-refl}
 use Rattle.heights.proofs.LineLaws.{Located, kept-located, link-den, link-num, link-positive}
 
 -- ---- over levels
@@ -34,7 +35,7 @@ use Rattle.heights.proofs.LineLaws.{Located, kept-located, link-den, li
 -- A line of length t has the heights f, g, h (times t) at three places y and z ticks apart. Samples at levels c and e stand at the outer two:
 -- at the middle one their mean is as near the line as they are.
 module _ (c e f g h t y z p q : ℕ) {r : ℕ} (er : r ≡ y + z) (straight : g * (y + z) ≡ f * z + h * y) where
-  mean-above : c * t * q ≤ f * q + p * t → e * t * q ≤ h * q + p * t → line c e y z * t * q ≤ g * r * q + p * (t * r)
+  mean-above : c * t * q ≤ f * q + p * t → e * t * q ≤ h * q + p * t → line c e y z * t * q ≤ g * r * q + p * (r * t)
   mean-above k l = rw er (omega (arith, ap (λ (n : ℕ). n * q) straight, mul-le-mul-right z k, mul-le-mul-right y l))
 
   mean-below : f * q ≤ c * t * q + p * t → h * q ≤ e * t * q + p * t → g * r * q ≤ line c e y z * t * q + p * (t * r)
@@ -57,32 +58,24 @@ module _ (a b c u s p q d : ℕ) {x r t : ℕ} (eu : d * u ≡ x) (es : d * s �
   parts-below : Below a b c u s p q → line a b x r * q ≤ c * t * q + p * t
   parts-below h = rw (et, ← eu, ← es) (omega (arith, mul-le-mul-right d (h .le)))
 
--- two fractions over one base are near if their levels are
-near-levels : {c : Ratio} {x y : Fraction} (base : ℕ) {m n : ℕ} → 1 ≤ x .den → 1 ≤ y .den → Diff (x .num) m (base * x .den) → Diff (y .num) n (base * y .den)
-    → m * y .den * c .q ≤ n * x .den * c .q + c .p * (x .den * y .den)
-    → n * x .den * c .q ≤ m * y .den * c .q + c .p * (x .den * y .den)
-    → Near c x y
-near-levels {c} {x} {y} base {m} {n} ex ey hx hy up down = record {
-  left = ex;
-  right = ey;
-  apart = size-at-most (same (less (times hx (y .den)) (times hy (x .den))) (m * y .den) (n * x .den) (omega arith)) (c .q) (c .p * (x .den * y .den)) .1 (up, down);
-}
+-- of two fractions over one base one is at most p/q above the other if its level is
+excess-levels : {c : Ratio} {x y : Fraction} (base : ℕ) {m n : ℕ} → 1 ≤ x .den → 1 ≤ y .den → Diff (x .num) m (base * x .den) → Diff (y .num) n (base * y .den)
+    → m * y .den * c .q ≤ n * x .den * c .q + c .p * (x .den * y .den) → Excess c x y
+excess-levels base ex ey hx hy h = over-excess hx hy ex ey (omega arith)
 
 -- ---- a valid link
 
 module _ {ts : List ℕ} (rising : Rising ts) (vs : List ℤ) (c : Criterion) {i j : ℕ} (inside : j < length ts) (v : AllWithin ts vs c i j) where
-  band : Band ts vs i j (c .p) (c .q) (c .p) (c .q)
-  band = within-band ts vs c i j v
+  -- each sample of the link, its ends included, is at most U above it and at most D below it
+  sample-high : (k : ℕ) → i ≤ k → k ≤ j → High ts vs i j (c .up .p) (c .up .q) k
+  sample-high = within-high rising vs inside v
 
-  -- each sample of the link, its ends included, is within p/q of it
-  sample-high : (k : ℕ) → i ≤ k → k ≤ j → High ts vs i j (c .p) (c .q) k
-  sample-high = band-high rising vs inside band
+  sample-low : (k : ℕ) → i ≤ k → k ≤ j → Low ts vs i j (c .down .p) (c .down .q) k
+  sample-low = within-low rising vs inside v
 
-  sample-low : (k : ℕ) → i ≤ k → k ≤ j → Low ts vs i j (c .p) (c .q) k
-  sample-low = band-low rising vs inside band
-
-  -- so its line is within p/q of that of two neighbours in it, between them
-  pub link-near : (a d k : ℕ) → 1 ≤ d → i ≤ k → suc k ≤ j → d * tick ts k ≤ a → a ≤ d * tick ts (suc k) → Near (ratioOf c) (linkAt ts vs i j a d) (linkAt ts vs k (suc k) a d)
+  -- so its line is at most D above that of two neighbours in it, between them, and at most U below it
+  pub link-near : (a d k : ℕ) → 1 ≤ d → i ≤ k → suc k ≤ j → d * tick ts k ≤ a → a ≤ d * tick ts (suc k)
+      → Near (c .down) (c .up) (linkAt ts vs i j a d) (linkAt ts vs k (suc k) a d)
   link-near a d k some ik kj from to =
       let ti : tick ts i ≤ tick ts k = not-earlier rising ik (omega arith) in
       let tj : tick ts (suc k) ≤ tick ts j = not-earlier rising kj inside in
@@ -95,15 +88,20 @@ module _ {ts : List ℕ} (rising : Rising ts) (vs : List ℤ) (c : Criterion) {i
       let on-line = straight-line (offsetOf vs i) (offsetOf vs j) (d * tick ts k - d * tick ts i) (a - d * tick ts k) (d * tick ts (suc k) - a) (d * tick ts j - d * tick ts (suc k))
       {u = a - d * tick ts i} {s = d * tick ts j - a} {v = d * tick ts j - d * tick ts k} {r = d * tick ts (suc k) - d * tick ts i}
       (omega arith) (omega arith) (omega arith) (omega arith) in
-      near-levels (offsetBase vs) (link-positive ts vs i j a d some (omega arith)) (link-positive ts vs k (suc k) a d some tk)
-      (link-num ts vs i j a d (omega arith) (omega arith) (offset-of-diff vs i) (offset-of-diff vs j))
-      (link-num ts vs k (suc k) a d from to (offset-of-diff vs k) (offset-of-diff vs (suc k)))
-      (mean-below (offsetOf vs k) (offsetOf vs (suc k)) _ _ _ _ _ _ (c .p) (c .q) step-is on-line
-      (parts-below _ _ _ _ _ (c .p) (c .q) d (mul-sub d _ _) (mul-sub d _ _) (length-is _ di (omega arith)) (sample-low k ik (omega arith)))
-      (parts-below _ _ _ _ _ (c .p) (c .q) d (mul-sub d _ _) (mul-sub d _ _) (length-is _ (omega arith) dj) (sample-low (suc k) (omega arith) kj)))
-      (mean-above (offsetOf vs k) (offsetOf vs (suc k)) _ _ _ _ _ _ (c .p) (c .q) step-is on-line
-      (parts-above _ _ _ _ _ (c .p) (c .q) d (mul-sub d _ _) (mul-sub d _ _) (length-is _ di (omega arith)) (sample-high k ik (omega arith)))
-      (parts-above _ _ _ _ _ (c .p) (c .q) d (mul-sub d _ _) (mul-sub d _ _) (length-is _ (omega arith) dj) (sample-high (suc k) (omega arith) kj)))
+      let link = link-num ts vs i j a d (omega arith) (omega arith) (offset-of-diff vs i) (offset-of-diff vs j) in
+      let step = link-num ts vs k (suc k) a d from to (offset-of-diff vs k) (offset-of-diff vs (suc k)) in
+      let link-some = link-positive ts vs i j a d some (omega arith) in
+      let step-some = link-positive ts vs k (suc k) a d some tk in
+      record {
+        large = excess-levels (offsetBase vs) link-some step-some link step
+            (mean-below (offsetOf vs k) (offsetOf vs (suc k)) _ _ _ _ _ _ (c .down .p) (c .down .q) step-is on-line
+            (parts-below _ _ _ _ _ (c .down .p) (c .down .q) d (mul-sub d _ _) (mul-sub d _ _) (length-is _ di (omega arith)) (sample-low k ik (omega arith)))
+            (parts-below _ _ _ _ _ (c .down .p) (c .down .q) d (mul-sub d _ _) (mul-sub d _ _) (length-is _ (omega arith) dj) (sample-low (suc k) (omega arith) kj)));
+        small = excess-levels (offsetBase vs) step-some link-some step link
+            (mean-above (offsetOf vs k) (offsetOf vs (suc k)) _ _ _ _ _ _ (c .up .p) (c .up .q) step-is on-line
+            (parts-above _ _ _ _ _ (c .up .p) (c .up .q) d (mul-sub d _ _) (mul-sub d _ _) (length-is _ di (omega arith)) (sample-high k ik (omega arith)))
+            (parts-above _ _ _ _ _ (c .up .p) (c .up .q) d (mul-sub d _ _) (mul-sub d _ _) (length-is _ (omega arith) dj) (sample-high (suc k) (omega arith) kj)));
+      }
 
 -- ---- the whole list
 
@@ -114,13 +112,13 @@ starts-before {ts} rising a d i n inside some first to = elim (decLe n i) [
   | no h ↦ omega arith
 ]
 
-one-near : (ts : List ℕ) (vs : List ℤ) (c : Ratio) (a d : ℕ) (l : List ℕ) → KeptList 0 l → Near c (lineAt ts vs l a d) (lineAt ts vs (everySample 0) a d)
+one-near : (ts : List ℕ) (vs : List ℤ) (c : Criterion) (a d : ℕ) (l : List ℕ) → KeptList 0 l → Near (c .down) (c .up) (lineAt ts vs l a d) (lineAt ts vs (everySample 0) a d)
 unfolding lineFrom samplesAfter
-one-near ts vs c a d l k = rw (kept-one l k) (near-refl c _ (omega arith))
+one-near ts vs c a d l k = rw (kept-one l k) (near-refl (c .down) (c .up) _ (omega arith))
 
 module _ {ts : List ℕ} (rising : Rising ts) (vs : List ℤ) (c : Criterion) (last a d : ℕ) (size : suc last ≡ length ts) (on : OnTrace ts a d) where
   -- a link of the list, and a step of the trace, that decide at one tick
-  located-near : {x y : Fraction} → Located ts vs (λ i j. (i < j) × (j ≤ last) × (valid ts vs c i j ≡ true)) a d x → Located ts vs (λ i j. (j ≡ suc i) × (j ≤ last)) a d y → Near (ratioOf c) x y
+  located-near : {x y : Fraction} → Located ts vs (λ i j. (i < j) × (j ≤ last) × (valid ts vs c i j ≡ true)) a d x → Located ts vs (λ i j. (j ≡ suc i) × (j ≤ last)) a d y → Near (c .down) (c .up) x y
   located-near x y =
       let e : y .j ≡ suc (y .i) = y .link .0 in
       let to : a ≤ d * tick ts (suc (y .i)) = subst (λ (n : ℕ). a ≤ d * tick ts n) e (y .to) in
@@ -130,15 +128,15 @@ module _ {ts : List ℕ} (rising : Rising ts) (vs : List ℤ) (c : Criterion) (l
       (starts-before rising a d (y .i) (x .j) (omega (arith, y .link)) (omega (arith, x .link .0)) (y .first) (x .to))
       (y .from) to)
 
-  kept-near : (l : List ℕ) → KeptList last l → AllValid (valid ts vs c) l → Near (ratioOf c) (lineAt ts vs l a d) (lineAt ts vs (everySample last) a d)
+  kept-near : (l : List ℕ) → KeptList last l → AllValid (valid ts vs c) l → Near (c .down) (c .up) (lineAt ts vs l a d) (lineAt ts vs (everySample last) a d)
   kept-near l k v =
       let to : a ≤ d * tick ts last = subst (λ (n : ℕ). a ≤ d * tick ts n) (omega arith) (on .to) in
-      ⊎-elim (λ z. subst (λ (n : ℕ). KeptList n l → Near (ratioOf c) (lineAt ts vs l a d) (lineAt ts vs (everySample n) a d)) z (one-near ts vs (ratioOf c) a d l) k)
+      ⊎-elim (λ z. subst (λ (n : ℕ). KeptList n l → Near (c .down) (c .up) (lineAt ts vs l a d) (lineAt ts vs (everySample n) a d)) z (one-near ts vs c a d l) k)
       (λ some. located-near
       (kept-located ts vs _ a d l some k (each-zip (λ i j r w. (r .0, r .1, w)) l (kept-links last l k) v) (on .from) to)
       (kept-located ts vs _ a d (everySample last) some (every-kept last) (every-links _ last (λ k h. (refl, h))) (on .from) to))
       (eq-or-lt-of-le (zero-le {n = last}))
 
 pub line-near : {ts : List ℕ} {vs : List ℤ} (c : Criterion) {l : List ℕ} → Trace ts vs → KeptList (length ts - 1) l → AllValid (valid ts vs c) l
-    → (a d : ℕ) → OnTrace ts a d → Near (ratioOf c) (lineAt ts vs l a d) (traceAt ts vs a d)
+    → (a d : ℕ) → OnTrace ts a d → Near (c .down) (c .up) (lineAt ts vs l a d) (traceAt ts vs a d)
 line-near {ts} {vs} c {l} t k v a d on = kept-near (t .rising) vs c (length ts - 1) a d (omega (arith, t .some)) on l k v

@@ -1,47 +1,43 @@
--- A kept list whose lines are within p/q of the trace's own at each sample's tick and that obeys the gap limit is within both: the other way round from NearLaws.
+-- A kept list whose lines are at most D above the trace's own and at most U below them at each sample's tick, and that obeys the gap limit, is within U
+-- above and D below: the other way round from NearLaws.
 -- Assumes nothing.
-use mathlib.Core.Path.{_≡_, _∙_}
+use mathlib.Core.Path.{_≡_}
 use mathlib.Core.Bool.{true}
 use mathlib.Core.List.{List, [], _∷_}
 use Prim.Native.Nat.{ℕ, _+_, _-_, _*_, _≤_, _<_}
-use native.Mathlib.Nat.{le-of-mul-le-mul-right}
 use native.Mathlib.Omega.{arith}
-use lib.IntN.{ℤ, pos, _-ℤ_, _*ℤ_}
+use lib.IntN.{ℤ}
 use lib.ListN.{length}
 use borrow.Author.Tests.{le-leb, lt-leb}
 use Rattle.kept.specs.Kept.{LinksFrom, final, KeptList, AllValid}
 use Rattle.kept.proofs.KeptLaws.{rise-le}
 use Rattle.trace.specs.declared.Criterion.{Criterion}
 use Rattle.trace.specs.Trace.{tick, value, Rising, Trace}
-use Rattle.trace.specs.Link.{Within, obeys, valid, ratioOf}
+use Rattle.trace.specs.Link.{Within, obeys, valid}
 use Rattle.trace.proofs.Ticks.{later}
-use Rattle.trace.proofs.Difference.{Diff, same, less, times, size-at-most}
-use Rattle.trace.proofs.Deviation.{diff}
-use Rattle.trace.proofs.Offsets.{offset-of-diff}
+use Rattle.trace.proofs.Line.{Above, Below}
+use Rattle.trace.proofs.Deviation.{line}
+use Rattle.trace.proofs.Offsets.{offset-of-diff, high, low}
 use Rattle.trace.proofs.Holes.{true-obeys}
 use Rattle.trace.proofs.Validity.{valid-true}
 use Rattle.heights.specs.Heights.{Fraction, linkAt, lineFrom, lineAt, allOf, traceAt, Near, Equals}
 use Rattle.heights.proofs.Entries.{every-kept, every-entry}
-use Rattle.heights.proofs.FractionLaws.{value-apart}
+use Rattle.heights.proofs.FractionLaws.{Over, excess-over, equals-excess, none-left, none-right}
 use Rattle.heights.proofs.LineLaws.{link-num, link-den}
 use Rattle.heights.proofs.ExtremeLaws.{line-through}
 
 -- ---- at one sample
 
--- a line of length t at height m, beside the level w, as fractions with a factor f that both have
-module _ (m w t f p q : ℕ) (some : 0 < f) where
-  line-over : m * f * q ≤ w * f * t * q + p * (t * f) → m * q ≤ w * t * q + p * t
-  line-over h = le-of-mul-le-mul-right {k = f} (omega arith) some
+-- a line of length t from level a to level b, beside a sample at level c, both over a base that cancels
+module _ (a b c u s base p q : ℕ) {t : ℕ} (et : t ≡ u + s) where
+  line-above : Over (c * q) (base * q) 1 (line a b u s * q) (base * t * q) t p → Above a b c u s p q
+  line-above h = record { le = omega (arith, rw et at h) }
 
-  line-under : w * f * t * q ≤ m * f * q + p * (t * f) → w * t * q ≤ m * q + p * t
-  line-under h = le-of-mul-le-mul-right {k = f} (omega arith) some
-
--- the difference of such a line and level, each over the base, which cancels
-level-apart : (m w t f base : ℕ) {x v : ℤ} → Diff x m (base * t) → Diff v w base → Diff (x *ℤ pos f -ℤ v *ℤ pos f *ℤ pos t) (m * f) (w * f * t)
-level-apart m w t f base hx hv = same (less (times hx f) (times (times hv f) t)) (m * f) (w * f * t) (omega arith)
+  line-below : Over (line a b u s * q) (base * t * q) t (c * q) (base * q) 1 p → Below a b c u s p q
+  line-below h = record { le = omega (arith, rw et at h) }
 
 module _ {ts : List ℕ} (rising : Rising ts) (vs : List ℤ) (c : Criterion) {i j k : ℕ} (ik : i < k) (kj : k < j) (inside : j < length ts) where
-  near-within : {y : Fraction} → Near (ratioOf c) (linkAt ts vs i j (tick ts k) 1) y → Equals y (value vs k) → Within ts vs c i j k
+  near-within : {y : Fraction} → Near (c .down) (c .up) (linkAt ts vs i j (tick ts k) 1) y → Equals y (value vs k) → Within ts vs c i j k
   near-within {y} near is =
       let ti : tick ts i < tick ts k = later rising k ik (omega arith) in
       let tj : tick ts k < tick ts j = later rising j kj inside in
@@ -49,18 +45,21 @@ module _ {ts : List ℕ} (rising : Rising ts) (vs : List ℤ) (c : Criterion) {i
       let to : tick ts k ≤ 1 * tick ts j = omega arith in
       let r : tick ts k - 1 * tick ts i ≡ tick ts k - tick ts i = omega arith in
       let s : 1 * tick ts j - tick ts k ≡ tick ts j - tick ts k = omega arith in
-      let den : linkAt ts vs i j (tick ts k) 1 .den ≡ tick ts j - tick ts i = link-den ts vs i j (tick ts k) 1 from to ∙ omega arith in
+      let den = rw (r, s) at (link-den ts vs i j (tick ts k) 1 from to) in
       let num = rw (r, s) at (link-num ts vs i j (tick ts k) 1 from to (offset-of-diff vs i) (offset-of-diff vs j)) in
-      let sizes = size-at-most (level-apart _ _ _ _ _ num (offset-of-diff vs k)) (c .q) _ .0 (value-apart near is) in
-      size-at-most (diff ts vs i j k (c .p) (c .q) (offset-of-diff vs i) (offset-of-diff vs j) (offset-of-diff vs k) (omega arith) (omega arith)) (c .q) (c .p * (tick ts j - tick ts i)) .1
-      (rw den at (line-under _ _ _ (y .den) (c .p) (c .q) (near .right) (sizes .1)), rw den at (line-over _ _ _ (y .den) (c .p) (c .q) (near .right) (sizes .0)))
+      record {
+        up = high rising vs i j k (c .up .p) (c .up .q) (omega arith) (omega arith) inside .1
+            (line-above _ _ _ _ _ _ (c .up .p) (c .up .q) den (excess-over (offset-of-diff vs k) num (none-left (equals-excess is .0) (near .small))));
+        down = low rising vs i j k (c .down .p) (c .down .q) (omega arith) (omega arith) inside .1
+            (line-below _ _ _ _ _ _ (c .down .p) (c .down .q) den (excess-over num (offset-of-diff vs k) (none-right (near .large) (equals-excess is .1))));
+      }
 
 -- ---- the whole list
 
 module _ {ts : List ℕ} (rising : Rising ts) (vs : List ℤ) (c : Criterion) where
   -- at the ticks between two samples the line is that of their link, and after them that of the rest
   from-valid : (s : List ℕ) (i : ℕ) → LinksFrom _<_ i s → LinksFrom (λ i j. obeys ts (c .gap) i j ≡ true) i s → final i s < length ts
-      → ((k : ℕ) → i < k → k < final i s → (y : Fraction) × Near (ratioOf c) (lineFrom ts vs i s (tick ts k) 1) y × Equals y (value vs k)) → LinksFrom (λ i j. valid ts vs c i j ≡ true) i s
+      → ((k : ℕ) → i < k → k < final i s → (y : Fraction) × Near (c .down) (c .up) (lineFrom ts vs i s (tick ts k) 1) y × Equals y (value vs k)) → LinksFrom (λ i j. valid ts vs c i j ≡ true) i s
   unfolding lineFrom
   from-valid [] i r o inside near = tt
   from-valid (j ∷ s) i r o inside near =
@@ -77,7 +76,7 @@ module _ {ts : List ℕ} (rising : Rising ts) (vs : List ℤ) (c : Criterion) wh
       )
 
 pub near-valid : {ts : List ℕ} {vs : List ℤ} (c : Criterion) (l : List ℕ) → Trace ts vs → KeptList (length ts - 1) l → AllValid (obeys ts (c .gap)) l
-    → ((k : ℕ) → k ≤ length ts - 1 → Near (ratioOf c) (lineAt ts vs l (tick ts k) 1) (traceAt ts vs (tick ts k) 1)) → AllValid (valid ts vs c) l
+    → ((k : ℕ) → k ≤ length ts - 1 → Near (c .down) (c .up) (lineAt ts vs l (tick ts k) 1) (traceAt ts vs (tick ts k) 1)) → AllValid (valid ts vs c) l
 near-valid c [] t k o near = tt
 near-valid {ts} {vs} c (i ∷ s) t k o near =
     let last = length ts - 1 in

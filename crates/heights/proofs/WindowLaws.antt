@@ -1,24 +1,23 @@
--- What a kept list within p/q tells of its trace over any window: means, areas, and a greatest or least value beside a mean.
+-- What a kept list within U above and D below tells of its trace over any window: means, areas, and a greatest or least value beside a mean.
 -- Assumes nothing.
 use mathlib.Core.Path.{_≡_, refl}
 use mathlib.Core.List.{List}
 use Prim.Native.Nat.{ℕ, zero, suc, _+_, _-_, _*_, _≤_, _<_}
-use native.Mathlib.Nat.{zero-add, mul-one, mul-le-mul-right, mul-pos}
+use native.Mathlib.Nat.{add-comm, mul-comm, mul-pos}
 use native.Mathlib.Omega.{arith}
 use lib.IntN.{ℤ, pos, _-ℤ_, _*ℤ_}
 use lib.ListN.{length}
 use lib.Signed.{_≤ℤ_}
 use Rattle.kept.specs.Kept.{KeptList, AllValid}
 use Rattle.ratio.specs.declared.Ratio.{Ratio}
+use Rattle.ratio.specs.Order.{over, plus}
 use Rattle.trace.specs.declared.Criterion.{Criterion}
 use Rattle.trace.specs.Trace.{tick, Trace}
-use Rattle.trace.specs.Link.{valid, ratioOf}
-use Rattle.trace.proofs.Difference.{times, less, parts, at-most}
-use Rattle.heights.specs.Heights.{Fraction, lineAt, traceAt, allOf, OnTrace, Near, Equals, peak, trough}
-use Rattle.heights.specs.Windows.{Line, summed, Excess, Window, sumAt, meanAt, valueSum, meanOver, BaselineNear}
+use Rattle.trace.specs.Link.{valid}
+use Rattle.heights.specs.Heights.{Fraction, lineAt, traceAt, allOf, OnTrace, Excess, Near, Equals, peak, trough}
+use Rattle.heights.specs.Windows.{Line, summed, Window, sumAt, meanAt, valueSum, meanOver}
 use Rattle.heights.specs.Budget.{BaselineBudget, WindowBudget}
-use Rattle.heights.proofs.Order.{order}
-use Rattle.heights.proofs.FractionLaws.{equals-summed, excess-summed, excess-opposite, excess-whole, near-excess, near-opposite, near-refl, near-summed, near-multiplied, near-wider}
+use Rattle.heights.proofs.FractionLaws.{equals-summed, plus-summed, excess-opposite, excess-whole, none, none-summed, order-excess, near-opposite, near-refl, near-summed, near-multiplied, near-wider}
 use Rattle.heights.proofs.Entries.{every-kept, every-entry}
 use Rattle.heights.proofs.NearLaws.{line-near}
 use Rattle.heights.proofs.AreaLaws.{area-near}
@@ -26,16 +25,16 @@ use Rattle.heights.proofs.ExtremeLaws.{line-through}
 
 -- ---- whole ticks
 
-module _ (c : Ratio) (f g : Line) where
-  sum-near : (n a : ℕ) → ((k : ℕ) → a ≤ k → k < a + n → Near c (f k 1) (g k 1)) → Near (record { p = c .p * n; q = c .q }) (sumAt f a n) (sumAt g a n)
+module _ (d u : Ratio) (f g : Line) where
+  sum-near : (n a : ℕ) → ((k : ℕ) → a ≤ k → k < a + n → Near d u (f k 1) (g k 1)) → Near (over (d .p * n) (d .q)) (over (u .p * n) (u .q)) (sumAt f a n) (sumAt g a n)
   unfolding sumAt
-  sum-near zero a h = near-refl _ _ (omega arith)
+  sum-near zero a h = near-refl _ _ _ (omega arith)
   sum-near (suc n) a h =
-      let e : c .p * suc n ≡ c .p + c .p * n = omega arith in
-      rw e (near-summed (h a (omega arith) (omega arith)) (sum-near n (suc a) (λ k u v. h k (omega arith) (omega arith))))
+      let e : (p : ℕ) → p * suc n ≡ p + p * n = λ p. omega arith in
+      rw (e (d .p), e (u .p)) (near-summed (h a (omega arith) (omega arith)) (sum-near n (suc a) (λ k u v. h k (omega arith) (omega arith))))
 
-  mean-near : (a n : ℕ) → 1 ≤ c .q → 1 ≤ n → ((k : ℕ) → a ≤ k → k < a + n → Near c (f k 1) (g k 1)) → Near c (meanAt f a n) (meanAt g a n)
-  mean-near a n some one h = near-wider (mul-pos some one) (omega arith) (near-multiplied 1 n one (sum-near n a h))
+  mean-near : (a n : ℕ) → 1 ≤ d .q → 1 ≤ u .q → 1 ≤ n → ((k : ℕ) → a ≤ k → k < a + n → Near d u (f k 1) (g k 1)) → Near d u (meanAt f a n) (meanAt g a n)
+  mean-near a n d-some u-some one h = near-wider (mul-pos d-some one) (mul-pos u-some one) (omega arith) (omega arith) (near-multiplied 1 n one (sum-near n a h))
 
 window-on : {ts : List ℕ} {a n : ℕ} → Window ts a n → (k : ℕ) → a ≤ k → k < a + n → OnTrace ts k 1
 window-on w k u v = record { positive = omega arith; from = omega (arith, w .from); to = omega (arith, w .to) }
@@ -52,47 +51,39 @@ samples-sum {ts} {vs} t (suc n) k a inside h =
 
 -- ---- a greatest or least value beside a mean
 
--- u, x of the list and v, y of the trace: u is never above v and at most p/q below it, and x is within p/q of y
-baseline-near : {c : Ratio} {u v x y : Fraction} → Excess (record { p = 0; q = c .q }) u v → Excess c v u → Near c x y → BaselineNear c (summed u x) (summed v y)
-baseline-near {c} never most near =
-    let double : c .p * 2 ≡ c .p + c .p = omega arith in
-    record {
-      large = rw (zero-add (c .p)) at (excess-summed never (near-excess near .0));
-      small = rw (double, mul-one (c .q)) (excess-summed most (near-excess near .1));
-    }
-
-at-most-none : (v w : ℤ) (q : ℕ) → v ≤ℤ w → ((v -ℤ w) *ℤ pos q) ≤ℤ pos 0
-at-most-none v w q h =
-    let dv = parts v .2 in
-    let dw = parts w .2 in
-    at-most (times (less dv dw) q) 0 .1 (omega (arith, mul-le-mul-right q (order dv dw .0 h)))
+-- u, x of the list and v, y of the trace: u is never too large and at most a too small, x at most a too large and at most b too small
+baseline-near : {a b : Ratio} {u v x y : Fraction} → 1 ≤ a .q → 1 ≤ b .q → Excess none u v → Excess a v u → Near a b x y → Near a (plus a b) (summed u x) (summed v y)
+baseline-near some more never most near = record { large = none-summed never (near .large); small = plus-summed some more most (near .small) }
 
 -- ---- the budget
 
 by-ticks : (p q w d : ℕ) → p * w * d * q ≤ p * (q * d * w)
 by-ticks p q w d = omega arith
 
-module _ {ts : List ℕ} {vs : List ℤ} (c : Criterion) {l : List ℕ} (some : 1 ≤ c .q) (t : Trace ts vs) (kept : KeptList (length ts - 1) l) (within : AllValid (valid ts vs c) l) where
-  means-at : (a n : ℕ) → Window ts a n → Near (ratioOf c) (meanAt (lineAt ts vs l) a n) (meanAt (traceAt ts vs) a n)
-  means-at a n w = mean-near (ratioOf c) (lineAt ts vs l) (traceAt ts vs) a n some (w .some) (λ k u v. line-near c t kept within k 1 (window-on w k u v))
+module _ {ts : List ℕ} {vs : List ℤ} (c : Criterion) {l : List ℕ} (up-some : 1 ≤ c .up .q) (down-some : 1 ≤ c .down .q) (t : Trace ts vs) (kept : KeptList (length ts - 1) l)
+    (within : AllValid (valid ts vs c) l) where
+  means-at : (a n : ℕ) → Window ts a n → Near (c .down) (c .up) (meanAt (lineAt ts vs l) a n) (meanAt (traceAt ts vs) a n)
+  means-at a n w = mean-near (c .down) (c .up) (lineAt ts vs l) (traceAt ts vs) a n down-some up-some (w .some) (λ k u v. line-near c t kept within k 1 (window-on w k u v))
 
-  means-over : (a b d : ℕ) → OnTrace ts a d → OnTrace ts b d → a < b → Near (ratioOf c) (meanOver ts vs l a b d) (meanOver ts vs (allOf ts) a b d)
+  means-over : (a b d : ℕ) → OnTrace ts a d → OnTrace ts b d → a < b → Near (c .down) (c .up) (meanOver ts vs l a b d) (meanOver ts vs (allOf ts) a b d)
   means-over a b d oa ob ab =
-      near-wider (mul-pos (mul-pos some (oa .positive)) (omega arith)) (by-ticks (c .p) (c .q) (b - a) d) (near-multiplied d (b - a) (omega arith) (area-near c some t kept within a b d oa ob (omega arith)))
+      near-wider (mul-pos (mul-pos down-some (oa .positive)) (omega arith)) (mul-pos (mul-pos up-some (oa .positive)) (omega arith))
+      (by-ticks (c .down .p) (c .down .q) (b - a) d) (by-ticks (c .up .p) (c .up .q) (b - a) d)
+      (near-multiplied d (b - a) (omega arith) (area-near c up-some down-some t kept within a b d oa ob (omega arith)))
 
-  module _ (peak-high : peak vs l ≤ℤ peak vs (allOf ts)) (peak-near : ((peak vs (allOf ts) -ℤ peak vs l) *ℤ pos (c .q)) ≤ℤ pos (c .p))
-      (trough-low : trough vs (allOf ts) ≤ℤ trough vs l) (trough-near : ((trough vs l -ℤ trough vs (allOf ts)) *ℤ pos (c .q)) ≤ℤ pos (c .p)) where
-    baseline : {x y : Fraction} → Near (ratioOf c) x y → BaselineBudget ts vs c l x y
+  module _ (peak-high : peak vs l ≤ℤ peak vs (allOf ts)) (peak-near : ((peak vs (allOf ts) -ℤ peak vs l) *ℤ pos (c .up .q)) ≤ℤ pos (c .up .p))
+      (trough-low : trough vs (allOf ts) ≤ℤ trough vs l) (trough-near : ((trough vs l -ℤ trough vs (allOf ts)) *ℤ pos (c .down .q)) ≤ℤ pos (c .down .p)) where
+    baseline : {x y : Fraction} → Near (c .down) (c .up) x y → BaselineBudget ts vs c l x y
     baseline h = record {
-      over-mean = baseline-near (excess-whole _ _ (at-most-none _ _ (c .q) peak-high)) (excess-whole _ _ peak-near) (near-opposite h);
-      under-mean = baseline-near (excess-opposite (excess-whole (trough vs (allOf ts)) (trough vs l) (at-most-none _ _ (c .q) trough-low)))
-          (excess-opposite (excess-whole (trough vs l) (trough vs (allOf ts)) trough-near)) h;
+      over-mean = baseline-near up-some down-some (order-excess peak-high) (excess-whole _ _ .0 peak-near) (near-opposite h);
+      under-mean = rw (add-comm (c .up .p * c .down .q) (c .down .p * c .up .q), mul-comm (c .up .q) (c .down .q))
+          (baseline-near down-some up-some (excess-opposite (order-excess trough-low)) (excess-opposite (excess-whole (trough vs l) (trough vs (allOf ts)) .0 trough-near)) h);
     }
 
     pub window-budget : WindowBudget ts vs c l
     window-budget = record {
       mean-at = means-at;
-      area = area-near c some t kept within;
+      area = area-near c up-some down-some t kept within;
       mean-over = means-over;
       baseline-at = λ a n w. baseline (means-at a n w);
       baseline-over = λ a b d oa ob ab. baseline (means-over a b d oa ob ab);

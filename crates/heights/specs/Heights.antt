@@ -6,13 +6,15 @@
 --   everySample, allOf    the list of the samples 0 .. last; of all samples of a trace
 --   traceAt               the lines of all samples: the trace's own
 --   OnTrace               a/d is a tick between the first and the last, whole or fractional
---   Near                  two fractions differ by at most p/q
+--   Excess                a fraction is at most p/q above another
+--   Near                  a fraction that stands for another is at most so much too large and at most so much too small
+--   Apart                 two fractions differ by at most p/q: near, with p/q on either side
 --   Equals, Between       a fraction is a whole number; it lies between two
 --   higher, lower         the higher and the lower of two values
 --   joined, ofSamples     the values of the samples i ∷ s, or of any list, joined by a function of two
 --   peak, trough, height  the greatest and the least value of a list's samples, and their difference
 --   Attained, Extremes    a list's lines have a value at some sample; peak and trough are the greatest and the least value on them
--- A fraction with the denominator 0 is none: Near, Equals and Between ask for more. Laws are in proofs/. Assumes nothing.
+-- A fraction with the denominator 0 is none: Excess, Near, Apart, Equals and Between ask for more. Laws are in proofs/. Assumes nothing.
 use mathlib.Core.Path.{_≡_}
 use mathlib.Core.Bool.{cond}
 use mathlib.Core.List.{List, [], _∷_}
@@ -70,8 +72,19 @@ pub record OnTrace (ts : List ℕ) (a d : ℕ) : Type 0 where
 
 -- ---- fractions
 
+-- x - y ≤ p/q, times both denominators and q
+pub record Excess (r : Ratio) (x y : Fraction) : Type 0 where
+  pub left : 1 ≤ x .den
+  pub right : 1 ≤ y .den
+  pub above : ((x .num *ℤ pos (y .den) -ℤ y .num *ℤ pos (x .den)) *ℤ pos (r .q)) ≤ℤ pos (r .p * (x .den * y .den))
+
+-- x stands for y, and is at most a too large and at most b too small
+pub record Near (a b : Ratio) (x y : Fraction) : Type 0 where
+  pub large : Excess a x y
+  pub small : Excess b y x
+
 -- |x - y| ≤ p/q, times both denominators and q
-pub record Near (r : Ratio) (x y : Fraction) : Type 0 where
+pub record Apart (r : Ratio) (x y : Fraction) : Type 0 where
   pub left : 1 ≤ x .den
   pub right : 1 ≤ y .den
   pub apart : natAbs (x .num *ℤ pos (y .den) -ℤ y .num *ℤ pos (x .den)) * r .q ≤ r .p * (x .den * y .den)

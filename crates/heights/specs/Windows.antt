@@ -14,14 +14,11 @@
 --   meanOver              the mean of a list's lines from the tick a/d to the tick b/d: their area over its ticks
 --   baselineHeight        the greatest value of a list's samples minus a mean
 --   baselineDepth         a mean minus the least value of a list's samples
---   Excess                a fraction is at most p/q above another
---   BaselineNear          a height or depth that stands for another is at most p/q too large and at most 2p/q too small
 -- Laws are in FractionLaws, AreaLaws and WindowLaws. Assumes nothing.
 use mathlib.Core.List.{List, [], _∷_}
 use Prim.Native.Nat.{ℕ, zero, suc, _+_, _-_, _*_, _≤_, min, max}
-use lib.IntN.{ℤ, pos, negℤ, _+ℤ_, _-ℤ_, _*ℤ_}
+use lib.IntN.{ℤ, pos, negℤ, _+ℤ_, _*ℤ_}
 use lib.ListN.{length}
-use lib.Signed.{_≤ℤ_}
 use Rattle.ratio.specs.declared.Ratio.{Ratio}
 use Rattle.trace.specs.Trace.{tick, value}
 use Rattle.heights.specs.Heights.{Fraction, linkAt, peak, trough}
@@ -51,12 +48,6 @@ opposite x = record { num = negℤ (x .num); den = x .den }
 -- m/n times p/q
 abbrev pub multiple : Ratio → ℕ → ℕ → Ratio
 multiple r m n = record { p = r .p * m; q = r .q * n }
-
--- x - y ≤ p/q, times both denominators and q
-pub record Excess (r : Ratio) (x y : Fraction) : Type 0 where
-  pub left : 1 ≤ x .den
-  pub right : 1 ≤ y .den
-  pub above : ((x .num *ℤ pos (y .den) -ℤ y .num *ℤ pos (x .den)) *ℤ pos (r .q)) ≤ℤ pos (r .p * (x .den * y .den))
 
 -- ---- whole ticks
 
@@ -111,7 +102,3 @@ baselineHeight vs l m = summed (whole (peak vs l)) (opposite m)
 -- m - trough
 abbrev pub baselineDepth : List ℤ → List ℕ → Fraction → Fraction
 baselineDepth vs l m = summed (opposite (whole (trough vs l))) m
-
-pub record BaselineNear (r : Ratio) (x y : Fraction) : Type 0 where
-  pub large : Excess r x y
-  pub small : Excess (multiple r 2 1) y x

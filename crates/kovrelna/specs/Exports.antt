@@ -10,16 +10,16 @@ use Rattle.refusal.specs.declared.Checked.{Checked}
 use Rattle.live.specs.declared.View.{View}
 use Rattle.live.specs.Live.{begunOf as begunBy, AddOutcome}
 use Rattle.engine.specs.declared.Holding.{Holding}
-use Rattle.engine.specs.declared.Measured as M
-use Rattle.engine.specs.declared.Verdict as E
+use Rattle.judging.specs.declared.Measured as M
+use Rattle.judging.specs.declared.Verdict as E
 use Rattle.engine.specs.declared.Reduced.{Reduced}
 use Rattle.engine.specs.declared.Scanned as N
 use Rattle.engine.specs.declared.Probed.{Probed}
 use Rattle.engine.specs.declared.Closest as C
 use Rattle.engine.specs.declared.Written.{Written}
 use Rattle.engine.specs.Hold.{HoldOutcome}
-use Rattle.engine.specs.Measure.{MeasureOutcome}
-use Rattle.engine.specs.Judge.{JudgeOutcome}
+use Rattle.judging.specs.Measure.{MeasureOutcome}
+use Rattle.judging.specs.Judge.{JudgeOutcome}
 use Rattle.engine.specs.Expand.{ExpandOutcome, ExpandWithOutcome}
 use Rattle.engine.specs.Write.{WriteOutcome}
 use Rattle.reader.specs.declared.Answer as R

@@ -1,6 +1,6 @@
 -- Laws of the checks 1 to 4 and 15.
 -- Assumes nothing.
-use mathlib.Core.Path.{_≡_}
+use mathlib.Core.Path.{_≡_, refl}
 use mathlib.Core.List.{List}
 use Prim.Native.Nat.{ℕ, _≤_, _<_}
 use native.Mathlib.Omega.{arith}
@@ -14,16 +14,18 @@ use Rattle.refusal.specs.declared.Checked.the-variants.{Fine, Refused}
 use Rattle.refusal.specs.Table.{NotAllowedTolerance}
 use Rattle.refusal.proofs.TableLaws.{then-fine}
 use Rattle.limits.specs.declared.Limits.{Limits}
+use Rattle.tolerance.specs.declared.Meaning.{Meaning}
 use Rattle.tolerance.specs.declared.Meaning.the-variants.{Exact, NotAllowed}
-use Rattle.tolerance.specs.Meaning.{meaning}
+use Rattle.tolerance.specs.declared.Parts.{Parts}
+use Rattle.tolerance.specs.Meaning.{meaning, Held, HeldParts}
 use Rattle.tolerance.proofs.Meanings.{exact-held}
 use Rattle.trace.specs.declared.Criterion.{Criterion}
 use Rattle.trace.specs.Trace.{Trace, traceRows}
-use Rattle.trace.specs.Link.{limited}
+use Rattle.trace.specs.Link.{parted, Bounds}
 use Rattle.trace.proofs.TraceLaws.{rows-trace}
 use Rattle.limits.specs.declared.Ready.{Ready}
 use Rattle.limits.specs.declared.Ready.the-variants.{At, Refused as Declined}
-use Rattle.limits.specs.Prepare.{gapRow, limitRows, Under, commonRows, criterionIn, criterionOf, Sets, Allowed, ReadyAt, Prepared, outputRows, OutputReady}
+use Rattle.limits.specs.Prepare.{toleranceRow, gapRow, limitRows, Under, commonRows, criterionIn, criterionOf, partsOf, Sets, Allowed, ReadyAt, Prepared, outputRows, OutputReady}
 
 pub gap-low : (g : ℕ) → g < 1 → Refused Gap ≡ gapRow g
 gap-low g h = rw (lt-leb 1 g h)
@@ -34,17 +36,30 @@ gap-high g some h = rw (le-leb 1 g some, lt-leb g 1048575 h)
 pub gap-fine : (g : ℕ) → 1 ≤ g → g ≤ 1048575 → Fine ≡ gapRow g
 gap-fine g some h = rw (le-leb 1 g some, le-leb g 1048575 h)
 
--- an allowed tolerance and an allowed gap limit set the criterion of its ratio under it, within the bounds of an allowed one
-pub exact-sets : (t : Limits) {r : Ratio} → meaning (t .tolerance) ≡ Exact r → gapRow (t .gap) ≡ Fine → Sets t (limited (t .gap) r)
-unfolding criterionOf criterionIn
-exact-sets t {r} e fine =
-    let h = exact-held (t .tolerance) r e in
-    record { row = rw e fine; is = rw e; bounded = record { positive = h .positive; q-bound = h .q-bound; p-bound = h .p-bound } }
+-- the numbers of a held tolerance
+held-bounds : {r : Ratio} → Held r → Bounds r
+held-bounds h = record { positive = h .positive; q-bound = h .q-bound; p-bound = h .p-bound }
+
+-- an allowed tolerance and an allowed gap limit set the criterion of its parts under it, within the bounds of an allowed one
+pub exact-sets : (t : Limits) {x : Parts} → meaning (t .tolerance) ≡ Exact x → gapRow (t .gap) ≡ Fine → Sets t (parted (t .gap) (x .up) (x .down))
+unfolding criterionOf
+exact-sets t {x} e fine =
+    let h = exact-held (t .tolerance) x e in
+    record { row = rw e fine; is = rw e; bounded = record { up = held-bounds (h .up); down = held-bounds (h .down) } }
 
 -- the gap limit is asked where the tolerance is allowed
-pub exact-allowed : (t : Limits) {r : Ratio} (x : Ready) → meaning (t .tolerance) ≡ Exact r → Under r (t .gap) x → Allowed t x
+pub exact-allowed : (t : Limits) {x : Parts} (r : Ready) → meaning (t .tolerance) ≡ Exact x → Under x (t .gap) r → Allowed t r
 exact-allowed t (At c) e u = rw (u .1) (exact-sets t e (u .0))
-exact-allowed t (Declined x) e u = rw e u
+exact-allowed t (Declined y) e u = rw e u
+
+-- the parts that allowed limits set are held in lowest terms
+pub limits-held : (t : Limits) → limitRows t ≡ Fine → HeldParts (partsOf (criterionOf t))
+unfolding criterionOf
+limits-held t e = go (meaning (t .tolerance)) refl (then-fine (toleranceRow (meaning (t .tolerance))) _ e .0)
+  where
+    go : (m : Meaning) → meaning (t .tolerance) ≡ m → toleranceRow m ≡ Fine → HeldParts (partsOf (criterionIn (t .gap) m))
+    go (Exact x) q e = exact-held (t .tolerance) x q
+    go NotAllowed q e = let z : _≡_ {A = ℕ} 0 1 = cc in absurd (omega arith)
 
 -- a tolerance that is not allowed is the first cause
 pub not-allowed : (t : Limits) → meaning (t .tolerance) ≡ NotAllowed → limitRows t ≡ Refused NotAllowedTolerance

@@ -5,7 +5,8 @@
 --   limitRows                     the first of the rows 4, 15 that applies
 --   commonRows                    the first of the rows 1, 2, 3, 4, 15 that applies
 --   criterionIn, criterionOf      the criterion that a meaning under a gap limit, that limits set
---   Under                         what check 15 gives: the criterion of a ratio under the gap limit, or the row
+--   partsOf                       the parts of a criterion
+--   Under                         what check 15 gives: the criterion of two parts under the gap limit, or the row
 --   Sets, Allowed                 what the checks 4 and 15 give: the criterion that allowed limits set, or the row
 --   ReadyAt, Prepared             what the checks 1 to 4 and 15 give: a trace and that criterion, or the row
 --   outputRows                    the first of the rows 1, 2, 3, 4, 15, 10 that applies, for a list that needs as many entries as the trace has samples
@@ -18,19 +19,19 @@ use Prim.Native.Nat.{ℕ, _≤_}
 use lib.Dec.{leb}
 use lib.IntN.{ℤ}
 use lib.ListN.{length}
-use Rattle.ratio.specs.declared.Ratio.{Ratio}
 use Rattle.ratio.specs.Order.{over}
 use Rattle.refusal.specs.declared.Refusal.the-variants.{Gap}
 use Rattle.refusal.specs.declared.Checked.{Checked}
 use Rattle.refusal.specs.declared.Checked.the-variants.{Fine, Refused}
 use Rattle.refusal.specs.Table.{NotAllowedTolerance, row, roomRow, _thenCheck_}
 use Rattle.tolerance.specs.declared.Tolerance.{Tolerance}
+use Rattle.tolerance.specs.declared.Parts.{Parts}
 use Rattle.tolerance.specs.declared.Meaning.{Meaning}
 use Rattle.tolerance.specs.declared.Meaning.the-variants.{Exact, NotAllowed}
 use Rattle.tolerance.specs.Meaning.{meaning}
 use Rattle.trace.specs.declared.Criterion.{Criterion}
 use Rattle.trace.specs.Trace.{Trace, traceRows}
-use Rattle.trace.specs.Link.{limited, Bounded}
+use Rattle.trace.specs.Link.{parted, limited, Bounded}
 use Rattle.limits.specs.declared.Limits.{Limits}
 use Rattle.limits.specs.declared.Ready.{Ready}
 use Rattle.limits.specs.declared.Ready.the-variants.{At, Refused as Declined}
@@ -40,7 +41,7 @@ unlimited t = record { tolerance = t; gap = 1048575 }
 
 -- 4: tolerance not allowed
 abbrev pub toleranceRow : Meaning → Checked
-toleranceRow (Exact r) = Fine
+toleranceRow (Exact x) = Fine
 toleranceRow NotAllowed = Refused NotAllowedTolerance
 
 -- 15: gap limit out of range
@@ -55,15 +56,18 @@ commonRows ts vs t = traceRows 4096 ts vs thenCheck limitRows t
 
 -- 0 where the tolerance is not allowed, which no answer depends on
 abbrev pub criterionIn : ℕ → Meaning → Criterion
-criterionIn g (Exact r) = limited g r
+criterionIn g (Exact x) = parted g (x .up) (x .down)
 criterionIn g NotAllowed = limited g (over 0 1)
 
 unfoldable pub criterionOf : Limits → Criterion
 criterionOf t = criterionIn (t .gap) (meaning (t .tolerance))
 
-abbrev pub Under : Ratio → ℕ → Ready → Type 0
-Under r g (At c) = (gapRow g ≡ Fine) × (c ≡ limited g r)
-Under r g (Declined x) = gapRow g ≡ Refused x
+abbrev pub partsOf : Criterion → Parts
+partsOf c = record { up = c .up; down = c .down }
+
+abbrev pub Under : Parts → ℕ → Ready → Type 0
+Under x g (At c) = (gapRow g ≡ Fine) × (c ≡ parted g (x .up) (x .down))
+Under x g (Declined y) = gapRow g ≡ Refused y
 
 -- c is the criterion that t, allowed limits, sets
 pub record Sets (t : Limits) (c : Criterion) : Type 0 where

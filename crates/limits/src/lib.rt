@@ -1,10 +1,10 @@
 // Limits, and what the calls on a trace with limits have in common: the checks 1 to 4 and 15, and 10 for those that write a list.
 ghost use mathlib.Core.Path.{_≡_};
 ghost use Rattle.limits.specs.Prepare.{gapRow, Under, Prepared, Allowed, OutputPrepared};
-use ratio::Ratio;
 use refusal::Checked;
 use refusal::Refusal;
 use tolerance::Meaning;
+use tolerance::Parts;
 use tolerance::Tolerance;
 use trace::Criterion;
 
@@ -34,17 +34,15 @@ pub fn check_gap(gap: u32) -> Checked
 }
 
 // Check 15, of the gap limit beside an allowed tolerance.
-fn under(r: Ratio, gap: u32) -> Ready
-    ensures { λ x. ⌜ Under r gap x ⌝ }
+fn under(x: Parts, gap: u32) -> Ready
+    ensures { λ r. ⌜ Under x gap r ⌝ }
 {
+    let up = x.up;
+    let down = x.down;
     let checked = check_gap(gap);
     match checked {
-        Checked::Fine => Ready::At(Criterion {
-            p: r.p,
-            q: r.q,
-            gap,
-        }),
-        Checked::Refused(x) => Ready::Refused(x),
+        Checked::Fine => Ready::At(Criterion { up, down, gap }),
+        Checked::Refused(y) => Ready::Refused(y),
     }
 }
 
@@ -55,7 +53,7 @@ pub fn criterion(t: Limits) -> Ready
     let given = t.tolerance;
     let m = tolerance::meaning_of(given);
     match m {
-        Meaning::Exact(r) => under(r, t.gap),
+        Meaning::Exact(x) => under(x, t.gap),
         Meaning::NotAllowed => Ready::Refused(Refusal::Tolerance(0)),
     }
 }

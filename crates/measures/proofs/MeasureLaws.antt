@@ -11,28 +11,29 @@ use native.Mathlib.Omega.{arith}
 use lib.Dec.{leb, eqb}
 use lib.IntN.{ℤ, pos, negsuc, natAbs}
 use borrow.Author.Count.{below-more}
-use borrow.Author.Tests.{eq-eqb, ne-eqb, le-leb, lt-leb, leb-true}
+use borrow.Author.Tests.{eq-eqb, ne-eqb, le-leb, lt-leb}
 use Rattle.lists.specs.First.{first}
-use Rattle.lists.proofs.Tests.{by-test, true-false, tests-equal}
+use Rattle.lists.proofs.Tests.{by-test, true-false}
 use Rattle.lists.proofs.FirstLaws.{first-at, first-found}
 use Rattle.ratio.specs.declared.Ratio.{Ratio}
 use Rattle.ratio.specs.Gcd.{lowest}
+use Rattle.ratio.specs.Order.{over}
 use Rattle.ratio.proofs.Laws.{lowest-equal}
 use Rattle.trace.specs.declared.Criterion.{Criterion}
 use Rattle.trace.specs.declared.Side.{Side}
 use Rattle.trace.specs.declared.Side.the-variants.{Gap}
 use Rattle.trace.specs.Trace.{tick}
-use Rattle.trace.specs.Link.{deviation, greatest, farthest, linkError, hole, Within, AllWithin, allWithin, valid, Linked, Bounded, criterion, ratioOf, sideOf}
+use Rattle.trace.specs.Link.{deviation, greatest, farthest, linkError, hole, Within, AllWithin, allWithin, valid, Linked, Bounded, parted, limited, criterion, sideOf}
 use Rattle.trace.proofs.Ticks.{later, span-bound}
 use Rattle.trace.proofs.Difference.{size}
 use Rattle.trace.proofs.Deviation.{diff}
 use Rattle.trace.proofs.Offsets.{offsetOf, offset-of-diff}
 use Rattle.trace.proofs.Holes.{none-hole, some-hole, first-obeys}
-use Rattle.trace.proofs.Validity.{all-within-true, true-all-within, obeying-valid}
-use Rattle.trace.proofs.Errors.{greatest-each, each-greatest, link-error-pos, within-link-error}
+use Rattle.trace.proofs.Validity.{all-within-true, true-all-within, obeying-valid, equal-parts, within-wider}
+use Rattle.trace.proofs.Errors.{greatest-each, each-greatest, link-error-pos, both-bounded}
 use Rattle.measures.specs.declared.Stray.{Stray}
 use Rattle.measures.specs.declared.Measure.{Measure}
-use Rattle.measures.specs.Measure.{worstSample, deviationOf, strayOf, measureOf, gapOf, faultOf, Strays, Cut, OffendsOn, Offends}
+use Rattle.measures.specs.Measure.{worstSample, deviationOf, strayOf, measureOf, gapOf, faultOf, Strays, Cut, Outside, OffendsOn, Offends}
 
 -- ---- the first of the greatest
 
@@ -136,11 +137,11 @@ module _ {ts : List ℕ} {vs : List ℤ} {i j : ℕ} (h : Linked ts vs i j) wher
       rw (← (leads-farthest l), ← (leads-worst l), ← (m .run))
 
   pub straying-allowed : {k : ℕ} {s : Stray} → Straying ts vs i j k s → Bounded (criterion (deviationOf s))
-  straying-allowed m = record {
+  straying-allowed m = both-bounded (record {
     positive = omega (arith, m .run, later (h .trace .rising) j (h .forward) (h .inside));
     q-bound = rw (m .run) (span-bound (h .trace) i j (omega (arith, h .forward)) (h .inside));
     p-bound = rw (m .run) (m .bound);
-  }
+  })
 
 pub straying-more : {ts : List ℕ} {vs : List ℤ} {i j k d : ℕ} {s r : Stray} → Straying ts vs i j k s → k < j
     → (d ≡ strayed ts vs i j k) × (d ≤ 65535 * (tick ts j - tick ts i)) → r ≡ cond (leb d (s .p)) s (record { p = d; q = s .q; sample = k }) → Straying ts vs i j (k + 1) r
@@ -206,22 +207,42 @@ measure-made ts vs i j h e b = rw (e, b, h)
 -- ---- invalid links
 
 module _ {ts : List ℕ} {vs : List ℤ} {i j : ℕ} (h : Linked ts vs i j) (c : Criterion) where
-  -- if the worst sample is within the tolerance, each is
-  worst-within : Within ts vs c i j (worstSample ts vs i j) → AllWithin ts vs c i j
-  worst-within w = record {
-    between = λ k l u. omega (arith, w, worst-leads h .there, mul-le-mul-right (c .q) (worst-leads h .most k (omega arith) u), ap (λ (x : ℕ). x * c .q) (worst-leads h .there));
+  -- if the worst sample is within a tolerance, each is
+  worst-within : (g : ℕ) (r : Ratio) → Within ts vs (limited g r) i j (worstSample ts vs i j) → AllWithin ts vs (limited g r) i j
+  worst-within g r w = record {
+    between = λ k l u. equal-parts ts vs g r i j k .1 (omega (
+      arith,
+      equal-parts ts vs g r i j (worstSample ts vs i j) .0 w,
+      mul-le-mul-right (r .q) (worst-leads h .most k (omega arith) u),
+      ap (λ (x : ℕ). x * r .q) (worst-leads h .there),
+    ));
   }
+
+  -- where the worst sample is on the line, each is
+  worst-on : deviation ts vs i j (worstSample ts vs i j) ≡ pos 0 → AllWithin ts vs c i j
+  worst-on e = within-wider {c = limited (c .gap) (over 0 1)} (record { up-some = omega arith; down-some = omega arith; up = omega arith; down = omega arith })
+      (worst-within (c .gap) (over 0 1) (equal-parts ts vs (c .gap) (over 0 1) i j (worstSample ts vs i j) .1 (rw e (omega arith))))
 
   far-offends : allWithin ts vs c i j ≡ false → Offends ts vs c i j (measureOf ts vs i j)
   far-offends e = go (deviation ts vs i j (worstSample ts vs i j)) refl
     where
-      outside : Within ts vs c i j (worstSample ts vs i j) → ⊥
-      outside w = true-false (all-within-true ts vs c i j (worst-within w)) e
+      some : AllWithin ts vs c i j → ⊥
+      some w = true-false (all-within-true ts vs c i j w) e
+
+      outside : Outside ts vs c i j (measureOf ts vs i j)
+      outside = record {
+        strays = measure-strays h;
+        some = some;
+        named = λ q w.
+            let k : limited (c .gap) (c .up) ≡ c = ap (λ (d : Ratio). parted (c .gap) (c .up) d) q in
+            some (subst (λ (x : Criterion). AllWithin ts vs x i j) k
+            (worst-within (c .gap) (c .up) (subst (λ (x : Criterion). Within ts vs x i j (worstSample ts vs i j)) (sym k) w)));
+      }
 
       go : (d : ℤ) → deviation ts vs i j (worstSample ts vs i j) ≡ d → OffendsOn (sideOf d) ts vs c i j (measureOf ts vs i j)
-      go (pos zero) q = outside (rw q (omega arith))
-      go (pos (suc n)) q = (measure-strays h, outside)
-      go (negsuc n) q = (measure-strays h, outside)
+      go (pos zero) q = some (worst-on q)
+      go (pos (suc n)) q = outside
+      go (negsuc n) q = outside
 
   gap-cut : allWithin ts vs c i j ≡ true → valid ts vs c i j ≡ false → Cut ts vs c i j (first (hole ts (c .gap)) i j)
   gap-cut w e =
@@ -258,20 +279,9 @@ module _ {ts : List ℕ} {vs : List ℤ} {i j : ℕ} (h : Linked ts vs i j) (c :
   pub fault-offends : valid ts vs c i j ≡ false → Offends ts vs c i j (faultOf ts vs c i j)
   fault-offends e = by-test (allWithin ts vs c i j) (λ w. rw (within-fault w) (gap-cut w e)) (λ w. rw (far-fault w) (far-offends w))
 
-  -- the error tells whether each sample is within the tolerance
-  within-test : {r : Ratio} → r ≡ linkError ts vs i j → leb (r .p * c .q) (c .p * r .q) ≡ allWithin ts vs c i j
-  within-test e =
-      let w = within-link-error h (ratioOf c) (c .gap) in
-      rw e (tests-equal _ _
-      (λ t. all-within-true ts vs c i j (w .1 (leb-true _ _ t)))
-      (λ t. le-leb _ _ (w .0 (true-all-within ts vs c i j t))))
-
-  module _ {m : Measure} {b : Bool} (e : m ≡ measureOf ts vs i j) (t : b ≡ leb (m .error .p * c .q) (c .p * m .error .q)) where
-    tested : b ≡ allWithin ts vs c i j
-    tested = t ∙ within-test (ap (λ (x : Measure). x .error) e)
-
+  module _ {m : Measure} {b : Bool} (e : m ≡ measureOf ts vs i j) (t : b ≡ allWithin ts vs c i j) where
     pub fault-far : b ≡ false → m ≡ faultOf ts vs c i j
-    fault-far f = e ∙ sym (far-fault (sym tested ∙ f))
+    fault-far f = e ∙ sym (far-fault (sym t ∙ f))
 
     pub fault-gap : {k : ℕ} → b ≡ true → k ≡ first (hole ts (c .gap)) i j → record { error = m .error; sample = k; side = Gap } ≡ faultOf ts vs c i j
-    fault-gap f l = rw (within-fault (sym tested ∙ f), l, e)
+    fault-gap f l = rw (within-fault (sym t ∙ f), l, e)

@@ -5,10 +5,11 @@
 --   strayOf       the greatest deviation, which need not be in lowest terms, and that sample
 --   measureOf     the measure of the link i to j
 --   gapOf         what is said of a link across a hole: its error, "gap" and the sample before its first hole
---   faultOf       what is said of an invalid link: its measure; what is said of its hole, if each sample is within the tolerance
+--   faultOf       what is said of an invalid link: its measure; what is said of its hole, if each sample is within the criterion
 --   Strays        what a measure says: the sample deviates by the error, none before it does, and the side is its deviation's sign
---   Cut           each sample of a link is within the tolerance, and a hole follows a sample
---   OffendsOn, Offends   what is said of an invalid link names what makes it invalid
+--   Cut           each sample of a link is within the criterion, and a hole follows a sample
+--   Outside       some sample of a link is not within the criterion; at equal parts the sample that is named is not
+--   OffendsOn, Offends   what is said of an invalid link, and that it is so
 -- Laws are in MeasureLaws. Assumes nothing.
 use mathlib.Core.Path.{_≡_}
 use mathlib.Core.Bool.{Bool, cond}
@@ -57,7 +58,7 @@ pub record Strays (ts : List ℕ) (vs : List ℤ) (i j : ℕ) (m : Measure) : Ty
   pub most : (k : ℕ) → i ≤ k → k < j → natAbs (deviation ts vs i j k) * m .error .q ≤ m .error .p * (tick ts j - tick ts i)
   pub side : m .side ≡ sideOf (deviation ts vs i j (m .sample))
 
--- each sample is within the tolerance, and sample k of the link is the first with a hole after it
+-- each sample is within the criterion, and sample k of the link is the first with a hole after it
 pub record Cut (ts : List ℕ) (vs : List ℤ) (c : Criterion) (i j k : ℕ) : Type 0 where
   pub within : AllWithin ts vs c i j
   pub from : i ≤ k
@@ -65,11 +66,17 @@ pub record Cut (ts : List ℕ) (vs : List ℤ) (c : Criterion) (i j k : ℕ) : T
   pub there : c .gap < tick ts (suc k) - tick ts k
   pub first : (n : ℕ) → i ≤ n → n < k → tick ts (suc n) - tick ts n ≤ c .gap
 
--- the sample that is named deviates by more than the tolerance; or, with "gap", a hole follows it and no sample does
+-- The sample that is named lies farthest from the line. At unequal parts it may be within its own, and another sample is not.
+pub record Outside (ts : List ℕ) (vs : List ℤ) (c : Criterion) (i j : ℕ) (m : Measure) : Type 0 where
+  pub strays : Strays ts vs i j m
+  pub some : AllWithin ts vs c i j → ⊥
+  pub named : c .up ≡ c .down → Within ts vs c i j (m .sample) → ⊥
+
+-- the link's measure, where some sample is outside the criterion; or, with "gap", a hole, where none is
 abbrev pub OffendsOn : Side → List ℕ → List ℤ → Criterion → ℕ → ℕ → Measure → Type 0
 OffendsOn On ts vs c i j m = ⊥
-OffendsOn Above ts vs c i j m = Strays ts vs i j m × (Within ts vs c i j (m .sample) → ⊥)
-OffendsOn Below ts vs c i j m = Strays ts vs i j m × (Within ts vs c i j (m .sample) → ⊥)
+OffendsOn Above ts vs c i j m = Outside ts vs c i j m
+OffendsOn Below ts vs c i j m = Outside ts vs c i j m
 OffendsOn Gap ts vs c i j m = Cut ts vs c i j (m .sample)
 
 abbrev pub Offends : List ℕ → List ℤ → Criterion → ℕ → ℕ → Measure → Type 0

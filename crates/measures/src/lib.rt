@@ -6,8 +6,8 @@ ghost use lib.Dec.{leb};
 ghost use Rattle.trace.specs.Link.{Linked, Bounded, criterion, deviation, sideOf};
 ghost use Rattle.trace.specs.Edge.{Slope, distanceOf, edgeSide};
 ghost use Rattle.measures.specs.Measure.{deviationOf, strayOf, measureOf, faultOf};
+use links::all_within;
 use ratio::Ratio;
-use ratio::order::at_most;
 use trace::Criterion;
 use trace::Edge;
 use trace::Side;
@@ -79,7 +79,7 @@ pub fn link_stray(ticks: &[u32], values: &[i16], i: usize, j: usize) -> Stray
     ensures is { λ r. ⌜ r ≡ strayOf (now (ticks .entry)) (now (values .entry)) i j ⌝ }
     ensures allowed { λ r. ⌜ Bounded (criterion (deviationOf r)) ⌝ }
 {
-    let from = start_at(ticks, values, i, 1);
+    let from = start_at(ticks, values, i);
     let to = edge_to(ticks, values, from, j, 1);
     let mut s = Stray {
         p: 0,
@@ -100,7 +100,7 @@ fn side_at(ticks: &[u32], values: &[i16], i: usize, j: usize, k: usize) -> Side
     requires { ⌜ Linked (now ticks) (now values) i j × (i ≤ k) × (k ≤ j) ⌝ }
     ensures { λ r. ⌜ r ≡ sideOf (deviation (now (ticks .entry)) (now (values .entry)) i j k) ⌝ }
 {
-    let from = start_at(ticks, values, i, 1);
+    let from = start_at(ticks, values, i);
     let to = edge_to(ticks, values, from, j, 1);
     edge_side(edge_to(ticks, values, from, k, 1), to)
 }
@@ -119,16 +119,16 @@ pub fn link_measure(ticks: &[u32], values: &[i16], i: usize, j: usize) -> Measur
     }
 }
 
-// What is said of the link i to j where it is invalid: its measure, or its hole if each sample is within the tolerance.
+// What is said of the link i to j where it is invalid: its measure, or its hole if each sample is within the criterion.
 pub fn link_fault(ticks: &[u32], values: &[i16], c: Criterion, i: usize, j: usize) -> Measure
     requires { ⌜ Linked (now ticks) (now values) i j × Bounded c ⌝ }
     ensures { λ r. ⌜ r ≡ faultOf (now (ticks .entry)) (now (values .entry)) c i j ⌝ }
 {
     let m = link_measure(ticks, values, i, j);
-    let error = m.error;
-    if !at_most(error, Ratio { p: c.p, q: c.q }) {
+    if !all_within(ticks, values, c, i, j) {
         return m;
     }
+    let error = m.error;
     Measure {
         error,
         sample: first_hole(ticks, values, c.gap, i, j),

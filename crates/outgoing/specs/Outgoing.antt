@@ -16,7 +16,7 @@ use Rattle.trace.specs.Cone.{ConeFits, Takes}
 use Rattle.outgoing.specs.declared.Links.{Links}
 
 pub record TakenIn (ts : List ℕ) (vs : List ℤ) (c : Criterion) (i j : ℕ) (l : Links) : Type 0 where
-  pub start : StartAt ts vs (c .q) i (l .from)
+  pub start : StartAt ts vs i (l .from)
   pub takes : Takes ts vs c i j (l .cone)
   pub fits : ConeFits (l .cone)
   pub limit : l .limit ≡ linksEnd ts (c .gap) i

@@ -13,7 +13,7 @@ use trace::Start;
 use trace::cones::admits;
 use trace::cones::cone_of;
 use trace::cones::extended;
-use trace::edges::edge_to;
+use trace::edges::aim_at;
 use trace::edges::start_at;
 
 // The links from one sample: the sample, the cone of what the samples taken in leave open, and the last sample to which links obey the
@@ -32,11 +32,11 @@ pub fn links_past(ticks: &[u32], values: &[i16], c: Criterion, i: usize, limit: 
     requires { ⌜ Trace (now ticks) (now values) × Bounded c × (i + 1 < length (now ticks)) × (limit ≡ linksEnd (now ticks) (c .gap) i) ⌝ }
     ensures { λ r. ⌜ TakenIn (now (ticks .entry)) (now (values .entry)) c i (i + 1 + 1) r ⌝ }
 {
-    let from = start_at(ticks, values, i, c.q);
-    let to = edge_to(ticks, values, from, i + 1, c.q);
+    let from = start_at(ticks, values, i);
+    let to = aim_at(ticks, values, from, i + 1, c);
     Links {
         from,
-        cone: cone_of(to, c.p),
+        cone: cone_of(to, c),
         limit,
     }
 }
@@ -48,7 +48,7 @@ pub fn reaches(ticks: &[u32], values: &[i16], c: Criterion, links: Links, j: usi
 {
     let from = links.from;
     let cone = links.cone;
-    admits(cone, edge_to(ticks, values, from, j, c.q))
+    admits(cone, aim_at(ticks, values, from, j, c))
 }
 
 // Whether the link to sample e passes the samples taken in. Where it does not, it is invalid.
@@ -58,7 +58,7 @@ pub fn passes(ticks: &[u32], values: &[i16], c: Criterion, links: Links, e: usiz
 {
     let from = links.from;
     let cone = links.cone;
-    admits(cone, edge_to(ticks, values, from, e, c.q))
+    admits(cone, aim_at(ticks, values, from, e, c))
 }
 
 // The links with sample j taken in too.
@@ -68,8 +68,8 @@ pub fn taken(ticks: &[u32], values: &[i16], c: Criterion, links: Links, j: usize
 {
     let from = links.from;
     let cone = links.cone;
-    let to = edge_to(ticks, values, from, j, c.q);
-    let narrower = extended(cone, to, c.p);
+    let to = aim_at(ticks, values, from, j, c);
+    let narrower = extended(cone, to, c);
     Links {
         from,
         cone: narrower,

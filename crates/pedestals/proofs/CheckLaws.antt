@@ -16,26 +16,27 @@ use Rattle.refusal.specs.declared.Refusal.{Refusal}
 use Rattle.refusal.specs.declared.Refusal.the-variants.{Crate, Room, Samples, Factor}
 use Rattle.refusal.specs.declared.Checked as C
 use Rattle.refusal.specs.declared.Checked.the-variants.{Fine as Passes, Refused as Fails}
-use Rattle.refusal.specs.Table.{roomRow, _thenCheck_}
+use Rattle.refusal.specs.Table.{NotAllowedTolerance, roomRow, _thenCheck_}
 use Rattle.refusal.proofs.TableLaws.{row-fine, then-fine}
 use Rattle.channels.specs.Channels.{sum, placeOf, crateRow}
 use Rattle.channels.proofs.ChannelLaws.{crate-divided, lent-part, place-next, place-fits, channel-length}
 use Rattle.ratio.specs.declared.Ratio.{Ratio}
 use Rattle.tolerance.specs.declared.Tolerance.{Tolerance}
+use Rattle.tolerance.specs.declared.Parts.{Parts}
 use Rattle.tolerance.specs.declared.Meaning.{Meaning}
 use Rattle.tolerance.specs.declared.Meaning.the-variants.{Exact, NotAllowed}
-use Rattle.tolerance.specs.Meaning.{meaning}
+use Rattle.tolerance.specs.Meaning.{meaning, agree}
 use Rattle.engine.specs.declared.Holding.{Holding}
 use Rattle.engine.specs.declared.Holding.the-variants.{Held, Refused as NotHeld}
 use Rattle.engine.specs.Checks.{ownRows, TraceOutcome, CrateOutcome}
-use Rattle.limits.specs.Prepare.{toleranceRow}
 use Rattle.engine.specs.Hold.{holdingOf, HoldOutcome}
 use Rattle.pedestals.specs.declared.Cause.{Cause}
 use Rattle.pedestals.specs.declared.Cause.the-variants.{Call, Trace}
+use Rattle.pedestals.specs.declared.Single.the-variants.{At as One, Refused as NotOne}
 use Rattle.pedestals.specs.declared.Check.{Check}
 use Rattle.pedestals.specs.declared.Check.the-variants.{Fine, Refused}
-use Rattle.pedestals.specs.Compare.{Run, ticksOf, valuesOf, heldRatio, called, inChannel, _then_, factorRow, runsRow, channelRow, channelRows, roomsRow, compareRows}
-use Rattle.pedestals.specs.Checking.{OwnChecked, partsRow, SecondChecked, ChannelChecked, ChannelsChecked, DividedRuns, EarlierChecked, RunsChecked, CallChecked, RestChecked, Called, Passed}
+use Rattle.pedestals.specs.Compare.{Run, ticksOf, valuesOf, called, inChannel, _then_, factorRow, runsRow, oneRow, channelRow, channelRows, roomsRow, compareRows}
+use Rattle.pedestals.specs.Checking.{OwnChecked, partsRow, SecondChecked, ChannelChecked, ChannelsChecked, DividedRuns, EarlierChecked, RunsChecked, CallChecked, RestChecked, Called, HeldOne, Passed}
 
 -- a refusal is no pass
 not-failed : {A : Type 0} {x : Refusal} → Fails x ≡ Passes → A
@@ -203,29 +204,44 @@ split : (p q : C.Checked) (d : Check) → called p then (called q then d) ≡ ca
 split Passes q d = refl
 split (Fails x) q d = refl
 
-hold-refused : (m : Meaning) {x : Refusal} → holdingOf m ≡ NotHeld x → toleranceRow m ≡ Fails x
-hold-refused (Exact r) e = cc
+-- check 4, from what `hold` answers
+hold-refused : (m : Meaning) {x : Refusal} → holdingOf m ≡ NotHeld x → oneRow m ≡ Fails x
+hold-refused (Exact y) e = cc
 hold-refused NotAllowed e = cc
 
-hold-ratio : (m : Meaning) {x : Ratio} → holdingOf m ≡ Held x → (toleranceRow m ≡ Passes) × (x ≡ heldRatio m)
-hold-ratio (Exact r) e = (refl, cc)
-hold-ratio NotAllowed e = (cc, cc)
+hold-parts : (m : Meaning) {x : Parts} → holdingOf m ≡ Held x → m ≡ Exact x
+hold-parts (Exact y) e = cc
+hold-parts NotAllowed e = cc
+
+module _ (t : Tolerance) {g : Holding} (h : HoldOutcome t g) where
+  pub not-held : {x : Refusal} → g ≡ NotHeld x → HeldOne t (NotOne x)
+  not-held e = hold-refused (meaning t) (sym (h .is) ∙ e)
+
+  module _ {x : Parts} (e : g ≡ Held x) {b : Bool} (a : b ≡ agree x) where
+    exact : meaning t ≡ Exact x
+    exact = hold-parts (meaning t) (sym (h .is) ∙ e)
+
+    pub not-one : b ≡ false → HeldOne t (NotOne NotAllowedTolerance)
+    not-one f = rw (exact, ← a, f)
+
+    pub held-one : b ≡ true → HeldOne t (One (x .up))
+    held-one f = (rw (exact, ← a, f), rw exact, h .held x e .up)
 
 module _ (a b : Run) (t : Tolerance) (k room room′ : ℕ) where
-  rows-split : compareRows a b t k room room′ ≡ called (factorRow k thenCheck runsRow a b) then (called (toleranceRow (meaning t)) then (channelRows a b 0 (length (a .lengths)) then called (roomsRow (length (a .lengths)) room room′)))
+  rows-split : compareRows a b t k room room′ ≡ called (factorRow k thenCheck runsRow a b) then (called (oneRow (meaning t)) then (channelRows a b 0 (length (a .lengths)) then called (roomsRow (length (a .lengths)) room room′)))
   unfolding compareRows
   rows-split = split (factorRow k) (runsRow a b) _
 
   pub compare-call : {x : Refusal} → factorRow k thenCheck runsRow a b ≡ Fails x → compareRows a b t k room room′ ≡ Refused (Call x)
   compare-call e = rows-split ∙ rw e
 
-  module _ (c : Called a b k) {g : Holding} (h : HoldOutcome t g) where
-    pub compare-tolerance : {x : Refusal} → g ≡ NotHeld x → compareRows a b t k room room′ ≡ Refused (Call x)
-    compare-tolerance e = rows-split ∙ rw (c .rows, hold-refused (meaning t) (sym (h .is) ∙ e))
+  module _ (c : Called a b k) where
+    pub compare-tolerance : {x : Refusal} → HeldOne t (NotOne x) → compareRows a b t k room room′ ≡ Refused (Call x)
+    compare-tolerance h = rows-split ∙ rw (c .rows, h)
 
-    module _ {y : Ratio} (e : g ≡ Held y) {d : Check} (s : RestChecked a b room room′ d) where
+    module _ {y : Ratio} (h : HeldOne t (One y)) {d : Check} (s : RestChecked a b room room′ d) where
       rest-is : compareRows a b t k room room′ ≡ d
-      rest-is = rows-split ∙ rw (c .rows, hold-ratio (meaning t) (sym (h .is) ∙ e) .0) (sym (s .is))
+      rest-is = rows-split ∙ rw (c .rows, h .0) (sym (s .is))
 
       pub compare-rest : {x : Cause} → d ≡ Refused x → compareRows a b t k room room′ ≡ Refused x
       compare-rest f = rest-is ∙ f
@@ -233,8 +249,8 @@ module _ (a b : Run) (t : Tolerance) (k room room′ : ℕ) where
       pub compare-passed : d ≡ Fine → Passed a b t k room room′ y
       compare-passed f = record {
         rows = rest-is ∙ f;
-        ratio = hold-ratio (meaning t) (sym (h .is) ∙ e) .1;
-        held = h .held y e;
+        ratio = h .1;
+        held = h .2;
         factor = c .factor;
         divided = c .divided;
         alike = s .alike f;
@@ -276,7 +292,7 @@ module _ (a b : Run) (t : Tolerance) (k room room′ : ℕ) (e : compareRows a b
   passing =
       let p = then-passes (called (factorRow k)) _ e in
       let q = then-passes (called (runsRow a b)) _ (p .1) in
-      let r = then-passes (called (toleranceRow (meaning t))) _ (q .1) in
+      let r = then-passes (called (oneRow (meaning t))) _ (q .1) in
       (called-passes _ (p .0), called-passes _ (q .0), then-passes (channelRows a b 0 (length (a .lengths))) _ (r .1) .0)
 
   pub passing-factor : 1 ≤ k

@@ -7,6 +7,7 @@
 --   earlierRow, EarlierChecked       row 11 of run 2, with the counts, and what its check finds
 --   RunsChecked, CallChecked         what check 11 of both runs finds, and with 14 before it
 --   RestChecked, Called              what the checks of the channels and 10 find; what 14 and 11 show
+--   HeldOne                          what check 4 finds: the ratio of both parts, or the row
 --   Passed, Readied                  what all checks show, and what they find
 -- Assumes nothing.
 use mathlib.Core.Path.{_≡_}
@@ -17,7 +18,7 @@ use lib.IntN.{ℤ}
 use lib.ListN.{length, getD}
 use Rattle.refusal.specs.declared.Refusal.the-variants.{Crate, Samples}
 use Rattle.refusal.specs.declared.Checked as C
-use Rattle.refusal.specs.declared.Checked.the-variants.{Fine as Passes}
+use Rattle.refusal.specs.declared.Checked.the-variants.{Fine as Passes, Refused as Fails}
 use Rattle.refusal.specs.Table.{row, _thenCheck_}
 use Rattle.channels.specs.Channels.{part, crateRow, Divided}
 use Rattle.ratio.specs.declared.Ratio.{Ratio}
@@ -26,9 +27,11 @@ use Rattle.tolerance.specs.Meaning.{meaning, Held}
 use Rattle.engine.specs.Checks.{ownRows}
 use Rattle.pedestals.specs.declared.Check.{Check}
 use Rattle.pedestals.specs.declared.Check.the-variants.{Fine, Refused}
+use Rattle.pedestals.specs.declared.Single.{Single}
+use Rattle.pedestals.specs.declared.Single.the-variants.{At as One, Refused as NotOne}
 use Rattle.pedestals.specs.declared.Ready.{Ready}
 use Rattle.pedestals.specs.declared.Ready.the-variants.{At, Refused as Declined}
-use Rattle.pedestals.specs.Compare.{Run, heldRatio, called, inChannel, _then_, factorRow, runsRow, channelRows, roomsRow, compareRows}
+use Rattle.pedestals.specs.Compare.{Run, heldRatio, called, inChannel, _then_, factorRow, runsRow, oneRow, channelRows, roomsRow, compareRows}
 
 -- ---- a channel
 
@@ -98,6 +101,10 @@ pub record Called (a b : Run) (k : ℕ) : Type 0 where
   pub rows : factorRow k thenCheck runsRow a b ≡ Passes
   pub divided : DividedRuns a b
   pub factor : k ≤ 16
+
+abbrev pub HeldOne : Tolerance → Single → Type 0
+HeldOne t (One r) = (oneRow (meaning t) ≡ Passes) × (r ≡ heldRatio (meaning t)) × Held r
+HeldOne t (NotOne x) = oneRow (meaning t) ≡ Fails x
 
 pub record Passed (a b : Run) (t : Tolerance) (k room room′ : ℕ) (r : Ratio) : Type 0 where
   pub rows : compareRows a b t k room room′ ≡ Fine

@@ -1,10 +1,10 @@
 -- The comparison of two pedestal runs of a crate (document 02, "Morning pedestals"): its rows, its lists and its outcome. Run 1 is today's.
 --   Run, runOf                    a run: ticks and values end to end, and the channels' lengths
 --   ticksOf, valuesOf             a channel's ticks and values
---   heldRatio                     the ratio that an allowed tolerance is held as
+--   heldRatio                     the ratio that both parts of an allowed tolerance are held as
 --   causeNumber, causeValue       the number and the value of a refusal: of a channel's trace its own number, with the channel
 --   called, inChannel, _then_     a row as one of the call, as one of a channel's trace; the first row that applies
---   factorRow, runsRow            rows 14 and 11
+--   factorRow, runsRow, oneRow    rows 14, 11 and 4
 --   channelRow, channelRows       the first row that applies to a channel: run 1's 1, 2, 3, run 2's, 13; to each of several channels
 --   roomsRow, compareRows         row 10; the first row that applies to the call
 --   hasMoved, isNoisy             the two tests of a channel
@@ -24,16 +24,15 @@ use Rattle.lists.specs.Listed.{listed}
 use Rattle.refusal.specs.declared.Refusal.the-variants.{Crate, Samples, Factor}
 use Rattle.refusal.specs.declared.Checked as C
 use Rattle.refusal.specs.declared.Checked.the-variants.{Fine as Passes, Refused as Fails}
-use Rattle.refusal.specs.Table.{numberOf, returnedOf, row, roomRow, _thenCheck_}
+use Rattle.refusal.specs.Table.{NotAllowedTolerance, numberOf, returnedOf, row, roomRow, _thenCheck_}
 use Rattle.channels.specs.Channels.{ofChannel, crateRow}
 use Rattle.ratio.specs.declared.Ratio.{Ratio}
 use Rattle.ratio.specs.Order.{over}
 use Rattle.tolerance.specs.declared.Tolerance.{Tolerance}
 use Rattle.tolerance.specs.declared.Meaning.{Meaning}
 use Rattle.tolerance.specs.declared.Meaning.the-variants.{Exact, NotAllowed}
-use Rattle.tolerance.specs.Meaning.{meaning}
+use Rattle.tolerance.specs.Meaning.{meaning, agree}
 use Rattle.engine.specs.Checks.{ownRows}
-use Rattle.limits.specs.Prepare.{toleranceRow}
 use Rattle.listing.specs.declared.Counts.{Counts}
 use Rattle.pedestals.specs.declared.Cause.{Cause}
 use Rattle.pedestals.specs.declared.Cause.the-variants.{Call, Trace}
@@ -61,7 +60,7 @@ valuesOf a c = ofChannel (a .lengths) c (a .values)
 
 -- 0 where the tolerance is not allowed, which no answer depends on
 abbrev pub heldRatio : Meaning → Ratio
-heldRatio (Exact r) = r
+heldRatio (Exact x) = x .up
 heldRatio NotAllowed = over 0 1
 
 -- ---- rows
@@ -98,6 +97,11 @@ runsRow a b =
     crateRow (b .ticks) (b .values) (b .lengths) thenCheck
     row (eqb (length (b .lengths)) (length (a .lengths))) Crate
 
+-- 4: tolerance not allowed, or of parts that differ (document 02, "Above and below")
+abbrev pub oneRow : Meaning → C.Checked
+oneRow (Exact x) = row (agree x) NotAllowedTolerance
+oneRow NotAllowed = Fails NotAllowedTolerance
+
 -- run 1's own number, run 2's, and 13 where the runs differ in n, each with the channel
 unfoldable pub channelRow : Run → Run → ℕ → Check
 channelRow a b c =
@@ -118,7 +122,7 @@ unfoldable pub compareRows : Run → Run → Tolerance → ℕ → ℕ → ℕ �
 compareRows a b t k room room′ =
     called (factorRow k) then
     called (runsRow a b) then
-    called (toleranceRow (meaning t)) then
+    called (oneRow (meaning t)) then
     channelRows a b 0 (length (a .lengths)) then
     called (roomsRow (length (a .lengths)) room room′)
 

@@ -3,10 +3,11 @@ ghost use mathlib.Core.Path.{_≡_};
 ghost use Prim.Native.Nat.{_+_, _≤_};
 ghost use lib.ListN.{length};
 ghost use Rattle.pedestals.specs.Compare.{runOf, roomsRow};
-ghost use Rattle.pedestals.specs.Checking.{OwnChecked, SecondChecked, ChannelChecked, ChannelsChecked, EarlierChecked, RunsChecked, CallChecked, RestChecked, DividedRuns, Called, Readied};
+ghost use Rattle.pedestals.specs.Checking.{OwnChecked, SecondChecked, ChannelChecked, ChannelsChecked, EarlierChecked, RunsChecked, CallChecked, RestChecked, DividedRuns, Called, HeldOne, Readied};
 use crate::Cause;
 use crate::Check;
 use crate::Ready;
+use crate::Single;
 use engine::Holding;
 use refusal::Checked;
 use refusal::Refusal;
@@ -181,6 +182,23 @@ fn check_rest(
     }
 }
 
+// Check 4: the tolerance is allowed, and its parts agree.
+fn hold_one(t: Tolerance) -> Single
+    ensures { λ r. ⌜ HeldOne t r ⌝ }
+{
+    let holding = engine::hold::hold(t);
+    match holding {
+        Holding::Held(x) => {
+            if !tolerance::agree(x) {
+                return Single::Refused(Refusal::Tolerance(0));
+            }
+            let r = x.up;
+            Single::At(r)
+        }
+        Holding::Refused(x) => Single::Refused(x),
+    }
+}
+
 // Check 4 and what follows, where the checks 14 and 11 pass.
 fn check_held(
     ticks1: &[u32],
@@ -197,9 +215,9 @@ fn check_held(
     requires { ⌜ Called (runOf (now ticks1) (now values1) (now lengths1)) (runOf (now ticks2) (now values2) (now lengths2)) k ⌝ }
     ensures { λ r. ⌜ Readied (runOf (now (ticks1 .entry)) (now (values1 .entry)) (now (lengths1 .entry))) (runOf (now (ticks2 .entry)) (now (values2 .entry)) (now (lengths2 .entry))) t k room1 room2 r ⌝ }
 {
-    let holding = engine::hold::hold(t);
-    match holding {
-        Holding::Held(r) => {
+    let single = hold_one(t);
+    match single {
+        Single::At(r) => {
             let rest = check_rest(
                 ticks1,
                 values1,
@@ -215,7 +233,7 @@ fn check_held(
                 Check::Refused(x) => Ready::Refused(x),
             }
         }
-        Holding::Refused(x) => Ready::Refused(Cause::Call(x)),
+        Single::Refused(x) => Ready::Refused(Cause::Call(x)),
     }
 }
 

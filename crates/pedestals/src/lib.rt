@@ -18,6 +18,12 @@ pub enum Check {
     Refused(Cause),
 }
 
+// What check 4 finds: the ratio of both parts of the tolerance, or a refusal.
+enum Single {
+    At(Ratio),
+    Refused(Refusal),
+}
+
 // What the checks of a whole call find: the ratio that the tolerance is held as, or a cause.
 enum Ready {
     At(Ratio),

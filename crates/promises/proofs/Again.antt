@@ -1,5 +1,5 @@
--- Reducing a reduced trace again adds the tolerances, from the contracts alone: whichever calls kept, or judge passed, the list at t of the trace
--- and the list at u of the samples that the first one keeps.
+-- Reducing a reduced trace again adds the tolerances, the parts above and the parts below each by themselves, from the contracts alone: whichever calls
+-- kept, or judge passed, the list at t of the trace and the list at u of the samples that the first one keeps.
 -- Assumes nothing.
 use mathlib.Core.Path.{_≡_}
 use mathlib.Core.List.{List}

@@ -7,22 +7,22 @@ use lib.IntN.{ℤ}
 use lib.ListN.{take}
 use Rattle.limits.specs.declared.Limits.{Limits}
 use Rattle.ratio.specs.declared.Ratio.{Ratio}
-use Rattle.trace.specs.Link.{limited}
+use Rattle.trace.specs.Link.{parted, limited}
 use Rattle.heights.specs.Budget.{StandsFor, ErrorBudget}
 use Rattle.heights.proofs.BudgetLaws.{error-budget}
 use Rattle.reduction.specs.declared.Galloped.{Galloped}
 use Rattle.closest.specs.declared.Found.{Found}
-use Rattle.summed.specs.Sum.{sumsOf, twiceSum}
+use Rattle.summed.specs.Sum.{sumsOf, partsSum}
 use Rattle.engine.specs.declared.Reduced.the-variants.{Kept}
 use Rattle.engine.specs.declared.Probed.the-variants.{Kept as KeptBy}
 use Rattle.engine.specs.declared.Closest.the-variants.{Kept as KeptAt}
-use Rattle.engine.specs.declared.Verdict.the-variants.{Yes}
+use Rattle.judging.specs.declared.Verdict.the-variants.{Yes}
 use Rattle.limits.specs.Prepare.{criterionOf}
 use Rattle.engine.specs.Reduce.{WalkOutcome, GallopOutcome}
 use Rattle.engine.specs.Minimum.{MinimumOutcome}
 use Rattle.engine.specs.Least.{LeastOutcome}
 use Rattle.engine.specs.Sum.{SumOutcome}
-use Rattle.engine.specs.Judge.{JudgeOutcome}
+use Rattle.judging.specs.Judge.{JudgeOutcome}
 use Rattle.promises.proofs.Standing.{walk-stands, gallop-stands, minimum-stands, judge-stands, least-stands, sum-stands}
 
 module _ (ts : List ℕ) (vs : List ℤ) (t : Limits) where
@@ -44,6 +44,6 @@ pub least-budget : (ts : List ℕ) (vs : List ℤ) (g m : ℕ) {o o′ : List �
 least-budget ts vs g m h = error-budget (least-stands ts vs g m h)
 
 -- the joined list of a sum, at 2 (T1 + T2)
-pub sum-budget : {ts us : List ℕ} {vs ws : List ℤ} {l m : List ℕ} {o o′ : List ℤ} {p p′ : List ℕ} {n : ℕ} (a b : Ratio) (g : ℕ) → SumOutcome ts vs us ws l m o p (Kept n) o′ p′
-    → StandsFor ts vs (limited g a) l → StandsFor us ws (limited g b) m → ErrorBudget ts (sumsOf vs ws) (limited g (twiceSum a b)) (take n p′)
-sum-budget a b g h x y = error-budget (sum-stands a b g h x y)
+pub sum-budget : {ts us : List ℕ} {vs ws : List ℤ} {l m : List ℕ} {o o′ : List ℤ} {p p′ : List ℕ} {n : ℕ} (u d v e : Ratio) (g : ℕ) → SumOutcome ts vs us ws l m o p (Kept n) o′ p′
+    → StandsFor ts vs (parted g u d) l → StandsFor us ws (parted g v e) m → ErrorBudget ts (sumsOf vs ws) (limited g (partsSum u d v e)) (take n p′)
+sum-budget u d v e g h x y = error-budget (sum-stands u d v e g h x y)

@@ -11,6 +11,7 @@ pub mod Expand
 pub mod PedestalShift
 pub mod Pedestals
 pub mod Dropouts
+pub mod Parts
 pub mod Sums
 pub mod Scans
 pub mod Views

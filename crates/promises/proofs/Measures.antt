@@ -17,13 +17,13 @@ use Rattle.trace.proofs.Errors.{within-link-error}
 use Rattle.measures.proofs.MeasureLaws.{fault-error, fault-measure}
 use Rattle.proposed.specs.Proposed.{entry}
 use Rattle.limits.specs.declared.Limits.{Limits}
-use Rattle.engine.specs.declared.Measured.the-variants.{Link}
-use Rattle.engine.specs.declared.Verdict.the-variants.{No}
+use Rattle.judging.specs.declared.Measured.the-variants.{Link}
+use Rattle.judging.specs.declared.Verdict.the-variants.{No}
 use Rattle.limits.specs.Prepare.{criterionOf}
-use Rattle.engine.specs.Measure.{MeasureOutcome}
-use Rattle.engine.specs.Judge.{JudgeOutcome}
-use Rattle.engine.proofs.MeasureLaws.{measure-is}
-use Rattle.engine.proofs.JudgeLaws.{judge-fault}
+use Rattle.judging.specs.Measure.{MeasureOutcome}
+use Rattle.judging.specs.Judge.{JudgeOutcome}
+use Rattle.judging.proofs.MeasureLaws.{measure-is}
+use Rattle.judging.proofs.JudgeLaws.{judge-fault}
 
 pub measure-within : {ts : List ℕ} {vs : List ℤ} {i j : ℕ} {m : Measure} → MeasureOutcome ts vs i j (Link m) → (r : Ratio) → AllWithin ts vs (criterion r) i j ↔ AtMost (m .error) r
 measure-within {ts} {vs} {i} {j} {m} o r = rw (measure-is ts vs i j (o .is)) (within-link-error (o .strays m refl .0) r 1048575)

@@ -1,5 +1,6 @@
 -- Demand 3, whole: how near the kept lists are to the shortest and to the closest. For every trace, unless the call is refused:
---   walk-near      walk's list is a kept list within the limits, and no kept list within half the tolerance that obeys the gap limit has fewer samples
+--   walk-near      walk's list is a kept list within the limits, and no kept list within parts whose sum is at most each of the tolerance's that obeys the gap
+--                  limit has fewer samples
 --   gallop-near    so is gallop's
 --   least-near     least's list obeys the gap limit and has at most m samples and exactly the error returned, and no such list has a lesser one
 -- Each follows from the call's contract alone, and speaks of what the call returned: the kept number, the error, the entries written.
@@ -19,9 +20,10 @@ use Rattle.tolerance.specs.declared.Meaning.the-variants.{Exact, NotAllowed}
 use Rattle.tolerance.specs.Meaning.{meaning}
 use Rattle.limits.specs.declared.Limits.{Limits}
 use Rattle.kept.proofs.KeptLaws.{each-map}
-use Rattle.trace.specs.Link.{half, limited, ratioOf}
+use Rattle.trace.specs.Link.{half, smaller, limited}
 use Rattle.trace.proofs.Validity.{valid-obeys}
-use Rattle.trace.proofs.Errors.{within-error}
+use Rattle.trace.proofs.Errors.{within-error, within-larger}
+use Rattle.trace.proofs.Half.{half-no-longer}
 use Rattle.shortest.specs.Shortest.{minimumList}
 use Rattle.reduction.specs.declared.Galloped.{Galloped}
 use Rattle.closest.specs.declared.Found.{Found}
@@ -31,6 +33,7 @@ use Rattle.engine.specs.declared.Closest.the-variants.{Kept as KeptAt}
 use Rattle.limits.specs.Prepare.{commonRows, criterionIn, criterionOf, outputRows}
 use Rattle.engine.specs.Reduce.{GreedyList, WalkOutcome, GallopOutcome}
 use Rattle.limits.proofs.PrepareLaws.{common-trace}
+use Rattle.engine.proofs.WriteLaws.{common-held}
 use Rattle.engine.specs.Least.{LeastOutcome}
 use Rattle.promises.specs.Nearness.{NearShortest, Nearest}
 
@@ -39,21 +42,28 @@ unfolding criterionOf
 gap-of t = go (meaning (t .tolerance))
   where
     go : (m : Meaning) → criterionIn (t .gap) m .gap ≡ t .gap
-    go (Exact r) = refl
+    go (Exact x) = refl
     go NotAllowed = refl
 
 module _ (ts : List ℕ) (vs : List ℤ) where
   greedy-near : (t : Limits) {l o o′ : List ℕ} {n : ℕ} → outputRows ts vs t (length o) ≡ Fine → Wrote l o n o′ → GreedyList ts vs t l → NearShortest ts vs t n (take n o′)
   unfolding outputRows
   greedy-near t {l} rows w g =
-      let trace = common-trace ts vs t (then-fine (commonRows ts vs t) _ rows .0) in
+      let common = then-fine (commonRows ts vs t) _ rows .0 in
+      let trace = common-trace ts vs t common in
+      let held = common-held ts vs t common in
+      let c = criterionOf t in
       rw (wrote-read w) (record {
         kept = g .kept;
         count = omega (arith, w .count);
         within = g .within;
-        error = within-error trace (criterionOf t .gap) l (g .kept) (ratioOf (criterionOf t)) .0 (g .within) .1;
-        size = λ h k v. omega (arith, w .count, g .size h k v);
-        shortest = λ h k o e. omega (arith, w .count, g .size h k (within-error trace (criterionOf t .gap) h k (ratioOf (half (criterionOf t))) .1 (rw (gap-of t) o, e)));
+        error = within-larger trace c (held .up .positive) (held .down .positive) l (g .kept) (g .within);
+        size = λ a b s h k v. omega (arith, w .count, g .size a b s h k v);
+        shortest = λ h k o e. omega (
+          arith,
+          w .count,
+          half-no-longer ts vs c (held .up .positive) (held .down .positive) (g .size) h k (within-error trace (c .gap) h k (half (smaller c)) .1 (rw (gap-of t) o, e)),
+        );
       })
 
   pub walk-near : (t : Limits) {o o′ : List ℕ} {n : ℕ} → WalkOutcome ts vs t o (Kept n) o′ → NearShortest ts vs t n (take n o′)

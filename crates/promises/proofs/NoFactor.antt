@@ -13,6 +13,7 @@ use lib.IntN.{ℤ, pos, natAbs}
 use lib.ListN.{length, length-map, List·getD-map}
 use borrow.Author.Tests.{le-leb}
 use Rattle.lists.specs.Overwrite.{Wrote}
+use Rattle.ratio.specs.declared.Ratio.{Ratio}
 use Rattle.ratio.specs.Gcd.{lowest}
 use Rattle.ratio.proofs.Laws.{lowest-pos, lowest-equal}
 use Rattle.refusal.specs.declared.Refusal.{Refusal}
@@ -27,7 +28,7 @@ use Rattle.trace.proofs.Difference.{Diff, natural, size as size-of, size-at-mos
 use Rattle.trace.proofs.Deviation.{line, diff}
 use Rattle.trace.proofs.TraceLaws.{trace-rows}
 use Rattle.trace.proofs.Holes.{true-obeys, widest-obeys}
-use Rattle.trace.proofs.Validity.{valid-true, valid-false, steps-valid}
+use Rattle.trace.proofs.Validity.{equal-parts, valid-true, valid-false, steps-valid}
 use Rattle.heights.specs.Heights.{everySample}
 use Rattle.heights.proofs.Entries.{every-length, every-at, every-stops}
 use Rattle.reduction.specs.declared.Galloped.{Galloped}
@@ -79,8 +80,11 @@ module _ (n : ℕ) (even : n % 2 ≡ 0) (two : 2 ≤ n) (few : n ≤ 4096) where
   vs = zigzag n
 
   -- the tolerance in lowest terms
+  abbrev ratio : Ratio
+  ratio = lowest (3 * (n - 2)) (n - 1)
+
   abbrev c : Criterion
-  c = criterion (lowest (3 * (n - 2)) (n - 1))
+  c = criterion ratio
 
   size : length ts ≡ n
   size = every-length (n - 1) ∙ omega arith
@@ -119,18 +123,19 @@ module _ (n : ℕ) (even : n % 2 ≡ 0) (two : 2 ≤ n) (few : n ≤ 4096) where
       let tj : tick ts j ≡ j = at j h in
       rw (ti, tj, tk) at (diff ts vs i j k 0 0 (values i (omega arith)) (values j h) (values k (omega arith)) (omega arith) (omega arith))
 
-  ratio-is : c .p * suc (n - 2) ≡ 3 * (n - 2) * c .q
-  ratio-is = subst (λ (m : ℕ). c .p * m ≡ 3 * (n - 2) * c .q) (omega arith) (lowest-equal (3 * (n - 2)) (n - 1))
+  ratio-is : ratio .p * suc (n - 2) ≡ 3 * (n - 2) * ratio .q
+  ratio-is = subst (λ (m : ℕ). ratio .p * m ≡ 3 * (n - 2) * ratio .q) (omega arith) (lowest-equal (3 * (n - 2)) (n - 1))
 
   -- over two steps
   two-steps : (i : ℕ) → i + 2 ≤ n - 1 → valid ts vs c i (i + 2) ≡ false
   two-steps i h =
-      let r : i + 2 - i ≡ 2 = omega arith in
+      let t : i + 2 - i ≡ 2 = omega arith in
       let s : i + 1 - i ≡ 1 = omega arith in
       let u : i + 2 - (i + 1) ≡ 1 = omega arith in
-      let six : natAbs (deviation ts vs i (i + 2) (i + 1)) ≡ 6 = (rw (r, s, u) at (size-of (deviates i (i + 2) (i + 1) (omega arith) (omega arith) h))) ∙ alternates i in
+      let six : natAbs (deviation ts vs i (i + 2) (i + 1)) ≡ 6 = (rw (t, s, u) at (size-of (deviates i (i + 2) (i + 1) (omega arith) (omega arith) h))) ∙ alternates i in
       valid-false ts vs c i (i + 2) (i + 1) (omega arith) (omega arith)
-      (λ w. too-far (c .p) (c .q) (n - 2) ratio-is (lowest-pos (3 * (n - 2)) (n - 1) (omega arith)) (rw (six, at (i + 2) h, at i (omega arith), r) at w))
+      (λ w. too-far (ratio .p) (ratio .q) (n - 2) ratio-is (lowest-pos (3 * (n - 2)) (n - 1) (omega arith))
+      (rw (six, at (i + 2) h, at i (omega arith), t) at (equal-parts ts vs 1048575 ratio i (i + 2) (i + 1) .0 w)))
 
   -- from the first sample to the last
   whole : valid ts vs c 0 (n - 1) ≡ true
@@ -138,11 +143,12 @@ module _ (n : ℕ) (even : n % 2 ≡ 0) (two : 2 ≤ n) (few : n ≤ 4096) where
     where
       inside : (k : ℕ) → 0 < k → k < n - 1 → Within ts vs c 0 (n - 1) k
       inside k l u =
-          let r : n - 1 - 0 ≡ suc (n - 2) = omega arith in
+          let t : n - 1 - 0 ≡ suc (n - 2) = omega arith in
           let s : k - 0 ≡ k = omega arith in
           let z : zig (n - 1) ≡ 3 = omega arith in
-          let d = rw (r, s, z) at (deviates 0 (n - 1) k (omega arith) (omega arith) (omega arith)) in
-          rw (at (n - 1) (omega arith), r) (size-at-most d (c .q) (c .p * suc (n - 2)) .1 (near-enough (c .p) (c .q) (n - 2) ratio-is (zig k) k _ (omega arith) l (omega arith)))
+          let d = rw (t, s, z) at (deviates 0 (n - 1) k (omega arith) (omega arith) (omega arith)) in
+          equal-parts ts vs 1048575 ratio 0 (n - 1) k .1
+          (rw (at (n - 1) (omega arith), t) (size-at-most d (ratio .q) (ratio .p * suc (n - 2)) .1 (near-enough (ratio .p) (ratio .q) (n - 2) ratio-is (zig k) k _ (omega arith) l (omega arith))))
 
   -- ---- the lists
 

@@ -3,9 +3,9 @@
 --   report-own                a channel has the same row in any two crates that hold the same samples for it
 --   row-walk, row-declined    a row is what walk answers for the channel's samples, and the error and sample of the list that it writes
 --   row-sample                where that list has a link, the sample is that of the measure of its first link with the row's error
---   report-within             no row's error is above the tolerance
+--   report-within             no row's error is above the larger part of the tolerance
 --   report-largest            the largest error is at least each row's
---   largest-within            it is at most the tolerance
+--   largest-within            it is at most that part
 --   largest-lowest            it is in lowest terms
 -- Assumes nothing.
 use mathlib.Core.Path.{_≡_, refl, sym, _∙_, ap, subst}
@@ -27,11 +27,11 @@ use Rattle.refusal.specs.Table.{_thenCheck_}
 use Rattle.refusal.proofs.TableLaws.{then-fine}
 use Rattle.limits.specs.declared.Limits.{Limits}
 use Rattle.trace.specs.Trace.{Trace, traceRows}
-use Rattle.trace.specs.Link.{ratioOf}
+use Rattle.trace.specs.Link.{larger}
 use Rattle.trace.proofs.TraceLaws.{rows-trace}
 use Rattle.proposed.specs.Proposed.{errorAt, measureAt, firstWorst, listSample, listStray}
 use Rattle.proposed.proofs.WorstLink.{first-worst}
-use Rattle.channels.specs.Channels.{ofChannel}
+use Rattle.channels.specs.Channels.{ofChannel, crateRow}
 use Rattle.sheet.specs.declared.Summary.{Summary}
 use Rattle.sheet.specs.declared.Totals.{Totals}
 use Rattle.sheet.specs.declared.Reported.the-variants.{Counted}
@@ -40,8 +40,9 @@ use Rattle.sheet.proofs.RowLaws.{rows-length, rows-own, row-within, row-positiv
 use Rattle.sheet.proofs.ReportLaws.{channel-fine, channel-refused, walked-row, walked-kept, walked-length}
 use Rattle.engine.specs.declared.Reduced.the-variants.{Kept, Refused as Declined}
 use Rattle.limits.specs.Prepare.{limitRows, commonRows, criterionOf, outputRows}
+use Rattle.limits.proofs.PrepareLaws.{limits-held}
 use Rattle.engine.specs.Reduce.{WalkOutcome}
-use Rattle.engine.specs.Report.{reportRows, ReportOutcome}
+use Rattle.engine.specs.Report.{crateRows, reportRows, ReportOutcome}
 
 -- ---- the rows
 
@@ -55,8 +56,15 @@ module _ {ts : List ℕ} {vs : List ℤ} {ls : List ℕ} {t : Limits} {o o′ : 
   pub report-rest : drop (length ls) o′ ≡ drop (length ls) o
   report-rest = subst (λ (n : ℕ). drop n o′ ≡ drop n o) count (ap (drop (length (reportRows ts vs ls t))) (r .content) ∙ drop-append-seam (reportRows ts vs ls t) _)
 
-  pub report-within : (i : ℕ) → i < length ls → AtMost (rowError (getD o′ i zeros)) (ratioOf (criterionOf t))
-  report-within i h = rw (report-row i h) (row-within (criterionOf t) (ofChannel ls i ts) (ofChannel ls i vs))
+  -- a row's error, which is the plain distance, is at most the larger part
+  own-within : (us : List ℕ) (ws : List ℤ) → AtMost (rowError (rowOf (criterionOf t) us ws)) (larger (criterionOf t))
+  unfolding crateRows
+  own-within us ws =
+      let held = limits-held t (then-fine (limitRows t) _ (then-fine (crateRow ts vs ls) _ (r .rows) .1) .0) in
+      row-within (criterionOf t) us ws (held .up .positive) (held .down .positive)
+
+  pub report-within : (i : ℕ) → i < length ls → AtMost (rowError (getD o′ i zeros)) (larger (criterionOf t))
+  report-within i h = rw (report-row i h) (own-within (ofChannel ls i ts) (ofChannel ls i vs))
 
   -- what holds of the row of any trace under the limits holds of each row
   each-row : (P : Summary → Type 0) → ((us : List ℕ) (ws : List ℤ) → P (rowOf (criterionOf t) us ws)) → (i : ℕ) → i < length (reportRows ts vs ls t) → P (getD (reportRows ts vs ls t) i zeros)
@@ -67,9 +75,9 @@ module _ {ts : List ℕ} {vs : List ℤ} {ls : List ℕ} {t : Limits} {o o′ : 
       rw (report-row i h, ← rows-own (criterionOf t) ts vs ls i h, r .totals)
       (largest-least (reportRows ts vs ls t) (each-row (λ x. 0 < x .q) (row-positive (criterionOf t))) i (omega (arith, count, h)))
 
-  pub largest-within : AtMost (largestError k) (ratioOf (criterionOf t))
+  pub largest-within : AtMost (largestError k) (larger (criterionOf t))
   largest-within = rw (r .totals)
-      (largest-one (λ x. AtMost x (ratioOf (criterionOf t))) (reportRows ts vs ls t) (omega arith) (each-row (λ x. AtMost (rowError x) (ratioOf (criterionOf t))) (row-within (criterionOf t))))
+      (largest-one (λ x. AtMost x (larger (criterionOf t))) (reportRows ts vs ls t) (omega arith) (each-row (λ x. AtMost (rowError x) (larger (criterionOf t))) own-within))
 
   pub largest-lowest : gcd (k .p) (k .q) ≡ 1
   unfolding gcd euclid

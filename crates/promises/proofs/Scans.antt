@@ -106,7 +106,7 @@ module _ (ts : List ℕ) (vs : List ℤ) (e : Entry) (l : List Entry) (g room : 
 
   each-rows : (m : Meaning) → meaning (e .tolerance) ≡ m → severalRows one g (length ts) room ≡ limitRows (limitsAt one g 0) thenCheck roomRow (length ts) room
   unfolding severalRows badAt first firstOf
-  each-rows (Exact r) q = let n : 1 * length ts ≡ length ts = omega arith in rw (q, n)
+  each-rows (Exact x) q = let n : 1 * length ts ≡ length ts = omega arith in rw (q, n)
   each-rows NotAllowed q = rw q
 
   pub one-rows : scanRows ts vs one g room ≡ outputRows ts vs (limitsAt one g 0) room

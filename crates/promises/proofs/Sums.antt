@@ -1,14 +1,14 @@
 -- Sums, from the contract alone:
 --   rows-swap, sum-swap                         a call is accepted exactly if it is with the traces and their lists exchanged, and then writes the same
 --   zeros-accepted, sum-zeros, zeros-answered   a trace and its list, added to zeros with the list of both ends, are accepted and given back
---   sum-judged, sum-link-row                    at every tolerance that is not below 2 (T1 + T2) judge passes the joined list, and write does not refuse it as 7
+--   sum-judged, sum-link-row                    at every tolerance of which neither part is below 2 (T1 + T2) judge passes the joined list, and write does not refuse it as 7
 --   sum-kept                                    no more samples are kept than by both lists together, the ends counted once
 -- Assumes nothing.
 use mathlib.Core.Path.{_≡_, refl, sym, _∙_, ap, subst}
 use mathlib.Core.Logic.{_↔_, ⊎-elim}
 use mathlib.Core.Bool.{Bool, true, false, cond, _&&_, _||_}
 use mathlib.Core.List.{List, [], _∷_}
-use Prim.Native.Nat.{ℕ, zero, suc, _+_, _-_, _*_, _≤_, _<_}
+use Prim.Native.Nat.{ℕ, zero, suc, _+_, _-_, _≤_, _<_}
 use native.Mathlib.Omega.{arith}
 use lib.Dec.{leb, eqb}
 use lib.IntN.{ℤ, pos, +ℤ-comm, +ℤ-idr}
@@ -19,16 +19,17 @@ use Rattle.lists.specs.Overwrite.{overwrite}
 use Rattle.lists.proofs.Tests.{by-test, and-true, or-cases, true-false}
 use Rattle.refusal.specs.declared.Checked.the-variants.{Fine}
 use Rattle.ratio.specs.declared.Ratio.{Ratio}
+use Rattle.ratio.specs.Order.{AtMost}
 use Rattle.kept.specs.Kept.{KeptList, AllValid}
 use Rattle.kept.proofs.KeptLaws.{each-map}
 use Rattle.trace.specs.Trace.{value, Trace, traceRows}
-use Rattle.trace.specs.Link.{valid, limited}
+use Rattle.trace.specs.Link.{valid, parted, limited}
 use Rattle.trace.proofs.TraceLaws.{rows-trace, trace-rows}
-use Rattle.trace.proofs.Validity.{valid-wider}
+use Rattle.trace.proofs.Validity.{NoWider, valid-wider}
 use Rattle.heights.specs.Budget.{StandsFor}
 use Rattle.proposed.specs.Proposed.{listRow, firstInvalid}
 use Rattle.proposed.proofs.ProposedLaws.{row-kept, all-valid}
-use Rattle.summed.specs.Sum.{sumsOf, outside, sumRows, isEntry, joinedOf, twiceSum, Summable, Joinable}
+use Rattle.summed.specs.Sum.{sumsOf, outside, sumRows, isEntry, joinedOf, partsSum, Summable, Joinable}
 use Rattle.summed.proofs.EntryLaws.{first-entry, last-entry, entries-listed}
 use Rattle.summed.proofs.JoinLaws.{joined-swap, joined-part}
 use Rattle.summed.proofs.SumLaws.{sums-swap}
@@ -36,10 +37,10 @@ use Rattle.summed.proofs.RowLaws.{rows-addable, addable-fine}
 use Rattle.engine.specs.declared.Reduced.{Reduced}
 use Rattle.engine.specs.declared.Reduced.the-variants.{Kept, Refused as Declined}
 use Rattle.limits.specs.declared.Limits.{Limits}
-use Rattle.engine.specs.declared.Verdict.{Verdict}
-use Rattle.engine.specs.declared.Verdict.the-variants.{Yes}
+use Rattle.judging.specs.declared.Verdict.{Verdict}
+use Rattle.judging.specs.declared.Verdict.the-variants.{Yes}
 use Rattle.limits.specs.Prepare.{limitRows, commonRows, criterionOf}
-use Rattle.engine.specs.Judge.{judgeRows, JudgeOutcome}
+use Rattle.judging.specs.Judge.{judgeRows, JudgeOutcome}
 use Rattle.engine.specs.Write.{linkRow}
 use Rattle.engine.specs.Sum.{Summed, SumOutcome}
 use Rattle.engine.proofs.SumLaws.{sum-outcome}
@@ -134,15 +135,18 @@ module _ (ts : List ℕ) (vs : List ℤ) (l : List ℕ) where
 
 -- ---- at the bound
 
--- the lists are within T1 and T2 and obey g; t has an allowed tolerance that is not below 2 (T1 + T2), and a gap limit that is not below g
-module _ {ts us : List ℕ} {vs ws : List ℤ} {l m : List ℕ} {o o′ : List ℤ} {p p′ : List ℕ} {n : ℕ} (a b : Ratio) (g : ℕ) (s : SumOutcome ts vs us ws l m o p (Kept n) o′ p′)
-    (first : StandsFor ts vs (limited g a) l) (second : StandsFor us ws (limited g b) m)
-    (t : Limits) (allowed : limitRows t ≡ Fine) (bound : twiceSum a b .p * criterionOf t .q ≤ criterionOf t .p * twiceSum a b .q) (limit : g ≤ criterionOf t .gap) where
-  joined-stands : StandsFor ts (sumsOf vs ws) (limited g (twiceSum a b)) (take n p′)
-  joined-stands = sum-stands a b g s first second
+-- the lists are within U1, D1 and U2, D2 and obey g; t has an allowed tolerance of which neither part is below their sum, and a gap limit that is not below g
+module _ {ts us : List ℕ} {vs ws : List ℤ} {l m : List ℕ} {o o′ : List ℤ} {p p′ : List ℕ} {n : ℕ} (u d v e : Ratio) (g : ℕ) (s : SumOutcome ts vs us ws l m o p (Kept n) o′ p′)
+    (first : StandsFor ts vs (parted g u d) l) (second : StandsFor us ws (parted g v e) m)
+    (t : Limits) (allowed : limitRows t ≡ Fine) (above : AtMost (partsSum u d v e) (criterionOf t .up)) (below : AtMost (partsSum u d v e) (criterionOf t .down)) (limit : g ≤ criterionOf t .gap) where
+  joined-stands : StandsFor ts (sumsOf vs ws) (limited g (partsSum u d v e)) (take n p′)
+  joined-stands = sum-stands u d v e g s first second
 
   joined-valid : AllValid (valid ts (sumsOf vs ws) (criterionOf t)) (take n p′)
-  joined-valid = each-map (valid-wider ts (sumsOf vs ws) (limited g (twiceSum a b)) (criterionOf t) (joined-stands .positive) bound limit) (take n p′) (joined-stands .within)
+  joined-valid =
+      let wide : NoWider (limited g (partsSum u d v e)) (criterionOf t)
+      = record { up-some = joined-stands .up-positive; down-some = joined-stands .down-positive; up = above; down = below } in
+      each-map (valid-wider ts (sumsOf vs ws) (limited g (partsSum u d v e)) (criterionOf t) wide limit) (take n p′) (joined-stands .within)
 
   pub sum-judged : (r : Verdict) → JudgeOutcome ts (sumsOf vs ws) (take n p′) t r → r ≡ Yes
   unfolding judgeRows commonRows

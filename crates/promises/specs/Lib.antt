@@ -4,6 +4,7 @@ pub mod NoFactor
 pub mod Probes
 pub mod Pedestals
 pub mod Dropouts
+pub mod Parts
 pub mod Sums
 pub mod Scans
 pub mod Views

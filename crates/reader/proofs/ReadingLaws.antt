@@ -2,31 +2,27 @@
 -- Assumes nothing.
 use mathlib.Core.Path.{_≡_, refl, sym, ap, _∙_, subst}
 use mathlib.Core.Logic.{_↔_}
-use mathlib.Core.Bool.{Bool, true, false, _&&_}
+use mathlib.Core.Bool.{false, _&&_}
 use mathlib.Core.List.{List}
 use Prim.Native.Nat.{ℕ, _≤_}
 use native.Mathlib.Omega.{arith}
 use borrow.Author.Tests.{le-leb}
 use lib.Dec.{leb}
 use lib.IntN.{ℤ}
-use lib.ListN.{length, take, drop, length-drop}
+use lib.ListN.{length, take, length-drop}
 use Rattle.lists.proofs.OverwriteLaws.{wrote-read}
-use Rattle.ratio.specs.declared.Ratio.{Ratio}
 use Rattle.refusal.specs.declared.Refusal.{Refusal}
 use Rattle.refusal.specs.declared.Refusal.the-variants.{Record, SecondRecord, Room}
 use Rattle.refusal.specs.declared.Checked.the-variants.{Fine, Refused as Declined}
 use Rattle.refusal.specs.Table.{_thenCheck_}
+use Rattle.tolerance.specs.declared.Parts.{Parts}
 use Rattle.trace.specs.Trace.{Trace}
 use Rattle.format.specs.declared.Cursor.{Cursor}
-use Rattle.format.specs.declared.Command.{Command}
-use Rattle.format.specs.declared.Command.the-variants.{Tolerance, First, Short, Long, End, Invalid}
 use Rattle.format.specs.declared.Header.{Header}
 use Rattle.format.specs.declared.Header.the-variants.{Start, Fault as NoHeader}
 use Rattle.format.specs.Number.{Bytes}
-use Rattle.format.specs.Command.{choose, commandOf}
-use Rattle.format.specs.Format.{Content, Accepted, SameRecord, isHeld, Samples, fault, samples, samplesFrom, sampleHeader, toleranceHeader, headerOf, Parsed, faulty, says, attach, began, parse}
-use Rattle.format.proofs.NumberLaws.{bytes-drop}
-use Rattle.format.proofs.CommandLaws.{Starts, Read, read}
+use Rattle.format.specs.Format.{Content, Accepted, SameRecord, Samples, fault, samples, samplesFrom, headerOf, Parsed, faulty, says, attach, began, parse}
+use Rattle.format.proofs.HeaderLaws.{toleranceSize, by-first, by-tolerance}
 use Rattle.format.proofs.EncodeParse.{encode-parse}
 use Rattle.format.proofs.SameLaws.{same-bytes}
 use Rattle.commands.specs.declared.Verdict.{Verdict}
@@ -37,7 +33,7 @@ use Rattle.reader.specs.declared.Comparison.the-variants.{Same, Differen
 
 -- ---- the header
 
-pub parse-start : (b : List ℕ) {r : Ratio} {c : Cursor} → headerOf b ≡ Start r c → parse b ≡ attach r (samplesFrom b c)
+pub parse-start : (b : List ℕ) {x : Parts} {c : Cursor} → headerOf b ≡ Start x c → parse b ≡ attach x (samplesFrom b c)
 unfolding parse
 parse-start b e = ap (began b) e
 
@@ -46,40 +42,19 @@ unfolding parse
 parse-fault b e = ap (began b) e
 
 AfterFirstBy : ℕ → Header → Type 0
-AfterFirstBy n (Start r c) = AfterFirst n c
+AfterFirstBy n (Start x c) = AfterFirst n c
 AfterFirstBy n (NoHeader k) = Unit {0}
 
-after-first-sample : (b : List ℕ) (r : Ratio) → Starts b (Tolerance r) → (m : Command) → Read (drop 9 b) m → AfterFirstBy (length b) (sampleHeader r m)
-unfolding AfterFirstBy
-after-first-sample b r v (First t l) w =
-    let o = w .operands in
-    record {
-      ready = record { at = omega (arith, v .whole, w .whole, length-drop 9 b); begun = omega arith; tick = o .0; level = o .1; count = omega arith };
-      one = refl;
-    }
-after-first-sample b r v (Tolerance r′) w = tt
-after-first-sample b r v (Short a d) w = tt
-after-first-sample b r v (Long a l) w = tt
-after-first-sample b r v (End m) w = tt
-after-first-sample b r v Invalid w = tt
-
-after-first : {b : List ℕ} → Bytes b → (m : Command) → Read b m → AfterFirstBy (length b) (toleranceHeader m (commandOf (drop 9 b)))
-unfolding AfterFirstBy
-after-first {b} by (Tolerance r) v = go (isHeld r)
-  where
-    go : (a : Bool) → AfterFirstBy (length b) (choose a (sampleHeader r (commandOf (drop 9 b))) (NoHeader 0))
-    go true = after-first-sample b r v (commandOf (drop 9 b)) (read (bytes-drop 9 by))
-    go false = tt
-after-first by (First t l) v = tt
-after-first by (Short a d) v = tt
-after-first by (Long a l) v = tt
-after-first by (End m) v = tt
-after-first by Invalid v = tt
-
 -- the cursor after the first sample
-pub header-after-first : {b : List ℕ} → Bytes b → {r : Ratio} {c : Cursor} → headerOf b ≡ Start r c → AfterFirst (length b) c
+pub header-after-first : {b : List ℕ} → Bytes b → {x : Parts} {c : Cursor} → headerOf b ≡ Start x c → AfterFirst (length b) c
 unfolding AfterFirstBy
-header-after-first {b} by e = subst (AfterFirstBy (length b)) e (after-first by (commandOf b) (read by))
+header-after-first {b} by e =
+    subst (AfterFirstBy (length b)) e (by-tolerance by (AfterFirstBy (length b)) tt
+    (λ x h v. by-first by (AfterFirstBy (length b)) (toleranceSize x) x tt
+    (λ t l w. record {
+      ready = record { at = omega (arith, v .whole, w .whole, length-drop (toleranceSize x) b); begun = omega arith; tick = w .operands .0; level = w .operands .1; count = omega arith };
+      one = refl;
+    })))
 
 -- ---- check
 
@@ -96,24 +71,24 @@ samplesOf : Parsed → Samples
 samplesOf (faulty k) = fault k
 samplesOf (says x) = samples (x .ticks) (x .values)
 
-samples-attach : (r : Ratio) (s : Samples) → samplesOf (attach r s) ≡ s
+samples-attach : (x : Parts) (s : Samples) → samplesOf (attach x s) ≡ s
 unfolding samplesOf
-samples-attach r (fault k) = refl
-samples-attach r (samples ts vs) = refl
+samples-attach x (fault k) = refl
+samples-attach x (samples ts vs) = refl
 
-module _ {b : List ℕ} {n : ℕ} {r : Ratio} (s : Said b n r) where
+module _ {b : List ℕ} {n : ℕ} {x : Parts} (s : Said b n x) where
   pub no-room : (k m : ℕ) → (leb n k && leb n m) ≡ false → readRows b k m ≡ Declined (Room n)
   no-room k m e = rw (s .accepted .parsed, ← s .count, e)
 
-  module _ {q : Ratio} {c : Cursor} (e : headerOf b ≡ Start q c) (ts : List ℕ) (vs : List ℤ) (h : n ≤ length ts) (k : n ≤ length vs) where
+  module _ {y : Parts} {c : Cursor} (e : headerOf b ≡ Start y c) (ts : List ℕ) (vs : List ℤ) (h : n ≤ length ts) (k : n ≤ length vs) where
     said-samples : samplesFrom b c ≡ samples (s .content .ticks) (s .content .values)
     unfolding samplesOf
-    said-samples = sym (samples-attach q (samplesFrom b c)) ∙ ap samplesOf (sym (parse-start b e) ∙ s .accepted .parsed)
+    said-samples = sym (samples-attach y (samplesFrom b c)) ∙ ap samplesOf (sym (parse-start b e) ∙ s .accepted .parsed)
 
     pub room : Fitting (samplesFrom b c) n (length ts) (length vs)
     room = rw said-samples (sym (s .count), h, k)
 
-    pub read-back : {ts′ : List ℕ} {vs′ : List ℤ} → Filled (samplesFrom b c) ts vs ts′ vs′ → ReadBack b ts vs n r ts′ vs′
+    pub read-back : {ts′ : List ℕ} {vs′ : List ℤ} → Filled (samplesFrom b c) ts vs ts′ vs′ → ReadBack b ts vs n x ts′ vs′
     read-back f =
         let w = rw said-samples at f in
         record {
@@ -129,18 +104,18 @@ pub read-fault : (b : List ℕ) {k : ℕ} (m n : ℕ) → parse b ≡ faulty k �
 read-fault b m n e = rw e
 
 -- the entries that were written are a trace
-pub read-trace : {b ts : List ℕ} {vs : List ℤ} {n : ℕ} {r : Ratio} {ts′ : List ℕ} {vs′ : List ℤ} → ReadBack b ts vs n r ts′ vs′ → Trace (take n ts′) (take n vs′)
+pub read-trace : {b ts : List ℕ} {vs : List ℤ} {n : ℕ} {x : Parts} {ts′ : List ℕ} {vs′ : List ℤ} → ReadBack b ts vs n x ts′ vs′ → Trace (take n ts′) (take n vs′)
 read-trace h = rw (wrote-read (h .ticks), wrote-read (h .values)) (h .accepted .legal .trace)
 
 -- ---- same
 
-pub both-fine : {a b : List ℕ} {n m : ℕ} {r q : Ratio} → Said a n r → Said b m q → sameRows a b ≡ Fine
+pub both-fine : {a b : List ℕ} {n m : ℕ} {x y : Parts} → Said a n x → Said b m y → sameRows a b ≡ Fine
 both-fine s t = rw (s .accepted .parsed, t .accepted .parsed)
 
 pub first-fault : (a b : List ℕ) {k : ℕ} → parse a ≡ faulty k → sameRows a b ≡ Declined (Record k)
 first-fault a b e = rw e
 
-pub second-fault : {a : List ℕ} {n : ℕ} {r : Ratio} → Said a n r → (b : List ℕ) {k : ℕ} → parse b ≡ faulty k → sameRows a b ≡ Declined (SecondRecord k)
+pub second-fault : {a : List ℕ} {n : ℕ} {x : Parts} → Said a n x → (b : List ℕ) {k : ℕ} → parse b ≡ faulty k → sameRows a b ≡ Declined (SecondRecord k)
 second-fault s b e = rw (s .accepted .parsed, e)
 
 not-declined : {A : Type 0} {x : Refusal} → Declined x ≡ Fine → A

@@ -13,12 +13,12 @@ use lib.Dec.{leb}
 use lib.IntN.{ℤ}
 use lib.ListN.{length}
 use Rattle.lists.specs.Overwrite.{Wrote}
-use Rattle.ratio.specs.declared.Ratio.{Ratio}
 use Rattle.refusal.specs.declared.Refusal.{Refusal}
 use Rattle.refusal.specs.declared.Refusal.the-variants.{Record, SecondRecord, Room}
 use Rattle.refusal.specs.declared.Checked.{Checked}
 use Rattle.refusal.specs.declared.Checked.the-variants.{Fine, Refused as Declined}
 use Rattle.refusal.specs.Table.{row, _thenCheck_}
+use Rattle.tolerance.specs.declared.Parts.{Parts}
 use Rattle.format.specs.Format.{Content, Parsed, faulty, says, parse, Accepted, SameRecord}
 use Rattle.commands.specs.declared.Verdict.{Verdict}
 use Rattle.commands.specs.declared.Verdict.the-variants.{Samples as Gives, Fault}
@@ -47,23 +47,23 @@ sameRows a b = recordRow Record (parse a) thenCheck recordRow SecondRecord (pars
 
 -- ---- outcomes
 
--- the record b gives n samples at the tolerance r
-pub record Said (b : List ℕ) (n : ℕ) (r : Ratio) : Type 0 where
+-- the record b gives n samples at the tolerance x
+pub record Said (b : List ℕ) (n : ℕ) (x : Parts) : Type 0 where
   pub content : Content
   pub accepted : Accepted b content
   pub count : n ≡ length (content .ticks)
-  pub tolerance : r ≡ content .tolerance
+  pub tolerance : x ≡ content .tolerance
 
 abbrev pub CheckOutcome : List ℕ → Verdict → Type 0
-CheckOutcome b (Gives n r) = Said b n r
+CheckOutcome b (Gives n x) = Said b n x
 CheckOutcome b (Fault k) = parse b ≡ faulty k
 
--- n samples of the record b, at the tolerance r, were written over the front of the lent lists
-pub record ReadBack (b : List ℕ) (ts : List ℕ) (vs : List ℤ) (n : ℕ) (r : Ratio) (ts′ : List ℕ) (vs′ : List ℤ) : Type 0 where
+-- n samples of the record b, at the tolerance x, were written over the front of the lent lists
+pub record ReadBack (b : List ℕ) (ts : List ℕ) (vs : List ℤ) (n : ℕ) (x : Parts) (ts′ : List ℕ) (vs′ : List ℤ) : Type 0 where
   pub rows : readRows b (length ts) (length vs) ≡ Fine
   pub content : Content
   pub accepted : Accepted b content
-  pub tolerance : r ≡ content .tolerance
+  pub tolerance : x ≡ content .tolerance
   pub ticks : Wrote (content .ticks) ts n ts′
   pub values : Wrote (content .values) vs n vs′
 
@@ -74,7 +74,7 @@ pub record ReadDeclined (b : List ℕ) (ts : List ℕ) (vs : List ℤ) (e : Refu
   pub values : vs′ ≡ vs
 
 abbrev pub ReadOutcome : List ℕ → List ℕ → List ℤ → Answer → List ℕ → List ℤ → Type 0
-ReadOutcome b ts vs (Given n r) ts′ vs′ = ReadBack b ts vs n r ts′ vs′
+ReadOutcome b ts vs (Given n x) ts′ vs′ = ReadBack b ts vs n x ts′ vs′
 ReadOutcome b ts vs (Refused e) ts′ vs′ = ReadDeclined b ts vs e ts′ vs′
 
 -- both records are accepted, they are the same exactly if their bytes agree, and P holds of their contents

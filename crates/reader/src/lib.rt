@@ -10,13 +10,13 @@ use commands::headers;
 use commands::passes;
 use format::Cursor;
 use format::Header;
-use ratio::Ratio;
 use refusal::Checked;
 use refusal::Refusal;
+use tolerance::Parts;
 
-// What reading answers: the number of samples and the tolerance, or why it declined.
+// What reading answers: the number of samples and the tolerance in its two parts, or why it declined.
 pub enum Answer {
-    Samples(usize, Ratio),
+    Samples(usize, Parts),
     Refused(Refusal),
 }
 
@@ -33,17 +33,17 @@ pub fn check(bytes: &[u8]) -> Verdict
 {
     let h = headers::read_header(bytes);
     match h {
-        Header::Start(r, c) => passes::count_samples(bytes, r, c),
+        Header::Start(x, c) => passes::count_samples(bytes, x, c),
         Header::Fault(k) => Verdict::Fault(k),
     }
 }
 
-// Reads a record with the tolerance r and the cursor c after its first sample: it is checked first, and if it is declined nothing is written.
-fn read_from(bytes: &[u8], r: Ratio, c: Cursor, ticks: &mut [u32], values: &mut [i16]) -> Answer
-    requires { ⌜ headerOf (now bytes) ≡ Start r c ⌝ }
+// Reads a record with the tolerance x and the cursor c after its first sample: it is checked first, and if it is declined nothing is written.
+fn read_from(bytes: &[u8], x: Parts, c: Cursor, ticks: &mut [u32], values: &mut [i16]) -> Answer
+    requires { ⌜ headerOf (now bytes) ≡ Start x c ⌝ }
     ensures { λ a. ⌜ ReadOutcome (now (bytes .entry)) (now (ticks .entry)) (now (values .entry)) a (now (ticks .exit)) (now (values .exit)) ⌝ }
 {
-    let v = passes::count_samples(bytes, r, c);
+    let v = passes::count_samples(bytes, x, c);
     match v {
         Verdict::Samples(n, t) => {
             if ticks.len() < n {
@@ -65,7 +65,7 @@ pub fn read(bytes: &[u8], ticks: &mut [u32], values: &mut [i16]) -> Answer
 {
     let h = headers::read_header(bytes);
     match h {
-        Header::Start(r, c) => read_from(bytes, r, c, ticks, values),
+        Header::Start(x, c) => read_from(bytes, x, c, ticks, values),
         Header::Fault(k) => Answer::Refused(Refusal::Record(k)),
     }
 }

@@ -6,6 +6,7 @@ use engine::Reduced;
 use limits::Limits;
 use ratio::Ratio;
 use reader::Answer;
+use tolerance::Parts;
 use tolerance::Tolerance;
 
 fn print(word: &[u8]) -> bool {
@@ -47,11 +48,21 @@ fn print_ratio(t: Ratio) -> bool {
     print_number(t.p) && print(b"/") && print_number(t.q)
 }
 
-fn print_header(samples: usize, t: Ratio) -> bool {
+// One ratio where the parts agree, both where they differ.
+fn print_parts(t: Parts) -> bool {
+    let up = t.up;
+    let down = t.down;
+    if tolerance::agree(t) {
+        return print_ratio(up);
+    }
+    print_ratio(up) && print(b" ") && print_ratio(down)
+}
+
+fn print_header(samples: usize, t: Parts) -> bool {
     print(b"samples ")
         && print_number(samples as u64)
         && print(b" tolerance ")
-        && print_ratio(t)
+        && print_parts(t)
         && end_line()
 }
 
@@ -76,40 +87,40 @@ fn print_probed(kept: Probed, list: &[u16]) -> bool {
 }
 
 // A record's tolerance under the largest gap limit, since records carry none.
-fn no_gap_limit(t: Ratio) -> Limits {
+fn no_gap_limit(t: Parts) -> Limits {
     Limits {
-        tolerance: Tolerance::Ratio(t.p, t.q),
+        tolerance: Tolerance::Parts(t),
         gap: 1_048_575,
     }
 }
 
 // What walk keeps of a trace, what gallop, and what minimum.
-fn print_walk(ticks: &[u32], values: &[i16], t: Ratio) -> bool {
+fn print_walk(ticks: &[u32], values: &[i16], t: Parts) -> bool {
     let mut list = [0u16; 4096];
     let kept = engine::walk::walk(ticks, values, no_gap_limit(t), &mut list);
     print(b"walk ") && print_kept(kept, &list)
 }
 
-fn print_gallop(ticks: &[u32], values: &[i16], t: Ratio) -> bool {
+fn print_gallop(ticks: &[u32], values: &[i16], t: Parts) -> bool {
     let mut list = [0u16; 4096];
     let kept = engine::gallop::gallop(ticks, values, no_gap_limit(t), &mut list);
     print(b"gallop ") && print_probed(kept, &list)
 }
 
-fn print_minimum(ticks: &[u32], values: &[i16], t: Ratio) -> bool {
+fn print_minimum(ticks: &[u32], values: &[i16], t: Parts) -> bool {
     let mut list = [0u16; 4096];
     let kept = engine::minimum::minimum(ticks, values, no_gap_limit(t), &mut list);
     print(b"minimum ") && print_kept(kept, &list)
 }
 
-fn print_reductions(ticks: &[u32], values: &[i16], t: Ratio) -> bool {
+fn print_reductions(ticks: &[u32], values: &[i16], t: Parts) -> bool {
     print_walk(ticks, values, t)
         && print_gallop(ticks, values, t)
         && print_minimum(ticks, values, t)
 }
 
 // What the reductions keep of the first n samples of both lists.
-fn print_first(ticks: &[u32], values: &[i16], n: usize, t: Ratio) -> bool {
+fn print_first(ticks: &[u32], values: &[i16], n: usize, t: Parts) -> bool {
     let m = fewer(n, fewer(ticks.len(), values.len()));
     print_reductions(&ticks[..m], &values[..m], t)
 }
@@ -127,7 +138,7 @@ fn print_record(bytes: &[u8]) -> bool {
 }
 
 fn main() {
-    let mut bytes = [0u8; 24590];
+    let mut bytes = [0u8; 24598];
     let n = io::read_full(0, &mut bytes);
     if !print_record(&bytes[..n]) {
         io::write_all(2, b"reduce: the output is cut off\n");

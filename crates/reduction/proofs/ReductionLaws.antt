@@ -1,5 +1,5 @@
 -- What holds of the lists of walk and gallop on a trace: each is a kept list of valid links with maximal stops, so it has at most as many
--- samples as any kept list within half the tolerance. Gallop's probe total, from the lengths of its stops.
+-- samples as any kept list within parts whose sum is at most each of the criterion's. Gallop's probe total, from the lengths of its stops.
 -- Assumes nothing.
 use mathlib.Core.Path.{_≡_}
 use mathlib.Core.List.{List}
@@ -14,7 +14,7 @@ use Rattle.kept.proofs.WalkLaws.{walk-greedy}
 use Rattle.kept.proofs.GallopLaws.{gallop-greedy, stop-probes, gallop-probes}
 use Rattle.trace.specs.declared.Criterion.{Criterion}
 use Rattle.trace.specs.Trace.{Trace}
-use Rattle.trace.specs.Link.{valid, half, NoLonger}
+use Rattle.trace.specs.Link.{valid, parted, NoLonger}
 use Rattle.trace.proofs.Validity.{steps-valid}
 use Rattle.trace.proofs.Half.{halves}
 use Rattle.reduction.specs.Walking.{walkList}
@@ -31,7 +31,7 @@ module _ (ts : List ℕ) (vs : List ℤ) (c : Criterion) where
     -- any greedy list, however it was made
     module _ {l : List ℕ} (g : Greedy (valid ts vs c) (length ts - 1) l) where
       pub greedy-short : NoLonger ts vs c (length l)
-      greedy-short = greedy-size (valid ts vs c) (length ts - 1) l g (valid ts vs (half c)) (halves (t .rising) vs c)
+      greedy-short a b s = greedy-size (valid ts vs c) (length ts - 1) l g (valid ts vs (parted (c .gap) a b)) (halves (t .rising) vs c s)
 
     -- a stop of r samples takes exactly 2 floor (log2 r) + 1 probes
     pub gallop-stop-probes : EachLink (λ i j. gallopSearch (valid ts vs c) (length ts - 1) i .probes ≡ stopProbes (j - i)) (gallopList ts vs c)

@@ -56,49 +56,56 @@ module _ {m n at b : ℕ} {places : List ℕ} (g : Starting m n at b places) whe
   pub starts-done : m ≤ b → Places m n places
   starts-done le = record { sized = g .sized; each = λ a lt. g .each a (omega arith) }
 
--- ---- a loop over the tolerances: the entries before b have become what f gives
+-- ---- a loop over the tolerances, from the last on: the entries from b on have become what f gives
 
 pub record Looping (m n : ℕ) (f : ℕ → Held) (s₀ : Numbers) (out₀ : List ℕ) (b : ℕ) (s : Numbers) (out : List ℕ) : Type 0 where
   pub within : b ≤ m
   pub sized : Sized s
-  pub round : Round f (heldIn n s₀ out₀) (heldIn n s out) b
-  pub next : (a : ℕ) → b ≤ a → getD (s .places) a 0 ≡ getD (s₀ .places) a 0
+  pub done : (a : ℕ) → b ≤ a → a < m → heldIn n s out a ≡ f a
+  pub todo : (a : ℕ) → a < b → heldIn n s out a ≡ heldIn n s₀ out₀ a
+  pub next : (a : ℕ) → a < b → getD (s .places) a 0 ≡ getD (s₀ .places) a 0
   pub places : (a : ℕ) → getD (s₀ .places) a 0 ≤ getD (s .places) a 0
   pub beyond : drop (m * n) out ≡ drop (m * n) out₀
   pub same : length out ≡ length out₀
 
-pub loop-first : {m n : ℕ} {f : ℕ → Held} {s : Numbers} {out : List ℕ} → Sized s → Looping m n f s out 0 s out
-loop-first z = record { within = omega arith; sized = z; round = round-none; next = λ a l. refl; places = λ a. omega arith; beyond = refl; same = refl }
+pub loop-first : {m n : ℕ} {f : ℕ → Held} {s : Numbers} {out : List ℕ} → Sized s → Looping m n f s out m s out
+loop-first z = record { within = omega arith; sized = z; done = λ a l u. absurd (omega arith); todo = λ a l. refl; next = λ a l. refl; places = λ a. omega arith; beyond = refl; same = refl }
 
 module _ {m n : ℕ} {f : ℕ → Held} {s₀ : Numbers} {out₀ : List ℕ} {b : ℕ} {s : Numbers} {out : List ℕ} (g : Looping m n f s₀ out₀ b s out) where
-  pub loop-next : {h : Held} {s′ : Numbers} {out′ : List ℕ} → b < m → Became n b h s out s′ out′ → h ≡ f b → length out′ ≡ length out → Looping m n f s₀ out₀ (b + 1) s′ out′
-  loop-next lt k e l = record {
-    within = omega arith;
-    sized = k .sized;
-    round = round-more (g .round) (k .this ∙ e) (k .others);
-    next = λ a u. k .elsewhere a (λ q. omega arith) ∙ g .next a (omega arith);
-    places = λ a. omega (arith, g .places a, k .places a);
-    beyond = k .beyond m lt ∙ g .beyond;
-    same = l ∙ g .same;
-  }
+  pub loop-done : b ≤ 0 → AllBecame m n f s₀ out₀ s out
+  loop-done none = record { sized = g .sized; each = λ a lt. g .done a (omega arith) lt; places = g .places; beyond = g .beyond }
 
-  pub loop-done : m ≤ b → AllBecame m n f s₀ out₀ s out
-  loop-done le = record { sized = g .sized; each = λ a lt. g .round .done a (omega arith); places = g .places; beyond = g .beyond }
+  module _ (some : 0 < b) where
+    pub loop-next : {h : Held} {s′ : Numbers} {out′ : List ℕ} → Became n (b - 1) h s out s′ out′ → h ≡ f (b - 1) → length out′ ≡ length out → Looping m n f s₀ out₀ (b - 1) s′ out′
+    loop-next k e l = record {
+      within = omega (arith, g .within);
+      sized = k .sized;
+      done = λ a u lt. elim (decLt (b - 1) a) [
+        | yes q ↦ k .others a (λ z. omega arith) ∙ g .done a (omega arith) lt
+        | no q ↦ let z : a ≡ b - 1 = omega arith in rw z (k .this ∙ e)
+      ];
+      todo = λ a u. k .others a (λ z. omega arith) ∙ g .todo a (omega arith);
+      next = λ a u. k .elsewhere a (λ z. omega arith) ∙ g .next a (omega arith);
+      places = λ a. omega (arith, g .places a, k .places a);
+      beyond = k .beyond m (omega (arith, g .within)) ∙ g .beyond;
+      same = l ∙ g .same;
+    }
 
-  -- entry b is as it was
-  pub loop-own : heldIn n s out b ≡ heldIn n s₀ out₀ b
-  loop-own = g .round .todo b (omega arith)
+    -- the last entry before b is as it was
+    pub loop-own : heldIn n s out (b - 1) ≡ heldIn n s₀ out₀ (b - 1)
+    loop-own = g .todo (b - 1) (omega arith)
 
-module _ {ps : List ℕ} {n : ℕ} {f : ℕ → Held} {s₀ : Numbers} {out₀ : List ℕ} {b : ℕ} {s : Numbers} {out : List ℕ} (g : Looping (length ps) n f s₀ out₀ b s out) where
-  pub turning-at : {qs : List ℕ} {gap : ℕ} {cut : Bool} {before here : Sample} {at : ℕ} → Sampling ps qs gap cut before here at n s₀ out₀ → b < length ps → {c : Criterion} → c ≡ criterionAt ps qs gap b → Turning c cut before here at n b s out
-  turning-at {qs} {gap} {cut} {before} {here} h lt e = rw e (record {
-    few = omega (arith, h .few);
-    sized = g .sized;
-    steps = subst (Steps (criterionAt ps qs gap b) cut before here) (sym (loop-own g)) (h .steps b lt);
-    room = omega (arith, g .same, part-room (length ps) n b out₀ (h .room) lt);
-    inside = subst (Inside n b) (sym (g .next b (omega arith))) (h .inside b lt);
-    number = h .number;
-  })
+    pub turning-at : {ps : List ℕ} {gap : ℕ} {cut : Bool} {before here : Sample} {at : ℕ} → Sampling m ps gap cut before here at n s₀ out₀ → {c : Criterion} → c ≡ criterionAt ps gap (b - 1) → Turning c cut before here at n (b - 1) s out
+    turning-at {ps} {gap} {cut} {before} {here} h e =
+        let lt : b - 1 < m = omega (arith, g .within) in
+        rw e (record {
+          few = omega (arith, h .few);
+          sized = g .sized;
+          steps = subst (Steps (criterionAt ps gap (b - 1)) cut before here) (sym loop-own) (h .steps (b - 1) lt);
+          room = omega (arith, g .same, part-room m n (b - 1) out₀ (h .room) lt);
+          inside = subst (Inside n (b - 1)) (sym (g .next (b - 1) (omega arith))) (h .inside (b - 1) lt);
+          number = h .number;
+        })
 
 -- ---- closing
 
@@ -146,8 +153,8 @@ module _ {m n last : ℕ} {places out₀ : List ℕ} {b : ℕ} {counts out : Lis
 
 -- ---- the samples one by one
 
-module _ {ts : List ℕ} {vs : List ℤ} {ps qs o : List ℕ} {g : ℕ} (i : Given ts vs ps qs g o) where
-  pub scan-first : {first : Sample} {s : Numbers} → SampleAt ts vs 0 first → Sized s → Places (length ps) (length ts) (s .places) → Scanning ts vs ps qs g o 0 first true s o
+module _ {ts : List ℕ} {vs : List ℤ} {m : ℕ} {ps o : List ℕ} {g : ℕ} (i : Given ts vs m ps g o) where
+  pub scan-first : {first : Sample} {s : Numbers} → SampleAt ts vs 0 first → Sized s → Places m (length ts) (s .places) → Scanning ts vs m ps g o 0 first true s o
   unfolding holeBefore
   scan-first h z k = record {
     given = i;
@@ -169,12 +176,12 @@ hole-after ts g j = rw (add-one j)
 hole-between : {ts : List ℕ} {vs : List ℤ} {j : ℕ} (g : ℕ) {before here : Sample} {b : Bool} → SampleAt ts vs j before → SampleAt ts vs (suc j) here → b ≡ ltb g (here .tick - before .tick) → b ≡ hole ts g j
 hole-between {ts} {j = j} g h k e = e ∙ rw (h .tick, k .tick) (rw (add-one j) at (hole-test ts g j))
 
-module _ {ts : List ℕ} {vs : List ℤ} {ps qs o : List ℕ} {gap j : ℕ} {before : Sample} {hole₀ : Bool} {s : Numbers} {out : List ℕ} (g : Scanning ts vs ps qs gap o j before hole₀ s out) where
-  abbrev i : Given ts vs ps qs gap o
+module _ {ts : List ℕ} {vs : List ℤ} {m : ℕ} {ps o : List ℕ} {gap j : ℕ} {before : Sample} {hole₀ : Bool} {s : Numbers} {out : List ℕ} (g : Scanning ts vs m ps gap o j before hole₀ s out) where
+  abbrev i : Given ts vs m ps gap o
   i = g .given
 
   -- the place of part a
-  pub scan-inside : (a : ℕ) → a < length ps → Inside (length ts) a (getD (s .places) a 0)
+  pub scan-inside : (a : ℕ) → a < m → Inside (length ts) a (getD (s .places) a 0)
   scan-inside a lt = record { from = g .from a lt; to = omega (arith, g .from a lt, g .within, walked-count (g .each a lt)) }
 
   module _ {here : Sample} (inside : j < length ts - 1) (k : SampleAt ts vs (j + 1) here) where
@@ -188,10 +195,9 @@ module _ {ts : List ℕ} {vs : List ℤ} {ps qs o : List ℕ} {gap j : ℕ} {bef
       cut-is : (hole₀ || far) ≡ cutAt ts gap j
       cut-is = rw (g .before-is, hole-between gap (g .sample) next f)
 
-      pub sampling : Sampling ps qs gap (hole₀ || far) before here j (length ts) s out
+      pub sampling : Sampling m ps gap (hole₀ || far) before here j (length ts) s out
       sampling = rw cut-is (record {
         few = i .ratios .few;
-        same = i .ratios .same;
         sized = g .sized;
         room = omega (arith, g .same, i .room);
         number = omega (arith, i .trace .few);
@@ -199,16 +205,16 @@ module _ {ts : List ℕ} {vs : List ℤ} {ps qs o : List ℕ} {gap j : ℕ} {bef
         inside = scan-inside;
       })
 
-      pub scan-next : {s′ : Numbers} {out′ : List ℕ} → AllBecame (length ps) (length ts) (λ a. stepped (criterionAt ps qs gap a) (hole₀ || far) before here j (heldIn (length ts) s out a)) s out s′ out′
-          → length out′ ≡ length out → Scanning ts vs ps qs gap o (j + 1) here far s′ out′
+      pub scan-next : {s′ : Numbers} {out′ : List ℕ} → AllBecame m (length ts) (λ a. stepped (criterionAt ps gap a) (hole₀ || far) before here j (heldIn (length ts) s out a)) s out s′ out′
+          → length out′ ≡ length out → Scanning ts vs m ps gap o (j + 1) here far s′ out′
       scan-next h l = record {
         given = i;
         within = omega arith;
         sample = k;
         before-is = hole-between gap (g .sample) next f ∙ hole-after ts gap j;
         sized = h .sized;
-        each = λ a lt. rw (add-one j) (subst (Walked ts vs (criterionAt ps qs gap a) (part (length ts) a o) (suc j)) (sym (h .each a lt))
-            (rw cut-is (walked-step (i .trace) (i .ratios .bounded a lt) j (g .each a lt) (omega arith) (g .sample) next (omega (arith, part-length (length ps) (length ts) a o (i .room) lt)))));
+        each = λ a lt. rw (add-one j) (subst (Walked ts vs (criterionAt ps gap a) (part (length ts) a o) (suc j)) (sym (h .each a lt))
+            (rw cut-is (walked-step (i .trace) (i .ratios .bounded a lt) j (g .each a lt) (omega arith) (g .sample) next (omega (arith, part-length m (length ts) a o (i .room) lt)))));
         from = λ a lt. omega (arith, g .from a lt, h .places a);
         beyond = h .beyond ∙ g .beyond;
         same = l ∙ g .same;
@@ -216,8 +222,8 @@ module _ {ts : List ℕ} {vs : List ℤ} {ps qs o : List ℕ} {gap j : ℕ} {bef
 
 -- ---- the end
 
-module _ {ts : List ℕ} {vs : List ℤ} {ps qs o : List ℕ} {gap j : ℕ} {here : Sample} {hole₀ : Bool} {s : Numbers} {out : List ℕ} (g : Scanning ts vs ps qs gap o j here hole₀ s out) (end : length ts - 1 ≤ j) where
-  pub closing : Closing (length ps) (length ts) (length ts - 1) (s .places) out
+module _ {ts : List ℕ} {vs : List ℤ} {m : ℕ} {ps o : List ℕ} {gap j : ℕ} {here : Sample} {hole₀ : Bool} {s : Numbers} {out : List ℕ} (g : Scanning ts vs m ps gap o j here hole₀ s out) (end : length ts - 1 ≤ j) where
+  pub closing : Closing m (length ts) (length ts - 1) (s .places) out
   closing = record {
     few = g .given .ratios .few;
     sized = g .sized .places;
@@ -227,12 +233,12 @@ module _ {ts : List ℕ} {vs : List ℤ} {ps qs o : List ℕ} {gap j : ℕ} {her
     inside = scan-inside g;
   }
 
-  at-last : (a : ℕ) → a < length ps → Walked ts vs (criterionAt ps qs gap a) (part (length ts) a o) (length ts - 1) (heldIn (length ts) s out a)
+  at-last : (a : ℕ) → a < m → Walked ts vs (criterionAt ps gap a) (part (length ts) a o) (length ts - 1) (heldIn (length ts) s out a)
   at-last a lt = let z : j ≡ length ts - 1 = omega (arith, g .within) in rw z at (g .each a lt)
 
-  pub scan-closed : {counts out′ : List ℕ} → Closed (length ps) (length ts) (length ts - 1) (s .places) out counts out′ → Scanned ts vs ps qs gap o counts out′
+  pub scan-closed : {counts out′ : List ℕ} → Closed m (length ts) (length ts - 1) (s .places) out counts out′ → Scanned ts vs m ps gap o counts out′
   scan-closed k = record {
-    parts = λ a lt. k .list a lt ∙ closed-list (at-last a lt) (omega (arith, g .within, part-length (length ps) (length ts) a o (g .given .room) lt));
+    parts = λ a lt. k .list a lt ∙ closed-list (at-last a lt) (omega (arith, g .within, part-length m (length ts) a o (g .given .room) lt));
     kept = λ a lt. k .count a lt ∙ closed-count (at-last a lt);
     none = k .none;
     beyond = k .beyond ∙ g .beyond;

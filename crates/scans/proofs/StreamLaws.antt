@@ -45,6 +45,6 @@ walked-streams {ts} {vs} {c} {o} {j} w inside room =
     record { list = closed-list w room ∙ ap (λ (l : List ℕ). overwrite l o) (sym e); count = closed-count w ∙ ap length (sym e) }
 
 -- at every sample, of every tolerance
-pub scanning-streams : {ts : List ℕ} {vs : List ℤ} {ps qs o : List ℕ} {g j : ℕ} {here : Sample} {before : Bool} {s : Numbers} {out : List ℕ} → Scanning ts vs ps qs g o j here before s out
-    → (a : ℕ) → a < length ps → Streams ts vs (criterionAt ps qs g a) (part (length ts) a o) j (heldIn (length ts) s out a)
-scanning-streams {ts} {ps = ps} {o = o} g a lt = walked-streams (g .each a lt) (g .within) (omega (arith, g .within, part-length (length ps) (length ts) a o (g .given .room) lt))
+pub scanning-streams : {ts : List ℕ} {vs : List ℤ} {m : ℕ} {ps o : List ℕ} {g j : ℕ} {here : Sample} {before : Bool} {s : Numbers} {out : List ℕ} → Scanning ts vs m ps g o j here before s out
+    → (a : ℕ) → a < m → Streams ts vs (criterionAt ps g a) (part (length ts) a o) j (heldIn (length ts) s out a)
+scanning-streams {ts} {m = m} {o = o} g a lt = walked-streams (g .each a lt) (g .within) (omega (arith, g .within, part-length m (length ts) a o (g .given .room) lt))

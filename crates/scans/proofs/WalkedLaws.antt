@@ -5,8 +5,7 @@ use mathlib.Core.Path.{_≡_, refl, sym, ap, _∙_}
 use mathlib.Core.Logic.{_⊎_, inl, inr, ⊎-elim}
 use mathlib.Core.Bool.{Bool, true, false}
 use mathlib.Core.List.{List, [], _∷_, _++_}
-use Prim.Native.Nat.{ℕ, zero, suc, _+_, _*_, _≤_, _<_}
-use native.Mathlib.Nat.{mul-le-mul-right}
+use Prim.Native.Nat.{ℕ, zero, suc, _+_, _≤_, _<_}
 use native.Mathlib.Decide.{decLt}
 use native.Mathlib.Numerals.{add-one}
 use native.Mathlib.Omega.{arith}
@@ -23,16 +22,17 @@ use Rattle.trace.specs.declared.Criterion.{Criterion}
 use Rattle.trace.specs.declared.Start.{Start}
 use Rattle.trace.specs.Trace.{tick, value, Trace}
 use Rattle.trace.specs.Link.{Bounded, hole, obeys, valid, linksEnd}
-use Rattle.trace.specs.Edge.{StartAt, EdgeTo}
+use Rattle.trace.specs.Edge.{StartAt, EdgeTo, AimTo}
 use Rattle.trace.proofs.Ticks.{not-earlier, span-bound}
 use Rattle.trace.proofs.Level.{short, level-short}
+use Rattle.trace.proofs.Products.{scaled-bound}
 use Rattle.trace.proofs.Holes.{obeys-true, true-obeys, none-hole, some-hole, obeys-past}
 use Rattle.trace.proofs.Validity.{steps-valid, valid-obeys, hole-invalid}
-use Rattle.trace.proofs.EdgeLaws.{edge-made}
+use Rattle.trace.proofs.EdgeLaws.{start-level}
 use Rattle.outgoing.specs.Outgoing.{TakenIn, Next}
 use Rattle.outgoing.proofs.OutgoingLaws.{next-at, next-valid, next-taken, next-tilt, taken-first, first-tilt}
 use Rattle.turns.specs.declared.Sample.{Sample}
-use Rattle.turns.specs.Sample.{SampleAt, edgeFrom, Ahead}
+use Rattle.turns.specs.Sample.{SampleAt, edgeFrom, aimFrom, Ahead}
 use Rattle.turns.specs.Held.{Held, goesOn, further, anew, stepped, Steps}
 use Rattle.turns.proofs.HeldLaws.{extended-fits, none-fits, stepped-yes, stepped-no, goes-not, goes-as}
 use Rattle.scans.specs.Answers.{keptBefore}
@@ -41,17 +41,25 @@ use Rattle.scans.specs.Scan.{holeBefore, cutAt, linksOf, Walked}
 -- ---- a sample by value
 
 -- a sample as a start
-sample-start : {ts : List ℕ} {vs : List ℤ} {k : ℕ} {s : Sample} (q : ℕ) → SampleAt ts vs k s → StartAt ts vs q k (record { sample = k; tick = s .tick; base = q * s .level })
-sample-start q h = record { sample = refl; tick = h .tick; base = ap (λ (x : ℕ). q * x) (h .level .is); range = h .level .range }
+sample-start : {ts : List ℕ} {vs : List ℤ} {k : ℕ} {s : Sample} → SampleAt ts vs k s → StartAt ts vs k (record { sample = k; tick = s .tick; level = s .level; value = value vs k })
+sample-start h = record { sample = refl; tick = h .tick; level-is = h .level .is; value-is = refl; range = h .level .range }
 
-module _ {ts : List ℕ} {vs : List ℤ} {q i k : ℕ} {s : Start} {to : Sample} (h : StartAt ts vs q i s) (g : SampleAt ts vs k to) (b : q ≤ 1048575) where
-  edge-to-sample : EdgeTo ts vs q i k (edgeFrom q (s .tick) (s .base) to)
-  edge-to-sample = rw (g .tick) (edge-made h b (g .level) refl)
+module _ {ts : List ℕ} {vs : List ℤ} {i k : ℕ} {s : Start} {to : Sample} (h : StartAt ts vs i s) (g : SampleAt ts vs k to) where
+  edge-to-sample : {q : ℕ} → q ≤ 1048575 → EdgeTo ts vs q i k (edgeFrom q (s .tick) (s .level) to)
+  edge-to-sample b = record {
+    run = rw (g .tick, h .tick);
+    rise = rw (g .level .is, h .level-is) (omega (arith, scaled-bound b (level-short (value vs i) (h .range))));
+    climb = refl;
+    from = h .range;
+    to = g .level .range;
+  }
 
-  ahead-of : Trace ts vs → i ≤ k → k < length ts → Ahead q (s .tick) (s .base) to
+  aim-to-sample : {c : Criterion} → Bounded c → AimTo ts vs c i k (aimFrom c (s .tick) (s .level) to)
+  aim-to-sample b = record { up = edge-to-sample (b .up .q-bound); down = edge-to-sample (b .down .q-bound) }
+
+  ahead-of : Trace ts vs → i ≤ k → k < length ts → Ahead (s .tick) (s .level) to
   ahead-of t ik kn = record {
-    q-bound = b;
-    base-bound = omega (arith, h .base, mul-le-mul-right q (level-short (value vs i) (h .range)));
+    from = start-level h;
     order = omega (arith, h .tick, g .tick, not-earlier (t .rising) ik kn);
     span = omega (arith, h .tick, g .tick, span-bound t i k ik kn, not-earlier (t .rising) ik kn);
     short = short (g .level);
@@ -133,25 +141,25 @@ module _ {ts : List ℕ} {vs : List ℤ} {c : Criterion} {o : List ℕ} where
 
     -- the sample j is kept, and the open link starts from it
     module _ {before here : Sample} (t : Trace ts vs) (b : Bounded c) (inside : suc j < length ts) (g : SampleAt ts vs j before) (k : SampleAt ts vs (suc j) here) where
-      start : StartAt ts vs (c .q) j (record { sample = j; tick = before .tick; base = c .q * before .level })
-      start = sample-start (c .q) g
+      start : StartAt ts vs j (record { sample = j; tick = before .tick; level = before .level; value = value vs j })
+      start = sample-start g
 
-      again : EdgeTo ts vs (c .q) j (j + 1) (edgeFrom (c .q) (before .tick) (c .q * before .level) here)
-      again = rw (add-one j) (edge-to-sample start k (b .q-bound))
+      again : AimTo ts vs c j (j + 1) (aimFrom c (before .tick) (before .level) here)
+      again = rw (add-one j) (aim-to-sample start k b)
 
       kept-step : walkStart (valid ts vs c) (suc j) ≡ j → keptBefore (valid ts vs c) (suc j) ≡ keptBefore (valid ts vs c) j ++ (j ∷ []) → suc j < length o
           → Walked ts vs c o (suc j) (anew c before here j h)
       kept-step e f room =
           let s : j + 1 < length ts = omega arith in
-          let fits = extended-fits (none-fits {p = c .p} (omega (arith, b .p-bound, b .q-bound))) (first-tilt t b s start again) in
+          let fits = extended-fits (none-fits b) (first-tilt t b s start again) in
           record {
             taken = λ z. rw e (rw (add-one (j + 1), add-one j) at (taken-first t b s start again refl fits refl));
             count = rw (f, length-append, w .count);
             list = rw (f, w .list, w .count) (overwrite-snoc (keptBefore (valid ts vs c) j) o j (omega (arith, kept-length (valid ts vs c) (steps-valid ts vs c) j)));
           }
 
-      again-ahead : Ahead (c .q) (before .tick) (c .q * before .level) here
-      again-ahead = ahead-of start k (b .q-bound) t (omega arith) inside
+      again-ahead : Ahead (before .tick) (before .level) here
+      again-ahead = ahead-of start k t (omega arith) inside
 
 -- from the first sample
 module _ {ts : List ℕ} {vs : List ℤ} {c : Criterion} {o : List ℕ} {h : Held} (w : Walked ts vs c o 0 h)
@@ -165,7 +173,6 @@ module _ {ts : List ℕ} {vs : List ℤ} {c : Criterion} {o : List ℕ} {h : Hel
     bounded = b;
     goes = record { ahead = λ q. true-false first-cut q; fits = λ q. true-false first-cut q };
     again = again-ahead w t b inside g k;
-    short = short (g .level);
   }
 
   first-step : 1 < length o → Walked ts vs c o 1 (stepped c (cutAt ts (c .gap) 0) before here 0 h)
@@ -188,11 +195,11 @@ module _ {ts : List ℕ} {vs : List ℤ} {c : Criterion} {o : List ℕ} {j : ℕ
   reached : obeys ts (c .gap) i (suc j) ≡ true
   reached = valid-obeys ts vs c i (suc j) (walk-link ok j (steps-valid ts vs c))
 
-  held : TakenIn ts vs c i (suc (suc j)) (linksOf ts (c .gap) i h)
+  held : TakenIn ts vs c i (suc (suc j)) (linksOf ts vs (c .gap) i h)
   held = w .taken (omega arith)
 
-  edge : EdgeTo ts vs (c .q) i (suc (suc j)) (edgeFrom (c .q) (h .tick) (h .base) here)
-  edge = edge-to-sample (held .start) k (b .q-bound)
+  aim : AimTo ts vs c i (suc (suc j)) (aimFrom c (h .tick) (h .level) here)
+  aim = aim-to-sample (held .start) k b
 
   module _ (obey : obeys ts (c .gap) i (suc (suc j)) ≡ true) where
     reach : suc (suc j) ≤ linksEnd ts (c .gap) i
@@ -201,27 +208,26 @@ module _ {ts : List ℕ} {vs : List ℤ} {c : Criterion} {o : List ℕ} {j : ℕ
       | no q ↦ omega arith
     ]
 
-    next : Next ts vs c (linksOf ts (c .gap) i h) (suc (suc j))
+    next : Next ts vs c (linksOf ts vs (c .gap) i h) (suc (suc j))
     next = next-at held t b (omega (arith, early)) reach inside
 
-  goes-valid : goesOn c (cutAt ts (c .gap) (suc j)) here (h .tick) (h .base) (h .cone) ≡ ok i (suc (suc j))
+  goes-valid : goesOn c (cutAt ts (c .gap) (suc j)) here (h .tick) (h .level) (h .cone) ≡ ok i (suc (suc j))
   goes-valid = by-test (cutAt ts (c .gap) (suc j))
       (λ q. goes-not _ q ∙ sym (hole-invalid ts vs c i (suc (suc j)) (cut-cuts ts (c .gap) early reached q)))
-      (λ q. goes-as _ q (next-valid (next (uncut-obeys ts (c .gap) early reached q)) edge))
+      (λ q. goes-as _ q (next-valid (next (uncut-obeys ts (c .gap) early reached q)) aim))
 
   later-steps : Steps c (cutAt ts (c .gap) (suc j)) before here h
   later-steps = record {
     bounded = b;
-    goes = record { ahead = λ q. ahead-of (held .start) k (b .q-bound) t (omega (arith, early)) inside; fits = λ q. held .fits };
+    goes = record { ahead = λ q. ahead-of (held .start) k t (omega (arith, early)) inside; fits = λ q. held .fits };
     again = again-ahead w t b inside g k;
-    short = short (g .level);
   }
 
   valid-step : ok i (suc (suc j)) ≡ true → Walked ts vs c o (suc (suc j)) (further c here h)
   valid-step q =
       let n = next (valid-obeys ts vs c i (suc (suc j)) q) in
       record {
-        taken = λ z. rw (walk-start-valid ok (suc j) q) (rw (add-one (suc (suc j))) at (next-taken n edge refl (extended-fits (held .fits) (next-tilt n edge))));
+        taken = λ z. rw (walk-start-valid ok (suc j) q) (rw (add-one (suc (suc j))) at (next-taken n aim refl (extended-fits (held .fits) (next-tilt n aim))));
         count = rw (kept-valid ok (steps-valid ts vs c) j q) (w .count);
         list = rw (kept-valid ok (steps-valid ts vs c) j q) (w .list);
       }

@@ -24,6 +24,7 @@ use Rattle.trace.specs.declared.Criterion.{Criterion}
 use Rattle.trace.specs.Trace.{Trace, traceRows}
 use Rattle.measures.specs.declared.Stray.{Stray}
 use Rattle.trace.specs.Link.{criterion, Bounded}
+use Rattle.trace.proofs.Errors.{both-bounded}
 use Rattle.proposed.specs.Proposed.{listStray}
 use Rattle.reduction.specs.Walking.{walkList}
 use Rattle.reduction.proofs.ReductionLaws.{walk-list-greedy}
@@ -75,7 +76,7 @@ pub totals-with : (t : Totals) (r : Summary) {e : Ratio} → e ≡ greater (over
 totals-with t r e = rw e
 
 pub zero-bounded : Bounded (criterion (over 0 1))
-zero-bounded = record { positive = omega arith; q-bound = omega arith; p-bound = omega arith }
+zero-bounded = both-bounded (record { positive = omega arith; q-bound = omega arith; p-bound = omega arith })
 
 pub greater-bounded : (x y : Ratio) → Bounded (criterion x) → Bounded (criterion y) → Bounded (criterion (greater x y))
 greater-bounded x y h k = greater-one (λ z. Bounded (criterion z)) x y h k

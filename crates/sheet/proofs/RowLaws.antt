@@ -18,9 +18,9 @@ use Rattle.trace.specs.declared.Criterion.{Criterion}
 use Rattle.kept.proofs.KeptLaws.{each-map, kept-links}
 use Rattle.kept.proofs.ErrorLaws.{error-one, error-pos}
 use Rattle.trace.specs.Trace.{Trace, traceRows}
-use Rattle.trace.specs.Link.{linkError, listError}
+use Rattle.trace.specs.Link.{linkError, listError, larger}
 use Rattle.trace.proofs.TraceLaws.{rows-trace}
-use Rattle.trace.proofs.Errors.{link-errors, trace-measures, within-error}
+use Rattle.trace.proofs.Errors.{link-errors, trace-measures, within-larger}
 use Rattle.reduction.specs.Walking.{walkList}
 use Rattle.reduction.proofs.ReductionLaws.{walk-list-greedy}
 use Rattle.sheet.specs.declared.Summary.{Summary}
@@ -55,10 +55,9 @@ module _ (c : Criterion) (ts : List ℕ) (vs : List ℤ) where
       go Fine e = walked (rows-trace 4096 ts vs (omega arith) e .0)
       go (Refused x) e = none
 
-  -- a row's error is at most the criterion's ratio, and in lowest terms
-  pub row-within : AtMost (rowError (rowOf c ts vs)) (over (c .p) (c .q))
-  row-within = row-one (λ x. AtMost x (over (c .p) (c .q))) (omega arith)
-      (λ t. let g = walk-list-greedy ts vs c in within-error t (c .gap) (walkList ts vs c) (g .kept) (over (c .p) (c .q)) .0 (g .valid) .1)
+  -- a row's error is at most the larger part, and in lowest terms
+  pub row-within : 0 < c .up .q → 0 < c .down .q → AtMost (rowError (rowOf c ts vs)) (larger c)
+  row-within u d = row-one (λ x. AtMost x (larger c)) (omega arith) (λ t. let g = walk-list-greedy ts vs c in within-larger t c u d (walkList ts vs c) (g .kept) (g .valid))
 
   pub row-positive : 0 < rowOf c ts vs .q
   row-positive = row-one (λ x. 0 < x .q) (omega arith) (λ t. error-pos (link-errors t) (walk-list-greedy ts vs c .kept))

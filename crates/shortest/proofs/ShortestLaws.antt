@@ -14,16 +14,17 @@ use Rattle.kept.specs.Minimum.{Minimum, linksOf, nextOf}
 use Rattle.kept.proofs.MinimumLaws.{minimum-of, Choosing, choosing-none, choosing-more, chosen}
 use Rattle.trace.specs.declared.Criterion.{Criterion}
 use Rattle.trace.specs.declared.Start.{Start}
-use Rattle.trace.specs.declared.Edge.{Edge}
+use Rattle.trace.specs.declared.Aim.{Aim}
+use Rattle.trace.specs.declared.Across.{Across}
 use Rattle.trace.specs.declared.Cone.{Cone}
 use Rattle.trace.specs.Link.{Linked, valid}
-use Rattle.trace.specs.Edge.{StartAt, EdgeTo, Reach, Slope, Tilt, noSteeper}
-use Rattle.trace.specs.Cone.{coneFrom, admitsEdge, extendedBy, ConeFits, Takes}
+use Rattle.trace.specs.Edge.{StartAt, AimTo, ReachBoth, AimSlope, AimTilt}
+use Rattle.trace.specs.Cone.{coneFrom, admitsEdge, extendedBy, closedBy, ConeFits, AcrossOf, AcrossTilt, Takes}
 use Rattle.trace.proofs.Holes.{links-end-after, links-end-inside, obeys-to, obeys-past}
 use Rattle.trace.proofs.Validity.{steps-valid, obeying-valid, hole-invalid}
-use Rattle.trace.proofs.EdgeLaws.{reach, edge-at, tilts, edge-slope, tilt-slope}
+use Rattle.trace.proofs.EdgeLaws.{reach-both, aim-from, aim-tilts, edge-slope, aim-slope}
 use Rattle.trace.proofs.ConeLaws.{takes-none, takes-more, takes-admits}
-use Rattle.trace.proofs.EmptyCone.{empty-invalid}
+use Rattle.trace.proofs.ClosedCone.{across-tilts, closed-invalid}
 use Rattle.shortest.specs.Shortest.{minimumList, betterEnd, Scan}
 
 -- ---- the minimum of a trace
@@ -65,9 +66,11 @@ module _ {ts : List ℕ} {vs : List ℤ} {c : Criterion} {links : List ℕ} {i l
   end-inside : limit < length ts
   end-inside = omega (arith, s .limit-is, links-end-inside ts (c .gap) i (s .inside))
 
-  pub scanning-none : {st : Start} → StartAt ts vs (c .q) i st → Scanning ts vs c i (coneFrom (c .p)) (i + 1) (i + 1)
+  pub scanning-none : {st : Start} → StartAt ts vs i st → Scanning ts vs c i (coneFrom c) (i + 1) (i + 1)
   scanning-none st =
-      let p : c .p ≤ 68718362625 = omega (arith, s .bounded .p-bound, s .bounded .q-bound) in
+      let b = s .bounded in
+      let u : c .up .p ≤ 68718362625 = omega (arith, b .up .p-bound, b .up .q-bound) in
+      let d : c .down .p ≤ 68718362625 = omega (arith, b .down .p-bound, b .down .q-bound) in
       record {
         choosing = choosing-none;
         takes = takes-none st;
@@ -78,63 +81,68 @@ module _ {ts : List ℕ} {vs : List ℤ} {c : Criterion} {links : List ℕ} {i l
   pub first-end : i + 1 ≤ limit
   first-end = omega (arith, s .limit-is, links-end-after ts (c .gap) i (s .inside))
 
-  -- the next end j, by the edge to it
-  module _ {cone : Cone} {b j : ℕ} {st : Start} (g : Scanning ts vs c i cone b j) (to-limit : j ≤ limit) (at : StartAt ts vs (c .q) i st) where
+  -- the next end j, by the edges to it
+  module _ {cone : Cone} {b j : ℕ} {st : Start} (g : Scanning ts vs c i cone b j) (to-limit : j ≤ limit) (at : StartAt ts vs i st) where
     inside : j < length ts
     inside = omega (arith, end-inside)
 
     jn : j ≤ length ts - 1
     jn = omega (arith, inside)
 
-    pub end-room : j < length links
-    end-room = omega (arith, jn, s .counted .links-room)
+    pub ends-room : (b < length links) × (j < length links)
+    ends-room = (omega (arith, g .choosing .before, jn, s .counted .links-room), omega (arith, jn, s .counted .links-room))
 
-    pub edge-requires : Reach ts vs (c .q) st j
-    edge-requires = reach at (s .trace) (omega (arith, g .choosing .from)) inside (s .bounded .q-bound)
+    pub aim-requires : ReachBoth ts vs c st j
+    aim-requires = reach-both at (s .trace) (omega (arith, g .choosing .from)) inside (s .bounded)
 
-    module _ {to : Edge} (edge : EdgeTo ts vs (c .q) (st .sample) j to) where
-      pub end-tilt : Tilt to (c .p)
-      end-tilt = tilts (edge-at at edge) (s .trace) (omega (arith, g .choosing .from)) inside (s .bounded .q-bound) (s .bounded .p-bound)
+    module _ {to : Aim} (edges : AimTo ts vs c (st .sample) j to) where
+      pub end-tilt : AimTilt to c
+      end-tilt = aim-tilts (aim-from at edges) (s .trace) (omega (arith, g .choosing .from)) inside (s .bounded)
 
-      pub end-slope : Slope to
-      end-slope = tilt-slope end-tilt
+      pub end-slope : AimSlope to
+      end-slope = aim-slope end-tilt
 
       link : Linked ts vs i j
       link = record { trace = s .trace; forward = g .choosing .from; inside = inside }
 
-      scanning-more : {r : ℕ} {next : Cone} → r ≡ betterEnd (getD links j 0) (getD links b 0) (admitsEdge cone to) j b
-          → (next ≡ extendedBy cone to (c .p)) × ConeFits next → Scanning ts vs c i next r (j + 1)
-      unfolding betterEnd
-      scanning-more e h =
-          let counts = s .counted .counts in
-          record {
-            choosing = rw e (choosing-more (g .choosing) (counts j (omega (arith, g .choosing .from)) jn) (counts b (omega (arith, g .choosing .after)) (omega (arith, g .choosing .before, jn)))
-                (takes-admits link (s .bounded) (g .takes) (edge-at at edge) ∙ sym (obeying-valid ts vs c i j (obeys-to ts (c .gap) i (s .inside) j (omega (arith, s .limit-is))))));
-            takes = rw (h .0) (takes-more link (s .bounded) (g .takes) (edge-at at edge));
-            fits = h .1;
-            to = omega (arith, inside);
-          }
+      pub end-across : {x : Across} → AcrossOf c x → AcrossTilt to x
+      end-across a = across-tilts link (s .bounded) (g .takes) (aim-from at edges) a
 
-      module _ {next : Cone} (h : (next ≡ extendedBy cone to (c .p)) × ConeFits next) where
+      chosen-more : {r : ℕ} → r ≡ betterEnd (getD links j 0) (getD links b 0) (admitsEdge cone to) j b
+          → Choosing (valid ts vs c) (linksOf (valid ts vs c) (length ts - 1)) i (j + 1) r
+      unfolding betterEnd
+      chosen-more e =
+          let counts = s .counted .counts in
+          rw e (choosing-more (g .choosing) (counts j (omega (arith, g .choosing .from)) jn) (counts b (omega (arith, g .choosing .after)) (omega (arith, g .choosing .before, jn)))
+          (takes-admits link (s .bounded) (g .takes) (aim-from at edges) ∙ sym (obeying-valid ts vs c i j (obeys-to ts (c .gap) i (s .inside) j (omega (arith, s .limit-is))))))
+
+      scanning-more : {r : ℕ} {next : Cone} → r ≡ betterEnd (getD links j 0) (getD links b 0) (admitsEdge cone to) j b
+          → (next ≡ extendedBy cone to c) × ConeFits next → Scanning ts vs c i next r (j + 1)
+      scanning-more e h = record {
+        choosing = chosen-more e;
+        takes = rw (h .0) (takes-more link (s .bounded) (g .takes) (aim-from at edges));
+        fits = h .1;
+        to = omega (arith, inside);
+      }
+
+      module _ {next : Cone} (h : (next ≡ extendedBy cone to c) × ConeFits next) where
         pub scanning-valid : {v : Bool} {r : ℕ} → v ≡ admitsEdge cone to → v ≡ true → r ≡ betterEnd (getD links j 0) (getD links b 0) true j b → Scanning ts vs c i next r (j + 1)
         scanning-valid a t e = scanning-more (e ∙ ap (λ (x : Bool). betterEnd (getD links j 0) (getD links b 0) x j b) (sym t ∙ a)) h
 
         pub scanning-invalid : {v : Bool} → v ≡ admitsEdge cone to → v ≡ false → Scanning ts vs c i next b (j + 1)
         scanning-invalid a f = scanning-more (better-invalid _ _ _ j b (sym a ∙ f)) h
 
+      -- the cone is closed by sample j: no later link is valid
+      pub scanned-closed : {v w : Bool} {x : Across} → AcrossOf c x → v ≡ admitsEdge cone to → v ≡ false → w ≡ closedBy cone to x → w ≡ true → b ≡ nextOf (valid ts vs c) (length ts - 1) i
+      scanned-closed x a f k t = chosen _ _ (chosen-more (better-invalid _ _ _ j b (sym a ∙ f))) (omega (arith, s .inside)) (omega (arith, inside, s .trace .some))
+          (λ e l u. closed-invalid link (s .bounded) (g .takes) (aim-from at edges) x (sym k ∙ t) e (omega arith) (omega (arith, s .trace .some)))
+
   -- the first end, whose link is valid
-  pub scanning-first : {st : Start} {to : Edge} {next : Cone} → (at : StartAt ts vs (c .q) i st) → EdgeTo ts vs (c .q) (st .sample) (i + 1) to
-      → (next ≡ extendedBy (coneFrom (c .p)) to (c .p)) × ConeFits next → Scanning ts vs c i next (i + 1) (i + 1 + 1)
-  scanning-first at edge h = scanning-more (scanning-none at) first-end at edge (better-alone _ _ _ (i + 1) (i + 1)) h
+  pub scanning-first : {st : Start} {to : Aim} {next : Cone} → (at : StartAt ts vs i st) → AimTo ts vs c (st .sample) (i + 1) to
+      → (next ≡ extendedBy (coneFrom c) to c) × ConeFits next → Scanning ts vs c i next (i + 1) (i + 1 + 1)
+  scanning-first at edges h = scanning-more (scanning-none at) first-end at edges (better-alone _ _ _ (i + 1) (i + 1)) h
 
-  module _ {cone : Cone} {b j : ℕ} (g : Scanning ts vs c i cone b j) where
-    scanned : ((e : ℕ) → j ≤ e → e ≤ length ts - 1 → valid ts vs c i e ≡ false) → b ≡ nextOf (valid ts vs c) (length ts - 1) i
-    scanned none = chosen _ _ (g .choosing) (omega (arith, s .inside)) (omega (arith, g .to, s .trace .some)) none
-
-    -- the scan has taken in the last sample, or the last to which links obey the gap limit
-    pub scanned-all : limit < j → b ≡ nextOf (valid ts vs c) (length ts - 1) i
-    scanned-all h = scanned (λ e l u. hole-invalid ts vs c i e (obeys-past ts (c .gap) i (s .inside) e (omega (arith, s .limit-is)) (omega (arith, s .inside))))
-
-    -- or the cone is empty
-    pub scanned-empty : noSteeper (cone .low) (cone .high) ≡ false → b ≡ nextOf (valid ts vs c) (length ts - 1) i
-    scanned-empty h = scanned (λ e l u. empty-invalid (s .trace) (s .bounded) (g .takes) h e l (omega (arith, s .trace .some)))
+  -- the scan has taken in the last sample, or the last to which links obey the gap limit
+  pub scanned-all : {cone : Cone} {b j : ℕ} → Scanning ts vs c i cone b j → limit < j → b ≡ nextOf (valid ts vs c) (length ts - 1) i
+  scanned-all g h = chosen _ _ (g .choosing) (omega (arith, s .inside)) (omega (arith, g .to, s .trace .some))
+      (λ e l u. hole-invalid ts vs c i e (obeys-past ts (c .gap) i (s .inside) e (omega (arith, s .limit-is)) (omega (arith, s .inside))))

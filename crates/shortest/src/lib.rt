@@ -1,6 +1,6 @@
 // The reduction minimum: the shortest kept list of valid links, and of several the latest.
 ghost use mathlib.Core.Path.{_≡_};
-ghost use mathlib.Core.Bool.{true, not};
+ghost use mathlib.Core.Bool.{true};
 ghost use Prim.Native.Nat.{_+_, _-_, _≤_, _<_};
 ghost use lib.ListN.{length, getD};
 ghost use Rattle.lists.specs.Overwrite.{Wrote};
@@ -8,87 +8,59 @@ ghost use Rattle.kept.specs.Stops.{listBy};
 ghost use Rattle.kept.specs.Minimum.{nextOf};
 ghost use Rattle.trace.specs.Trace.{Trace};
 ghost use Rattle.trace.specs.Link.{Bounded, valid};
-ghost use Rattle.trace.specs.Edge.{noSteeper};
-ghost use Rattle.trace.specs.Cone.{ConeFits};
+ghost use Rattle.trace.specs.Cone.{AcrossOf};
 ghost use Rattle.shortest.specs.Shortest.{minimumList, Planned, Onward, betterEnd, Scan};
-use trace::Cone;
+use trace::Across;
 use trace::Criterion;
+use trace::cones::across;
 use trace::cones::admits;
 use trace::cones::cone_of;
 use trace::cones::extended;
-use trace::edges::edge_to;
-use trace::edges::no_steeper;
+use trace::cones::is_closed_by;
+use trace::edges::aim_at;
 use trace::edges::start_at;
 use trace::gaps::end_of;
 use trace::gaps::run_from;
 
-// An end of a link: its sample, and the fewest links from it on.
-pub struct End {
-    pub sample: usize,
-    pub links: u16,
-}
-
 // The better of two ends of valid links: j if no more links lead on from it than from b; otherwise b.
-fn better(links: &[u16], b: End, j: usize) -> End
-    requires { ⌜ (b .links ≡ getD (now links) (b .sample) 0) × (j < length (now links)) ⌝ }
-    ensures is { λ r. ⌜ r .sample ≡ betterEnd (getD (now (links .entry)) j 0) (getD (now (links .entry)) (b .sample) 0) true j (b .sample) ⌝ }
-    ensures links { λ r. ⌜ r .links ≡ getD (now (links .entry)) (r .sample) 0 ⌝ }
+fn better(links: &[u16], b: usize, j: usize) -> usize
+    requires { ⌜ (b < length (now links)) × (j < length (now links)) ⌝ }
+    ensures { λ r. ⌜ r ≡ betterEnd (getD (now (links .entry)) j 0) (getD (now (links .entry)) b 0) true j b ⌝ }
 {
-    let n = links[j];
-    if b.links < n {
-        return b;
-    }
-    End {
-        sample: j,
-        links: n,
-    }
-}
-
-// Whether the cone is empty: its low edge is steeper than its high one.
-fn is_empty(cone: Cone) -> bool
-    requires { ⌜ ConeFits cone ⌝ }
-    ensures { λ r. ⌜ r ≡ not (noSteeper (cone .low) (cone .high)) ⌝ }
-{
-    let low = cone.low;
-    let high = cone.high;
-    !no_steeper(low, high)
+    if links[b] < links[j] { b } else { j }
 }
 
 // The latest next sample of a shortest list from sample i, by one scan over the ends j of its links with one cone. The scan stops where
-// the cone is empty, which it is not where the link to j is valid, and at `limit`, the last sample to which links obey the gap limit.
+// sample j closes the cone, which it does not where a later link is valid, and at `limit`, the last sample to which links obey the gap
+// limit.
 fn next_stop(
     ticks: &[u32],
     values: &[i16],
     c: Criterion,
+    x: Across,
     links: &[u16],
     i: usize,
     limit: usize,
 ) -> usize
-    requires { ⌜ Scan (now ticks) (now values) c (now links) i limit ⌝ }
+    requires { ⌜ Scan (now ticks) (now values) c (now links) i limit × AcrossOf c x ⌝ }
     ensures { λ r. ⌜ r ≡ nextOf (valid (now (ticks .entry)) (now (values .entry)) c) (length (now (ticks .entry)) - 1) i ⌝ }
 {
-    let from = start_at(ticks, values, i, c.q);
+    let from = start_at(ticks, values, i);
     let first = i + 1;
-    let mut cone = cone_of(edge_to(ticks, values, from, first, c.q), c.p);
-    let mut b = End {
-        sample: first,
-        links: links[first],
-    };
+    let mut cone = cone_of(aim_at(ticks, values, from, first, c), c);
+    let mut b = first;
     let mut j = first + 1;
     while j <= limit {
-        let to = edge_to(ticks, values, from, j, c.q);
+        let to = aim_at(ticks, values, from, j, c);
         if admits(cone, to) {
             b = better(links, b, j);
-            cone = extended(cone, to, c.p);
-        } else {
-            cone = extended(cone, to, c.p);
-            if is_empty(cone) {
-                return b.sample;
-            }
+        } else if is_closed_by(cone, to, x) {
+            return b;
         }
+        cone = extended(cone, to, c);
         j += 1;
     }
-    b.sample
+    b
 }
 
 // Fills both tables from the last sample back: the fewest links from each sample on, and the latest next sample of such a list.
@@ -96,13 +68,14 @@ fn plan(ticks: &[u32], values: &[i16], c: Criterion, links: &mut [u16], next: &m
     requires { ⌜ Trace (now ticks) (now values) × Bounded c × (length (now ticks) ≤ length (now links)) × (length (now ticks) ≤ length (now next)) ⌝ }
     ensures { λ _. ⌜ Planned (valid (now (ticks .entry)) (now (values .entry)) c) (length (now (ticks .entry)) - 1) 0 (now (next .exit)) ⌝ }
 {
+    let x = across(c);
     let mut i = ticks.len() - 1;
     let mut run = i;
     links[i] = 0;
     while 0 < i {
         i -= 1;
         run = run_from(ticks, c.gap, i, run);
-        let b = next_stop(ticks, values, c, links, i, end_of(i, run));
+        let b = next_stop(ticks, values, c, x, links, i, end_of(i, run));
         links[i] = links[b] + 1;
         next[i] = b as u16;
     }

@@ -1,27 +1,29 @@
--- Laws of the summed trace: its values, that deviations add, and that the joined list is within 2 (T1 + T2) of it and obeys the gap limit.
+-- Laws of the summed trace: its values, that deviations add, and that the joined list is within U1 + D1 + U2 + D2 of it and obeys the gap limit.
 -- Assumes nothing.
 use mathlib.Core.Path.{_≡_, refl, ap}
 use mathlib.Core.Bool.{Bool, true, false}
 use mathlib.Core.List.{List, [], _∷_}
 use Prim.Native.Nat.{ℕ, zero, suc, _+_, _-_, _*_, _≤_, _<_}
-use native.Mathlib.Nat.{mul-le-mul-right}
+use native.Mathlib.Nat.{mul-le-mul-right, mul-pos}
 use native.Mathlib.Omega.{arith}
 use lib.IntN.{ℤ, _+ℤ_, +ℤ-comm, natAbs}
 use lib.ListN.{length}
 use Rattle.ratio.specs.declared.Ratio.{Ratio}
+use Rattle.ratio.specs.Order as R
+use Rattle.ratio.specs.Order.{AtMost}
 use Rattle.kept.specs.Kept.{KeptList, AllValid}
-use Rattle.kept.proofs.KeptLaws.{each-zip, kept-links}
+use Rattle.kept.proofs.KeptLaws.{each-map, each-zip, kept-links}
 use Rattle.trace.specs.Trace.{value, Rising, Trace}
-use Rattle.trace.specs.Link.{deviation, AllWithin, valid, obeys, limited}
+use Rattle.trace.specs.Link.{deviation, AllWithin, valid, obeys, parted, limited}
 use Rattle.trace.proofs.Ticks.{not-earlier}
 use Rattle.trace.proofs.Difference.{Diff, parts, plus, alike, size-at-most}
 use Rattle.trace.proofs.Deviation.{diff}
 use Rattle.trace.proofs.Offsets.{offsetBase, offsetOf, offset-of-diff}
 use Rattle.trace.proofs.Holes.{true-obeys, obeys-inside}
-use Rattle.trace.proofs.Validity.{valid-true, true-valid, valid-obeys}
-use Rattle.trace.proofs.Half.{doubled, inside-within}
+use Rattle.trace.proofs.Validity.{valid-true, true-valid, valid-obeys, equal-parts, valid-wider}
+use Rattle.trace.proofs.Half.{inside-within}
 use Rattle.lists.proofs.Tests.{or-false}
-use Rattle.summed.specs.Sum.{sumsOf, isEntry, inEither, joinedOf, twiceSum, JoinedWithin}
+use Rattle.summed.specs.Sum.{sumsOf, isEntry, inEither, joinedOf, partsSum, twiceSum, JoinedWithin}
 use Rattle.summed.proofs.JoinLaws.{NextOf, Around, around, joined-kept, joined-links}
 
 -- ---- values
@@ -76,12 +78,12 @@ module _ {ts : List ℕ} (rising : Rising ts) (vs ws : List ℤ) (same : length 
       (plus (diff ts vs i j k 0 0 (offset-of-diff vs i) (offset-of-diff vs j) (offset-of-diff vs k) a b) (diff ts ws i j k 0 0 (offset-of-diff ws i) (offset-of-diff ws j) (offset-of-diff ws k) a b))
       (omega arith)
 
-  -- so a link within twice T1 of trace 1 and within twice T2 of trace 2 is within 2 (T1 + T2) of the summed trace
-  sum-within : (a b : Ratio) (g : ℕ) → AllWithin ts vs (doubled (limited g a)) i j → AllWithin ts ws (doubled (limited g b)) i j → AllWithin ts (sumsOf vs ws) (limited g (twiceSum a b)) i j
+  -- so a link within a of trace 1 and within b of trace 2 is within a + b of the summed trace
+  sum-within : (a b : Ratio) (g : ℕ) → AllWithin ts vs (limited g a) i j → AllWithin ts ws (limited g b) i j → AllWithin ts (sumsOf vs ws) (limited g (R.plus a b)) i j
   sum-within a b g h k = record {
     between = λ n l u.
-        let both = sum-at-most (deviation ts vs i j n) (deviation ts ws i j n) (a .q) (b .q) _ _ (h .between n l u) (k .between n l u) in
-        rw (deviation-sum n (omega arith) (omega arith)) (omega (arith, both));
+        let both = sum-at-most (deviation ts vs i j n) (deviation ts ws i j n) (a .q) (b .q) _ _ (equal-parts ts vs g a i j n .0 (h .between n l u)) (equal-parts ts ws g b i j n .0 (k .between n l u)) in
+        equal-parts ts (sumsOf vs ws) g (R.plus a b) i j n .1 (rw (deviation-sum n (omega arith) (omega arith)) (omega (arith, both)));
   }
 
 -- ---- the joined list
@@ -94,24 +96,36 @@ around-valid : (ok : ℕ → ℕ → Bool) {last : ℕ} (l : List ℕ) → KeptL
 around-valid ok {last} l kept all forward inside none = around {R = ValidTo ok last} forward l kept (each-zip (λ i j r s. (r .1, s)) l (kept-links last l kept) all) inside none
 
 module _ {ts : List ℕ} {vs : List ℤ} (ws : List ℤ) (t : Trace ts vs) (same : length ws ≡ length vs) {l m : List ℕ} (first : KeptList (length ts - 1) l) (second : KeptList (length ts - 1) m)
-    (a b : Ratio) (g : ℕ) (within : AllValid (valid ts vs (limited g a)) l) (within′ : AllValid (valid ts ws (limited g b)) m) where
+    (u d v e : Ratio) (g : ℕ) (within : AllValid (valid ts vs (parted g u d)) l) (within′ : AllValid (valid ts ws (parted g v e)) m) where
   -- a link of the joined list lies inside a link of either list
-  joined-valid : (i j : ℕ) → (i < j) × (j ≤ length ts - 1) → NextOf (inEither l m) i j → valid ts (sumsOf vs ws) (limited g (twiceSum a b)) i j ≡ true
+  joined-valid : (i j : ℕ) → (i < j) × (j ≤ length ts - 1) → NextOf (inEither l m) i j → valid ts (sumsOf vs ws) (limited g (partsSum u d v e)) i j ≡ true
   joined-valid i j link next =
-      let x = around-valid (valid ts vs (limited g a)) l first within (link .0) (link .1) (λ k lo hi. or-false (isEntry l k) _ (next .clear .none k lo hi) .0) in
-      let y = around-valid (valid ts ws (limited g b)) m second within′ (link .0) (link .1) (λ k lo hi. or-false (isEntry l k) _ (next .clear .none k lo hi) .1) in
-      valid-true ts (sumsOf vs ws) (limited g (twiceSum a b)) i j (record {
-        within = sum-within (t .rising) vs ws same i j (omega (arith, t .some)) a b g
-            (inside-within (t .rising) vs (x .starts) (link .0) (x .ends) (omega (arith, x .link .0, t .some)) (true-valid ts vs (limited g a) (x .from) (x .to) (x .link .1) .within))
-            (inside-within (t .rising) ws (y .starts) (link .0) (y .ends) (omega (arith, y .link .0, t .some)) (true-valid ts ws (limited g b) (y .from) (y .to) (y .link .1) .within));
-        obeys = true-obeys ts g i j (obeys-inside ts g (length ts - 1) (x .from) (x .to) i j (valid-obeys ts vs (limited g a) (x .from) (x .to) (x .link .1)) (x .starts) (link .0) (x .ends) (x .link .0));
+      let x = around-valid (valid ts vs (parted g u d)) l first within (link .0) (link .1) (λ k lo hi. or-false (isEntry l k) _ (next .clear .none k lo hi) .0) in
+      let y = around-valid (valid ts ws (parted g v e)) m second within′ (link .0) (link .1) (λ k lo hi. or-false (isEntry l k) _ (next .clear .none k lo hi) .1) in
+      valid-true ts (sumsOf vs ws) (limited g (partsSum u d v e)) i j (record {
+        within = sum-within (t .rising) vs ws same i j (omega (arith, t .some)) (R.plus u d) (R.plus v e) g
+            (inside-within (t .rising) vs (x .starts) (link .0) (x .ends) (omega (arith, x .link .0, t .some)) (true-valid ts vs (parted g u d) (x .from) (x .to) (x .link .1) .within))
+            (inside-within (t .rising) ws (y .starts) (link .0) (y .ends) (omega (arith, y .link .0, t .some)) (true-valid ts ws (parted g v e) (y .from) (y .to) (y .link .1) .within));
+        obeys = true-obeys ts g i j (obeys-inside ts g (length ts - 1) (x .from) (x .to) i j (valid-obeys ts vs (parted g u d) (x .from) (x .to) (x .link .1)) (x .starts) (link .0) (x .ends) (x .link .0));
       })
 
-  all-joined-valid : AllValid (valid ts (sumsOf vs ws) (limited g (twiceSum a b))) (joinedOf (length ts) l m)
+  all-joined-valid : AllValid (valid ts (sumsOf vs ws) (limited g (partsSum u d v e))) (joinedOf (length ts) l m)
   all-joined-valid =
       let kept = joined-kept (t .some) first second in
       each-zip joined-valid (joinedOf (length ts) l m) (kept-links (length ts - 1) (joinedOf (length ts) l m) kept) (joined-links (t .some) first second)
 
 -- the promise, for traces with the same ticks
 pub joined-within : {ts : List ℕ} {vs : List ℤ} (ws : List ℤ) → Trace ts vs → length ws ≡ length vs → {l m : List ℕ} → KeptList (length ts - 1) l → KeptList (length ts - 1) m → JoinedWithin ts vs ts ws l m
-joined-within ws t same first second a b g within within′ = all-joined-valid ws t same first second a b g within within′
+joined-within ws t same first second u d v e g within within′ = all-joined-valid ws t same first second u d v e g within within′
+
+-- where the parts agree, the sum is 2 (T1 + T2)
+parts-twice : (a b : Ratio) → AtMost (partsSum a a b b) (twiceSum a b)
+parts-twice a b = omega arith
+
+pub joined-twice : (ts us : List ℕ) (vs ws : List ℤ) (l m : List ℕ) → JoinedWithin ts vs us ws l m → (a b : Ratio) (g : ℕ) → 0 < a .q → 0 < b .q
+    → AllValid (valid ts vs (limited g a)) l → AllValid (valid us ws (limited g b)) m → AllValid (valid ts (sumsOf vs ws) (limited g (twiceSum a b))) (joinedOf (length ts) l m)
+joined-twice ts us vs ws l m joined a b g ha hb within within′ =
+    let c = limited g (partsSum a a b b) in
+    let some : 0 < partsSum a a b b .q = mul-pos (mul-pos ha ha) (mul-pos hb hb) in
+    each-map (λ i j. valid-wider ts (sumsOf vs ws) c (limited g (twiceSum a b)) (record { up-some = some; down-some = some; up = parts-twice a b; down = parts-twice a b }) (omega arith) i j)
+    (joinedOf (length ts) l m) (joined a a b b g within within′)

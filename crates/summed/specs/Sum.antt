@@ -5,7 +5,8 @@
 --   sumRows                   the first row that applies to two traces, two lists and two outputs
 --   isEntry, inEither         a sample in a list; in either of two
 --   joinedOf                  the rising list of the samples in either list
---   twiceSum                  2 (T1 + T2)
+--   partsSum                  U1 + D1 + U2 + D2
+--   twiceSum                  2 (T1 + T2), where the parts agree
 --   JoinedWithin              what is promised of the joined list
 --   Summable, Joinable        what the checks show of traces to be added and of lists to be joined
 -- Laws are in RowLaws, EntryLaws, JoinLaws and SumLaws. Assumes nothing.
@@ -23,9 +24,10 @@ use Rattle.refusal.specs.declared.Refusal.the-variants.{Overflow}
 use Rattle.refusal.specs.declared.Checked.{Checked}
 use Rattle.refusal.specs.Table.{placed, roomRow, _thenCheck_}
 use Rattle.ratio.specs.declared.Ratio.{Ratio}
+use Rattle.ratio.specs.Order.{plus}
 use Rattle.kept.specs.Kept.{KeptList, AllValid}
 use Rattle.trace.specs.Trace.{value, traceRows}
-use Rattle.trace.specs.Link.{valid, limited}
+use Rattle.trace.specs.Link.{valid, parted, limited}
 use Rattle.proposed.specs.Proposed.{listRow}
 use Rattle.matching.specs.Match.{mismatchRow}
 
@@ -68,16 +70,19 @@ joinedOf n l m = listed (inEither l m) n
 
 -- ---- the promise
 
--- 2 (T1 + T2), for any two fractions
+-- U1 + D1 + U2 + D2, for any four fractions
+abbrev pub partsSum : Ratio → Ratio → Ratio → Ratio → Ratio
+partsSum u d v e = plus (plus u d) (plus v e)
+
 abbrev pub twiceSum : Ratio → Ratio → Ratio
 twiceSum a b = record { p = 2 * (a .p * b .q + b .p * a .q); q = a .q * b .q }
 
--- if list 1 is within T1 of trace 1 and list 2 within T2 of trace 2, and both obey the gap limit g, then the joined list is within
--- 2 (T1 + T2) of the summed trace, and obeys g
+-- if list 1 is within the parts U1 and D1 of trace 1 and list 2 within U2 and D2 of trace 2, and both obey the gap limit g, then the joined list is
+-- within U1 + D1 + U2 + D2 of the summed trace on either side, and obeys g (document 02, "Above and below")
 abbrev pub JoinedWithin : List ℕ → List ℤ → List ℕ → List ℤ → List ℕ → List ℕ → Type 0
 JoinedWithin ts vs us ws l m =
-    (a b : Ratio) (g : ℕ) → AllValid (valid ts vs (limited g a)) l → AllValid (valid us ws (limited g b)) m
-    → AllValid (valid ts (sumsOf vs ws) (limited g (twiceSum a b))) (joinedOf (length ts) l m)
+    (u d v e : Ratio) (g : ℕ) → AllValid (valid ts vs (parted g u d)) l → AllValid (valid us ws (parted g v e)) m
+    → AllValid (valid ts (sumsOf vs ws) (limited g (partsSum u d v e))) (joinedOf (length ts) l m)
 
 -- ---- what the checks show
 

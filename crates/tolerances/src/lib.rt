@@ -1,12 +1,13 @@
 // Several tolerances under one gap limit, and the checks of a call on a trace that takes them: 1, 2, 3, 19, 4, 15 and 10.
 ghost use mathlib.Core.Path.{_≡_};
-ghost use Prim.Native.Nat.{_≤_};
+ghost use Prim.Native.Nat.{_≤_, _<_};
 ghost use Rattle.refusal.specs.declared.Checked.the-variants.{Fine, Refused};
-ghost use Rattle.tolerances.specs.Tolerances.{countRow, heldRows, Holds, SeveralPrepared, ScanPrepared};
+ghost use Rattle.tolerances.specs.Tolerances.{countRow, heldRows, putParts, Holds, SeveralPrepared, ScanPrepared};
 use limits::check_gap;
 use refusal::Checked;
 use refusal::Refusal;
 use tolerance::Meaning;
+use tolerance::Parts;
 use tolerance::Tolerance;
 
 // A tolerance in a list.
@@ -20,18 +21,17 @@ pub struct Tolerances {
     pub list: [Entry; 16],
 }
 
-// The ratio p/q in lowest terms under which each of the first `held` tolerances is held.
-pub struct Ratios {
+// The parts in lowest terms under which each of the first `held` tolerances is held: of tolerance a the part above as p and q in the entries a
+// and a + 16, and the part below in a + 32 and a + 48.
+pub struct Held {
     pub held: usize,
-    pub ps: [u64; 16],
-    pub qs: [u64; 16],
+    pub parts: [u64; 64],
 }
 
-// What the checks of a call find, and if they pass the ratios of its tolerances.
+// What the checks of a call find, and if they pass the parts of its tolerances, in the same entries.
 pub struct Ready {
     pub checked: Checked,
-    pub ps: [u64; 16],
-    pub qs: [u64; 16],
+    pub parts: [u64; 64],
 }
 
 // Check 19.
@@ -47,29 +47,36 @@ fn check_count(m: usize) -> Checked
     Checked::Fine
 }
 
+// Puts the parts of tolerance a into its entries.
+fn put_parts(parts: &mut [u64; 64], a: usize, x: Parts)
+    requires { ⌜ a < 16 ⌝ }
+    ensures { λ r. ⌜ now (parts .exit) ≡ putParts (now (parts .entry)) a x ⌝ }
+{
+    parts[a] = x.up.p;
+    parts[a + 16] = x.up.q;
+    parts[a + 32] = x.down.p;
+    parts[a + 48] = x.down.q;
+}
+
 // Holds each tolerance up to the first that is not allowed.
-fn hold_each(t: Tolerances) -> Ratios
+fn hold_each(t: Tolerances) -> Held
     requires { ⌜ t .count ≤ 16 ⌝ }
     ensures { λ r. ⌜ Holds t r ⌝ }
 {
     let list = t.list;
-    let mut ps = [0u64; 16];
-    let mut qs = [0u64; 16];
+    let mut parts = [0u64; 64];
     let mut k = 0;
     while k < t.count {
         let entry = list[k];
         let given = entry.tolerance;
         let m = tolerance::meaning_of(given);
         match m {
-            Meaning::Exact(r) => {
-                ps[k] = r.p;
-                qs[k] = r.q;
-            }
-            Meaning::NotAllowed => return Ratios { held: k, ps, qs },
+            Meaning::Exact(x) => put_parts(&mut parts, k, x),
+            Meaning::NotAllowed => return Held { held: k, parts },
         }
         k += 1;
     }
-    Ratios { held: k, ps, qs }
+    Held { held: k, parts }
 }
 
 // Checks 4, 15 and 10: the first `held` of m tolerances are allowed, and each needs n entries of an output of `room`.
@@ -98,8 +105,7 @@ fn refuse(x: Refusal) -> Ready
 {
     Ready {
         checked: Checked::Refused(x),
-        ps: [0u64; 16],
-        qs: [0u64; 16],
+        parts: [0u64; 64],
     }
 }
 
@@ -110,9 +116,8 @@ fn prepare_each(t: Tolerances, gap: u32, n: usize, room: usize) -> Ready
 {
     let r = hold_each(t);
     let checked = check_held(t.count, r.held, gap, n, room);
-    let ps = r.ps;
-    let qs = r.qs;
-    Ready { checked, ps, qs }
+    let parts = r.parts;
+    Ready { checked, parts }
 }
 
 // Checks 19, 4, 15 and 10, where each tolerance needs n entries of an output of `room`.

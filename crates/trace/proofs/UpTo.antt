@@ -10,7 +10,7 @@ use lib.ListN.{take}
 use lib.Seq.{getD-take}
 use Rattle.trace.specs.declared.Criterion.{Criterion}
 use Rattle.trace.specs.Trace.{tick, value}
-use Rattle.trace.specs.Link.{deviation, within, allWithin, hole, obeys, valid, farthest, linkError}
+use Rattle.trace.specs.Link.{deviation, above, below, within, allWithin, hole, obeys, valid, farthest, linkError}
 use Rattle.trace.proofs.Between.{all-from-same}
 use Rattle.trace.proofs.Errors.{greatest-same}
 
@@ -35,7 +35,7 @@ module _ (ts : List ℕ) (vs : List ℤ) (m : ℕ) where
 
 module _ (ts : List ℕ) (vs : List ℤ) (c : Criterion) (m : ℕ) where
   within-same : (i j k : ℕ) → i ≤ m → j ≤ m → k ≤ m → within (take (suc m) ts) (take (suc m) vs) c i j k ≡ within ts vs c i j k
-  unfolding within
+  unfolding within above below
   within-same i j k hi hj hk = rw (tick-same ts vs m i hi, tick-same ts vs m j hj, deviation-same ts vs m i j k hi hj hk)
 
   hole-same : (k : ℕ) → suc k ≤ m → hole (take (suc m) ts) (c .gap) k ≡ hole ts (c .gap) k

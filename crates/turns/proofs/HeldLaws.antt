@@ -15,31 +15,37 @@ use borrow.Author.Tests.{not-true}
 use Rattle.lists.proofs.Tests.{by-test, and-first}
 use Rattle.trace.specs.declared.Criterion.{Criterion}
 use Rattle.trace.specs.declared.Edge.{Edge}
+use Rattle.trace.specs.declared.Aim.{Aim}
 use Rattle.trace.specs.declared.Cone.{Cone}
 use Rattle.trace.specs.Level.{offset}
-use Rattle.trace.specs.Edge.{middle, Slope, Tilt, noSteeper, lowered, raised}
+use Rattle.trace.specs.Link.{Bounded}
+use Rattle.trace.specs.Edge.{middle, Slope, Tilt, AimTilt, noSteeper, lowered, raised}
 use Rattle.trace.specs.Cone.{coneFrom, admitsEdge, steeperOf, flatterOf, extendedBy, ConeFits}
 use Rattle.trace.proofs.EdgeLaws.{edge-slope}
 use Rattle.turns.specs.declared.Sample.{Sample}
-use Rattle.turns.specs.Sample.{edgeFrom, Ahead, edgeIn, Put}
+use Rattle.turns.specs.Sample.{edgeFrom, aimFrom, Ahead, edgeIn, Put}
 use Rattle.turns.specs.Held.{Held, goesOn, further, anew, stepped, Numbers, numbers, Sized, part, Inside, coneIn, heldIn}
 use Rattle.turns.specs.Turn.{KeptAt, Restarted, Turning, Became}
 use Rattle.turns.proofs.SampleLaws.{offset-climb, put-as}
 
 -- ---- edges of a step
 
-pub tilt-as : {e d : Edge} {p : ℕ} → e ≡ d → Tilt d p → Tilt e p
+pub tilt-as : {a d : Aim} {c : Criterion} → a ≡ d → AimTilt d c → AimTilt a c
 tilt-as h t = rw h t
 
-pub ahead-tilt : {q tick base p : ℕ} {to : Sample} → Ahead q tick base to → p ≤ 65535 * q → Tilt (edgeFrom q tick base to) p
-ahead-tilt {q} {to = to} h pb =
+edge-tilt : {q tick level p : ℕ} {to : Sample} → q ≤ 1048575 → Ahead tick level to → p ≤ 65535 * q → Tilt (edgeFrom q tick level to) p
+edge-tilt {q} {level = level} {to = to} b h pb =
     let x : q * to .level ≤ 65535 * q = omega (arith, mul-le-mul-right q (h .short)) in
-    record { low = omega (arith, h .q-bound, h .base-bound); high = omega (arith, h .q-bound); run-bound = omega (arith, h .span); climb = refl }
+    let y : q * level ≤ 65535 * q = omega (arith, mul-le-mul-right q (h .from)) in
+    record { low = omega arith; high = omega arith; run-bound = omega (arith, h .span); climb = refl }
+
+pub ahead-tilt : {c : Criterion} {tick level : ℕ} {to : Sample} → Bounded c → Ahead tick level to → AimTilt (aimFrom c tick level to) c
+ahead-tilt b h = record { up = edge-tilt (b .up .q-bound) h (b .up .p-bound); down = edge-tilt (b .down .q-bound) h (b .down .p-bound) }
 
 pub cone-as : {l h l′ h′ : Edge} → l ≡ l′ → h ≡ h′ → ConeFits (record { low = l′; high = h′ }) → ConeFits (record { low = l; high = h })
 cone-as e f g = rw (e, f) g
 
-pub admit-as : {l h l′ h′ to to′ : Edge} {r b : Bool} → l ≡ l′ → h ≡ h′ → to ≡ to′ → r ≡ admitsEdge (record { low = l; high = h }) to → r ≡ b → admitsEdge (record { low = l′; high = h′ }) to′ ≡ b
+pub admit-as : {l h l′ h′ : Edge} {to to′ : Aim} {r b : Bool} → l ≡ l′ → h ≡ h′ → to ≡ to′ → r ≡ admitsEdge (record { low = l; high = h }) to → r ≡ b → admitsEdge (record { low = l′; high = h′ }) to′ ≡ b
 admit-as e f g a q = rw (← e, ← f, ← g) (sym a ∙ q)
 
 lowered-slope : {e : Edge} {p : ℕ} → Tilt e p → Slope (lowered e p)
@@ -54,11 +60,14 @@ steeper-slope {a} {b} h k = by-test (noSteeper a b) (λ q. rw q k) (λ q. rw q h
 flatter-slope : {a b : Edge} → Slope a → Slope b → Slope (flatterOf a b)
 flatter-slope {a} {b} h k = by-test (noSteeper b a) (λ q. rw q k) (λ q. rw q h)
 
-pub extended-fits : {cone : Cone} {e : Edge} {p : ℕ} → ConeFits cone → Tilt e p → ConeFits (extendedBy cone e p)
-extended-fits f t = record { low-fits = steeper-slope (f .low-fits) (lowered-slope t); high-fits = flatter-slope (f .high-fits) (raised-slope t) }
+pub extended-fits : {cone : Cone} {to : Aim} {c : Criterion} → ConeFits cone → AimTilt to c → ConeFits (extendedBy cone to c)
+extended-fits f t = record { low-fits = steeper-slope (f .low-fits) (lowered-slope (t .up)); high-fits = flatter-slope (f .high-fits) (raised-slope (t .down)) }
 
-pub none-fits : {p : ℕ} → p ≤ 68718362625 → ConeFits (coneFrom p)
-none-fits h = record { low-fits = edge-slope refl (omega arith) (omega arith); high-fits = edge-slope refl (omega arith) (omega arith) }
+pub none-fits : {c : Criterion} → Bounded c → ConeFits (coneFrom c)
+none-fits b = record {
+  low-fits = edge-slope refl (omega arith) (omega arith);
+  high-fits = edge-slope refl (omega (arith, b .down .q-bound, b .down .p-bound)) (omega arith);
+}
 
 -- ---- entries
 
@@ -114,7 +123,7 @@ module _ (n b k : ℕ) (o : List ℕ) (v : ℕ) (h : k < n) where
 -- ---- a turn
 
 held-same : {t t′ s s′ : ℕ} {l l′ h h′ : Edge} {c c′ : ℕ} {x x′ : List ℕ} → t ≡ t′ → s ≡ s′ → l ≡ l′ → h ≡ h′ → c ≡ c′ → x ≡ x′
-    → _≡_ {A = Held} (record { tick = t; base = s; cone = record { low = l; high = h }; count = c; list = x }) (record { tick = t′; base = s′; cone = record { low = l′; high = h′ }; count = c′; list = x′ })
+    → _≡_ {A = Held} (record { tick = t; level = s; cone = record { low = l; high = h }; count = c; list = x }) (record { tick = t′; level = s′; cone = record { low = l′; high = h′ }; count = c′; list = x′ })
 held-same e f g i j k = rw (e, f, g, i, j, k)
 
 -- an entry that is set to no less is no less
@@ -128,15 +137,15 @@ set-more l b v h lt le a = elim (decLt a b) [
 ]
 
 -- entry b of each list was set
-module _ (n b : ℕ) (s : Numbers) (out : List ℕ) (few : b < 16) (z : Sized s) (t base k count : ℕ) (e d : Edge) (x : List ℕ) where
-  pub became : {st ba lr hr pl out′ : List ℕ} {lc hc : List ℤ} → st ≡ set (s .starts) b t → ba ≡ set (s .bases) b base
+module _ (n b : ℕ) (s : Numbers) (out : List ℕ) (few : b < 16) (z : Sized s) (t level k count : ℕ) (e d : Edge) (x : List ℕ) where
+  pub became : {st ls lr hr pl out′ : List ℕ} {lc hc : List ℤ} → st ≡ set (s .starts) b t → ls ≡ set (s .levels) b level
       → Put (s .lowClimbs) (s .lowRuns) b e lc lr → Put (s .highClimbs) (s .highRuns) b d hc hr → Slope e → Slope d → pl ≡ set (s .places) b k → getD (s .places) b 0 ≤ k → k - b * n ≡ count
       → part n b out′ ≡ x → ((a : ℕ) → a ≢ b → part n a out′ ≡ part n a out) → ((m : ℕ) → b < m → drop (m * n) out′ ≡ drop (m * n) out)
-      → Became n b (record { tick = t; base = base; cone = record { low = e; high = d }; count = count; list = x }) s out (numbers st ba lc lr hc hr pl) out′
+      → Became n b (record { tick = t; level = level; cone = record { low = e; high = d }; count = count; list = x }) s out (numbers st ls lc lr hc hr pl) out′
   became hs hb hl hh el eh hp le hk hx others beyond = record {
     sized = record {
       starts = set-sized (s .starts) b t hs ∙ z .starts;
-      bases = set-sized (s .bases) b base hb ∙ z .bases;
+      levels = set-sized (s .levels) b level hb ∙ z .levels;
       low-climbs = put-climbs hl ∙ z .low-climbs;
       low-runs = put-runs hl ∙ z .low-runs;
       high-climbs = put-climbs hh ∙ z .high-climbs;
@@ -145,13 +154,13 @@ module _ (n b : ℕ) (s : Numbers) (out : List ℕ) (few : b < 16) (z : Sized s)
     };
     this = held-same
         (set-here (s .starts) b t hs (omega (arith, z .starts)))
-        (set-here (s .bases) b base hb (omega (arith, z .bases)))
+        (set-here (s .levels) b level hb (omega (arith, z .levels)))
         (put-here hl (omega (arith, z .low-climbs)) (omega (arith, z .low-runs)) el)
         (put-here hh (omega (arith, z .high-climbs)) (omega (arith, z .high-runs)) eh)
         (ap (λ (y : ℕ). y - b * n) (set-here (s .places) b k hp (omega (arith, z .places))) ∙ hk)
         hx;
     others = λ a ne.
-        held-same (set-there (s .starts) b t hs a ne) (set-there (s .bases) b base hb a ne) (put-there hl a ne) (put-there hh a ne)
+        held-same (set-there (s .starts) b t hs a ne) (set-there (s .levels) b level hb a ne) (put-there hl a ne) (put-there hh a ne)
         (ap (λ (y : ℕ). y - a * n) (set-there (s .places) b k hp a ne)) (others a ne);
     elsewhere = set-there (s .places) b k hp;
     places = set-more (s .places) b k hp (omega (arith, z .places)) le;
@@ -162,11 +171,11 @@ became-as : {n b : ℕ} {h h′ : Held} {s s′ : Numbers} {out out′ : List �
 became-as {n} {b} {s = s} {s′} {out} {out′} e g = subst (λ (x : Held). Became n b x s out s′ out′) e g
 
 module _ (c : Criterion) (cut : Bool) (before here : Sample) (at : ℕ) (h : Held) where
-  pub stepped-yes : goesOn c cut here (h .tick) (h .base) (h .cone) ≡ true → stepped c cut before here at h ≡ further c here h
+  pub stepped-yes : goesOn c cut here (h .tick) (h .level) (h .cone) ≡ true → stepped c cut before here at h ≡ further c here h
   unfolding stepped
   stepped-yes q = rw q
 
-  pub stepped-no : goesOn c cut here (h .tick) (h .base) (h .cone) ≡ false → stepped c cut before here at h ≡ anew c before here at h
+  pub stepped-no : goesOn c cut here (h .tick) (h .level) (h .cone) ≡ false → stepped c cut before here at h ≡ anew c before here at h
   unfolding stepped
   stepped-no q = rw q
 
@@ -195,39 +204,39 @@ module _ (n b x : ℕ) (o : List ℕ) (v : ℕ) (h : Inside n b x) where
   place-beyond m q = ap (λ (k : ℕ). drop (m * n) (set o k v)) entry ∙ drop-there n b (x - b * n) o v lt m q
 
 module _ {c : Criterion} {cut : Bool} {before here : Sample} {at n b : ℕ} {s : Numbers} {out : List ℕ} (g : Turning c cut before here at n b s out) where
-  abbrev to : Edge
-  to = edgeFrom (c .q) (getD (s .starts) b 0) (getD (s .bases) b 0) here
+  abbrev to : Aim
+  to = aimFrom c (getD (s .starts) b 0) (getD (s .levels) b 0) here
 
   abbrev goesHere : Bool
-  goesHere = goesOn c cut here (getD (s .starts) b 0) (getD (s .bases) b 0) (coneIn (s .lowClimbs) (s .lowRuns) (s .highClimbs) (s .highRuns) b)
+  goesHere = goesOn c cut here (getD (s .starts) b 0) (getD (s .levels) b 0) (coneIn (s .lowClimbs) (s .lowRuns) (s .highClimbs) (s .highRuns) b)
 
   pub uncut : goesHere ≡ true → cut ≡ false
   uncut h = not-true cut (and-first (not cut) _ h)
 
-  pub turn-tilt : cut ≡ false → Tilt to (c .p)
-  turn-tilt q = ahead-tilt (g .steps .goes .ahead q) (g .steps .bounded .p-bound)
+  pub turn-tilt : cut ≡ false → AimTilt to c
+  turn-tilt q = ahead-tilt (g .steps .bounded) (g .steps .goes .ahead q)
 
-  pub turned-further : {to′ : Edge} {lc hc : List ℤ} {lr hr : List ℕ} → goesHere ≡ true → to′ ≡ to
-      → Put (s .lowClimbs) (s .lowRuns) b (steeperOf (edgeIn (s .lowClimbs) (s .lowRuns) b) (lowered to′ (c .p))) lc lr
-      → Put (s .highClimbs) (s .highRuns) b (flatterOf (edgeIn (s .highClimbs) (s .highRuns) b) (raised to′ (c .p))) hc hr
-      → Became n b (stepped c cut before here at (heldIn n s out b)) s out (numbers (s .starts) (s .bases) lc lr hc hr (s .places)) out
+  pub turned-further : {to′ : Aim} {lc hc : List ℤ} {lr hr : List ℕ} → goesHere ≡ true → to′ ≡ to
+      → Put (s .lowClimbs) (s .lowRuns) b (steeperOf (edgeIn (s .lowClimbs) (s .lowRuns) b) (lowered (to′ .up) (c .up .p))) lc lr
+      → Put (s .highClimbs) (s .highRuns) b (flatterOf (edgeIn (s .highClimbs) (s .highRuns) b) (raised (to′ .down) (c .down .p))) hc hr
+      → Became n b (stepped c cut before here at (heldIn n s out b)) s out (numbers (s .starts) (s .levels) lc lr hc hr (s .places)) out
   turned-further {to′} goes e low high =
       let q = uncut goes in
-      let l = put-as (ap (λ (x : Edge). steeperOf (edgeIn (s .lowClimbs) (s .lowRuns) b) (lowered x (c .p))) e) low in
-      let h = put-as (ap (λ (x : Edge). flatterOf (edgeIn (s .highClimbs) (s .highRuns) b) (raised x (c .p))) e) high in
+      let l = put-as (ap (λ (x : Aim). steeperOf (edgeIn (s .lowClimbs) (s .lowRuns) b) (lowered (x .up) (c .up .p))) e) low in
+      let h = put-as (ap (λ (x : Aim). flatterOf (edgeIn (s .highClimbs) (s .highRuns) b) (raised (x .down) (c .down .p))) e) high in
       let f = extended-fits (g .steps .goes .fits q) (turn-tilt q) in
       became-as (sym (stepped-yes c cut before here at (heldIn n s out b) goes))
-      (became n b s out (g .few) (g .sized) _ _ _ _ _ _ _ (sym (set-getD (s .starts) b 0)) (sym (set-getD (s .bases) b 0)) l h (f .low-fits) (f .high-fits) (sym (set-getD (s .places) b 0)) (omega arith) refl
+      (became n b s out (g .few) (g .sized) _ _ _ _ _ _ _ (sym (set-getD (s .starts) b 0)) (sym (set-getD (s .levels) b 0)) l h (f .low-fits) (f .high-fits) (sym (set-getD (s .places) b 0)) (omega arith) refl
       refl (λ a ne. refl) (λ m lt. refl))
 
-  pub turned-anew : {st ba lr hr pl out′ : List ℕ} {lc hc : List ℤ} → goesHere ≡ false
-      → Restarted c before here b (numbers (s .starts) (s .bases) (s .lowClimbs) (s .lowRuns) (s .highClimbs) (s .highRuns) (s .starts)) (numbers st ba lc lr hc hr st)
+  pub turned-anew : {st ls lr hr pl out′ : List ℕ} {lc hc : List ℤ} → goesHere ≡ false
+      → Restarted c before here b (numbers (s .starts) (s .levels) (s .lowClimbs) (s .lowRuns) (s .highClimbs) (s .highRuns) (s .starts)) (numbers st ls lc lr hc hr st)
       → KeptAt at b (s .places) out pl out′
-      → Became n b (stepped c cut before here at (heldIn n s out b)) s out (numbers st ba lc lr hc hr pl) out′
+      → Became n b (stepped c cut before here at (heldIn n s out b)) s out (numbers st ls lc lr hc hr pl) out′
   turned-anew goes r k =
-      let f = extended-fits (none-fits {p = c .p} (omega (arith, g .steps .bounded .p-bound, g .steps .bounded .q-bound))) (ahead-tilt (g .steps .again) (g .steps .bounded .p-bound)) in
+      let f = extended-fits (none-fits (g .steps .bounded)) (ahead-tilt (g .steps .bounded) (g .steps .again)) in
       became-as (sym (stepped-no c cut before here at (heldIn n s out b) goes))
-      (became n b s out (g .few) (g .sized) _ _ _ _ _ _ _ (r .start) (r .base) (r .low) (r .high) (f .low-fits) (f .high-fits) (k .place) (omega arith) (omega (arith, g .inside .from))
+      (became n b s out (g .few) (g .sized) _ _ _ _ _ _ _ (r .start) (r .level) (r .low) (r .high) (f .low-fits) (f .high-fits) (k .place) (omega arith) (omega (arith, g .inside .from))
       (ap (part n b) (k .list) ∙ place-here n b (getD (s .places) b 0) out at (g .inside))
       (λ a ne. ap (part n a) (k .list) ∙ place-there n b (getD (s .places) b 0) out at (g .inside) a ne)
       (λ m lt. ap (drop (m * n)) (k .list) ∙ place-beyond n b (getD (s .places) b 0) out at (g .inside) m lt))

@@ -1,5 +1,5 @@
 -- What is held of one tolerance between two samples, and the step that takes the next sample in.
---   Held       the start of the open link, by its tick and base; the cone of its links; how many samples are kept; the part of the output
+--   Held       the start of the open link, by its tick and level; the cone of its links; how many samples are kept; the part of the output
 --   goesOn     the link to the new sample is valid: it is not cut by a hole, and passes every sample taken in
 --   further    the open link goes on to the new sample
 --   anew       the sample before is kept, and the open link starts from it
@@ -24,23 +24,23 @@ use Rattle.trace.specs.declared.Cone.{Cone}
 use Rattle.trace.specs.Link.{Bounded}
 use Rattle.trace.specs.Cone.{coneFrom, admitsEdge, extendedBy, ConeFits}
 use Rattle.turns.specs.declared.Sample.{Sample}
-use Rattle.turns.specs.Sample.{edgeFrom, Ahead, edgeIn}
+use Rattle.turns.specs.Sample.{aimFrom, Ahead, edgeIn}
 
 pub record Held : Type 0 where
   pub tick : ℕ
-  pub base : ℕ
+  pub level : ℕ
   pub cone : Cone
   pub count : ℕ
   pub list : List ℕ
 
 abbrev pub goesOn : Criterion → Bool → Sample → ℕ → ℕ → Cone → Bool
-goesOn c cut here tick base cone = not cut && admitsEdge cone (edgeFrom (c .q) tick base here)
+goesOn c cut here tick level cone = not cut && admitsEdge cone (aimFrom c tick level here)
 
 abbrev pub further : Criterion → Sample → Held → Held
 further c here h = record {
   tick = h .tick;
-  base = h .base;
-  cone = extendedBy (h .cone) (edgeFrom (c .q) (h .tick) (h .base) here) (c .p);
+  level = h .level;
+  cone = extendedBy (h .cone) (aimFrom c (h .tick) (h .level) here) c;
   count = h .count;
   list = h .list;
 }
@@ -49,30 +49,29 @@ further c here h = record {
 abbrev pub anew : Criterion → Sample → Sample → ℕ → Held → Held
 anew c before here at h = record {
   tick = before .tick;
-  base = c .q * before .level;
-  cone = extendedBy (coneFrom (c .p)) (edgeFrom (c .q) (before .tick) (c .q * before .level) here) (c .p);
+  level = before .level;
+  cone = extendedBy (coneFrom c) (aimFrom c (before .tick) (before .level) here) c;
   count = h .count + 1;
   list = set (h .list) (h .count) at;
 }
 
 unfoldable pub stepped : Criterion → Bool → Sample → Sample → ℕ → Held → Held
-stepped c cut before here at h = cond (goesOn c cut here (h .tick) (h .base) (h .cone)) (further c here h) (anew c before here at h)
+stepped c cut before here at h = cond (goesOn c cut here (h .tick) (h .level) (h .cone)) (further c here h) (anew c before here at h)
 
 -- where the link is not cut
-pub record Goes (c : Criterion) (cut : Bool) (here : Sample) (tick base : ℕ) (cone : Cone) : Type 0 where
-  pub ahead : cut ≡ false → Ahead (c .q) tick base here
+pub record Goes (cut : Bool) (here : Sample) (tick level : ℕ) (cone : Cone) : Type 0 where
+  pub ahead : cut ≡ false → Ahead tick level here
   pub fits : cut ≡ false → ConeFits cone
 
 pub record Steps (c : Criterion) (cut : Bool) (before here : Sample) (h : Held) : Type 0 where
   pub bounded : Bounded c
-  pub goes : Goes c cut here (h .tick) (h .base) (h .cone)
-  pub again : Ahead (c .q) (before .tick) (c .q * before .level) here
-  pub short : before .level ≤ 65535
+  pub goes : Goes cut here (h .tick) (h .level) (h .cone)
+  pub again : Ahead (before .tick) (before .level) here
 
 -- `places` has the entry of the output that each tolerance writes next
 pub record Numbers : Type 0 where
   pub starts : List ℕ
-  pub bases : List ℕ
+  pub levels : List ℕ
   pub lowClimbs : List ℤ
   pub lowRuns : List ℕ
   pub highClimbs : List ℤ
@@ -80,12 +79,12 @@ pub record Numbers : Type 0 where
   pub places : List ℕ
 
 abbrev pub numbers : List ℕ → List ℕ → List ℤ → List ℕ → List ℤ → List ℕ → List ℕ → Numbers
-numbers st ba lc lr hc hr pl = record { starts = st; bases = ba; lowClimbs = lc; lowRuns = lr; highClimbs = hc; highRuns = hr; places = pl }
+numbers st le lc lr hc hr pl = record { starts = st; levels = le; lowClimbs = lc; lowRuns = lr; highClimbs = hc; highRuns = hr; places = pl }
 
 -- each list has 16 entries
 pub record Sized (s : Numbers) : Type 0 where
   pub starts : length (s .starts) ≡ 16
-  pub bases : length (s .bases) ≡ 16
+  pub levels : length (s .levels) ≡ 16
   pub low-climbs : length (s .lowClimbs) ≡ 16
   pub low-runs : length (s .lowRuns) ≡ 16
   pub high-climbs : length (s .highClimbs) ≡ 16
@@ -105,7 +104,7 @@ coneIn lc lr hc hr a = record { low = edgeIn lc lr a; high = edgeIn hc hr a }
 abbrev pub heldIn : ℕ → Numbers → List ℕ → ℕ → Held
 heldIn n s out a = record {
   tick = getD (s .starts) a 0;
-  base = getD (s .bases) a 0;
+  level = getD (s .levels) a 0;
   cone = coneIn (s .lowClimbs) (s .lowRuns) (s .highClimbs) (s .highRuns) a;
   count = getD (s .places) a 0 - a * n;
   list = part n a out;

@@ -12,7 +12,7 @@ use lib.ListN.{length, getD, set, drop}
 use Rattle.trace.specs.declared.Criterion.{Criterion}
 use Rattle.trace.specs.Cone.{coneFrom, extendedBy}
 use Rattle.turns.specs.declared.Sample.{Sample}
-use Rattle.turns.specs.Sample.{edgeFrom, Put}
+use Rattle.turns.specs.Sample.{aimFrom, Put}
 use Rattle.turns.specs.Held.{Held, Steps, Numbers, Sized, Inside, heldIn}
 
 -- the sample `at` was kept at the place of entry b, whose next place is one further
@@ -23,9 +23,9 @@ pub record KeptAt (at b : ℕ) (places out places′ out′ : List ℕ) : Type 0
 -- the open link of entry b starts at the sample before
 pub record Restarted (c : Criterion) (before here : Sample) (b : ℕ) (s s′ : Numbers) : Type 0 where
   pub start : s′ .starts ≡ set (s .starts) b (before .tick)
-  pub base : s′ .bases ≡ set (s .bases) b (c .q * before .level)
-  pub low : Put (s .lowClimbs) (s .lowRuns) b (extendedBy (coneFrom (c .p)) (edgeFrom (c .q) (before .tick) (c .q * before .level) here) (c .p) .low) (s′ .lowClimbs) (s′ .lowRuns)
-  pub high : Put (s .highClimbs) (s .highRuns) b (extendedBy (coneFrom (c .p)) (edgeFrom (c .q) (before .tick) (c .q * before .level) here) (c .p) .high) (s′ .highClimbs) (s′ .highRuns)
+  pub level : s′ .levels ≡ set (s .levels) b (before .level)
+  pub low : Put (s .lowClimbs) (s .lowRuns) b (extendedBy (coneFrom c) (aimFrom c (before .tick) (before .level) here) c .low) (s′ .lowClimbs) (s′ .lowRuns)
+  pub high : Put (s .highClimbs) (s .highRuns) b (extendedBy (coneFrom c) (aimFrom c (before .tick) (before .level) here) c .high) (s′ .highClimbs) (s′ .highRuns)
 
 -- entry b is one of 16, and its part has room
 pub record Turning (c : Criterion) (cut : Bool) (before here : Sample) (at n b : ℕ) (s : Numbers) (out : List ℕ) : Type 0 where

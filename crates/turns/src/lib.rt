@@ -1,7 +1,7 @@
 // One tolerance's turn: the new sample is taken in, or the sample before is kept and the open link starts from it. Samples by value are in
 // samples, edges held in lists of numbers in bounds.
 ghost use mathlib.Core.Path.{_≡_};
-ghost use Prim.Native.Nat.{_*_, _≤_, _<_};
+ghost use Prim.Native.Nat.{_<_};
 ghost use lib.ListN.{length, getD};
 ghost use Rattle.trace.specs.Link.{Bounded};
 ghost use Rattle.turns.specs.Sample.{Ahead};
@@ -11,13 +11,12 @@ use crate::bounds::edge_in;
 use crate::bounds::lower_high;
 use crate::bounds::put_edge;
 use crate::bounds::raise_low;
-use crate::samples::edge_from;
+use crate::samples::aim_from;
 use outgoing::entries::store;
 use trace::Cone;
 use trace::Criterion;
 use trace::cones::admits;
 use trace::cones::cone_of;
-use trace::edges::scaled;
 
 // A sample by value: its tick, and its value as an unsigned level.
 pub struct Sample {
@@ -42,7 +41,7 @@ fn keep(places: &mut [usize; 16], b: usize, at: usize, out: &mut [u16])
 fn restart(
     c: Criterion,
     starts: &mut [u64; 16],
-    bases: &mut [u64; 16],
+    levels: &mut [u64; 16],
     lows: &mut [i64; 16],
     lowruns: &mut [u64; 16],
     highs: &mut [i64; 16],
@@ -51,15 +50,14 @@ fn restart(
     before: Sample,
     here: Sample,
 )
-    requires { ⌜ (b < 16) × Bounded c × (before .level ≤ 65535) × Ahead (c .q) (before .tick) (c .q * before .level) here ⌝ }
-    ensures { λ r. ⌜ Restarted c before here b (numbers (now (starts .entry)) (now (bases .entry)) (now (lows .entry)) (now (lowruns .entry)) (now (highs .entry)) (now (highruns .entry)) (now (starts .entry))) (numbers (now (starts .exit)) (now (bases .exit)) (now (lows .exit)) (now (lowruns .exit)) (now (highs .exit)) (now (highruns .exit)) (now (starts .exit))) ⌝ }
+    requires { ⌜ (b < 16) × Bounded c × Ahead (before .tick) (before .level) here ⌝ }
+    ensures { λ r. ⌜ Restarted c before here b (numbers (now (starts .entry)) (now (levels .entry)) (now (lows .entry)) (now (lowruns .entry)) (now (highs .entry)) (now (highruns .entry)) (now (starts .entry))) (numbers (now (starts .exit)) (now (levels .exit)) (now (lows .exit)) (now (lowruns .exit)) (now (highs .exit)) (now (highruns .exit)) (now (starts .exit))) ⌝ }
 {
-    let base = scaled(c.q, before.level);
-    let cone = cone_of(edge_from(before.tick, base, here, c.q), c.p);
+    let cone = cone_of(aim_from(before.tick, before.level, here, c), c);
     let low = cone.low;
     let high = cone.high;
     starts[b] = before.tick;
-    bases[b] = base;
+    levels[b] = before.level;
     put_edge(lows, lowruns, b, low);
     put_edge(highs, highruns, b, high);
 }
@@ -68,7 +66,7 @@ fn restart(
 fn goes_on(
     c: Criterion,
     starts: &[u64; 16],
-    bases: &[u64; 16],
+    levels: &[u64; 16],
     lows: &[i64; 16],
     lowruns: &[u64; 16],
     highs: &[i64; 16],
@@ -77,18 +75,15 @@ fn goes_on(
     cut: bool,
     here: Sample,
 ) -> bool
-    requires { ⌜ (b < 16) × Bounded c × Goes c cut here (getD (now starts) b 0) (getD (now bases) b 0) (coneIn (now lows) (now lowruns) (now highs) (now highruns) b) ⌝ }
-    ensures { λ r. ⌜ r ≡ goesOn c cut here (getD (now (starts .entry)) b 0) (getD (now (bases .entry)) b 0) (coneIn (now (lows .entry)) (now (lowruns .entry)) (now (highs .entry)) (now (highruns .entry)) b) ⌝ }
+    requires { ⌜ (b < 16) × Bounded c × Goes cut here (getD (now starts) b 0) (getD (now levels) b 0) (coneIn (now lows) (now lowruns) (now highs) (now highruns) b) ⌝ }
+    ensures { λ r. ⌜ r ≡ goesOn c cut here (getD (now (starts .entry)) b 0) (getD (now (levels .entry)) b 0) (coneIn (now (lows .entry)) (now (lowruns .entry)) (now (highs .entry)) (now (highruns .entry)) b) ⌝ }
 {
     if cut {
         return false;
     }
     let low = edge_in(lows, lowruns, b);
     let high = edge_in(highs, highruns, b);
-    admits(
-        Cone { low, high },
-        edge_from(starts[b], bases[b], here, c.q),
-    )
+    admits(Cone { low, high }, aim_from(starts[b], levels[b], here, c))
 }
 
 // The turn of entry b; `at` is the number of the sample before, and `cut` tells that the link to the new sample does not obey the gap limit.
@@ -96,7 +91,7 @@ fn goes_on(
 pub fn turn(
     c: Criterion,
     starts: &mut [u64; 16],
-    bases: &mut [u64; 16],
+    levels: &mut [u64; 16],
     lows: &mut [i64; 16],
     lowruns: &mut [u64; 16],
     highs: &mut [i64; 16],
@@ -110,13 +105,13 @@ pub fn turn(
     n: usize,
     out: &mut [u16],
 )
-    requires { ⌜ Turning c cut before here at n b (numbers (now starts) (now bases) (now lows) (now lowruns) (now highs) (now highruns) (now places)) (now out) ⌝ }
-    ensures { λ r. ⌜ Became n b (stepped c cut before here at (heldIn n (numbers (now (starts .entry)) (now (bases .entry)) (now (lows .entry)) (now (lowruns .entry)) (now (highs .entry)) (now (highruns .entry)) (now (places .entry))) (now (out .entry)) b)) (numbers (now (starts .entry)) (now (bases .entry)) (now (lows .entry)) (now (lowruns .entry)) (now (highs .entry)) (now (highruns .entry)) (now (places .entry))) (now (out .entry)) (numbers (now (starts .exit)) (now (bases .exit)) (now (lows .exit)) (now (lowruns .exit)) (now (highs .exit)) (now (highruns .exit)) (now (places .exit))) (now (out .exit)) ⌝ }
+    requires { ⌜ Turning c cut before here at n b (numbers (now starts) (now levels) (now lows) (now lowruns) (now highs) (now highruns) (now places)) (now out) ⌝ }
+    ensures { λ r. ⌜ Became n b (stepped c cut before here at (heldIn n (numbers (now (starts .entry)) (now (levels .entry)) (now (lows .entry)) (now (lowruns .entry)) (now (highs .entry)) (now (highruns .entry)) (now (places .entry))) (now (out .entry)) b)) (numbers (now (starts .entry)) (now (levels .entry)) (now (lows .entry)) (now (lowruns .entry)) (now (highs .entry)) (now (highruns .entry)) (now (places .entry))) (now (out .entry)) (numbers (now (starts .exit)) (now (levels .exit)) (now (lows .exit)) (now (lowruns .exit)) (now (highs .exit)) (now (highruns .exit)) (now (places .exit))) (now (out .exit)) ⌝ }
 {
     if goes_on(
         c,
         starts,
-        bases,
+        levels,
         lows,
         lowruns,
         highs,
@@ -125,15 +120,17 @@ pub fn turn(
         cut,
         here,
     ) {
-        let to = edge_from(starts[b], bases[b], here, c.q);
-        raise_low(lows, lowruns, b, to, c.p);
-        lower_high(highs, highruns, b, to, c.p);
+        let to = aim_from(starts[b], levels[b], here, c);
+        let up = to.up;
+        let down = to.down;
+        raise_low(lows, lowruns, b, up, c.up.p);
+        lower_high(highs, highruns, b, down, c.down.p);
         return;
     }
     restart(
         c,
         starts,
-        bases,
+        levels,
         lows,
         lowruns,
         highs,

@@ -1,8 +1,8 @@
--- Laws of the record in parts: its start, a step for each next sample, and the end; counted and written one after the other.
---   Counted     the bytes up to the kept sample at position i are counted
+-- Laws of the record in parts: its tolerance, the first sample, a step for each next one, and the end; counted and written one after the other.
+--   Counted     the bytes of the steps up to the kept sample at position i are counted
 --   Putting     they are written, and the sample is at hand
 -- Assumes nothing.
-use mathlib.Core.Path.{_≡_, refl, sym, ap, _∙_, subst}
+use mathlib.Core.Path.{_≡_, refl, sym, ap, _∙_}
 use mathlib.Core.Bool.{Bool, true, false}
 use mathlib.Core.List.{List, [], _∷_, _++_, append-assoc}
 use Prim.Native.Nat.{ℕ, zero, suc, _+_, _-_, _*_, _≤_, _<_}
@@ -22,21 +22,26 @@ use Rattle.lists.specs.Part.{overwriteFrom}
 use Rattle.lists.proofs.OverwriteLaws.{overwrite-length}
 use Rattle.lists.proofs.PartLaws.{written-part, written-from, written-within}
 use Rattle.lists.proofs.SelectLaws.{select-length}
-use Rattle.ratio.specs.declared.Ratio.{Ratio}
 use Rattle.refusal.specs.declared.Refusal.the-variants.{Room}
 use Rattle.refusal.specs.declared.Checked.the-variants.{Refused as Declined}
+use Rattle.tolerance.specs.declared.Parts.{Parts}
 use Rattle.trace.specs.Trace.{tick, value}
 use Rattle.trace.specs.Level.{level}
 use Rattle.format.specs.declared.Command.{Command}
-use Rattle.format.specs.declared.Command.the-variants.{Tolerance, First, Short, Long, End}
+use Rattle.format.specs.declared.Command.the-variants.{First, Short, Long, End}
+use Rattle.format.specs.Number.{bytesOnto}
 use Rattle.format.specs.Command.{sizeOf, choose, commandOnto}
-use Rattle.format.specs.Format.{Content, Legal, short, stepTo, stepsOnto, samplesOnto, encode}
+use Rattle.format.specs.Format.{Content, Legal, short, toleranceCommand, stepTo, stepsOnto, samplesOnto, encode}
 use Rattle.format.proofs.CommandLaws.{command-append, command-length}
+use Rattle.format.proofs.HeaderLaws.{tolerance-size}
 use Rattle.format.proofs.ParseEncode.{parse-encode}
 use Rattle.writer.specs.declared.Sample.{Sample}
-use Rattle.writer.specs.declared.Move.{Move}
-use Rattle.writer.specs.Writing.{Kept, keptTicks, keptValues, selected, writeRow, WrittenAt, SampleAt, stepAt, MoveFrom, startOf, restOf, LengthOf}
-use Rattle.writer.proofs.SelectedLaws.{list-some, kept-trace}
+use Rattle.writer.specs.Writing.{Kept, keptTicks, keptValues, selected, writeRow, WrittenAt, SampleAt, stepFrom, stepAt, keptSamples, restOf, RestLength, SamplesLength, LengthOf, mostBytes}
+use Rattle.writer.proofs.SelectedLaws.{list-some, kept-trace, step-same}
+
+-- the second operand of a command is written as x, which is y
+pub operand-is : {x y : ℕ} {p : List ℕ} (o : List ℕ) (kind i a j : ℕ) → x ≡ y → p ≡ overwrite (kind ∷ bytesOnto i a (bytesOnto j x [])) o → p ≡ overwrite (kind ∷ bytesOnto i a (bytesOnto j y [])) o
+operand-is o kind i a j e h = h ∙ ap (λ (z : ℕ). overwrite (kind ∷ bytesOnto i a (bytesOnto j z [])) o) e
 
 -- ---- a record's parts
 
@@ -52,39 +57,48 @@ module _ (ts : List ℕ) (vs : List ℤ) (same : length vs ≡ length ts) where
   unfolding restOf stepsOnto
   rest-end i h = rw (drop-of-length-le ts {i = suc i} (omega arith))
 
-encode-parts : (r : Ratio) (ts : List ℕ) (vs : List ℤ) → length vs ≡ length ts → 1 ≤ length ts
-    → encode (record { tolerance = r; ticks = ts; values = vs }) ≡ startOf r (record { tick = tick ts 0; level = level (value vs 0) }) ++ restOf ts vs 0
-unfolding encode samplesOnto restOf
-encode-parts r [] vs e h = absurd (not-suc-le-zero h)
-encode-parts r (t ∷ ts) [] e h = absurd (omega arith)
-encode-parts r (t ∷ ts) (v ∷ vs) e h =
-    command-append (Tolerance r) _ ∙ ap (λ (x : List ℕ). commandOnto (Tolerance r) [] ++ x) (command-append (First t (level v)) _)
-    ∙ sym (append-assoc (commandOnto (Tolerance r) []) (commandOnto (First t (level v)) []) _)
-    ∙ ap (λ (x : List ℕ). x ++ restOf (t ∷ ts) (v ∷ vs) 0) (sym (command-append (Tolerance r) (commandOnto (First t (level v)) [])))
+samples-parts : (ts : List ℕ) (vs : List ℤ) → length vs ≡ length ts → 1 ≤ length ts → samplesOnto ts vs ≡ commandOnto (First (tick ts 0) (level (value vs 0))) [] ++ restOf ts vs 0
+unfolding samplesOnto restOf
+samples-parts [] vs e h = absurd (not-suc-le-zero h)
+samples-parts (t ∷ ts) [] e h = absurd (omega arith)
+samples-parts (t ∷ ts) (v ∷ vs) e h = command-append (First t (level v)) _
 
-pub start-length : (r : Ratio) (s : Sample) → length (startOf r s) ≡ 16
-start-length r s = command-length (Tolerance r) _ ∙ omega (arith, command-length (First (s .tick) (s .level)) [])
+-- a record is its tolerance's command and the samples' commands
+pub record-parts : (x : Parts) (ts : List ℕ) (vs : List ℤ) (l : List ℕ) → encode (selected x ts vs l) ≡ commandOnto (toleranceCommand x) [] ++ keptSamples ts vs l
+unfolding encode
+record-parts x ts vs l = command-append (toleranceCommand x) (keptSamples ts vs l)
+
+-- so is its length
+pub record-length : (x : Parts) (ts : List ℕ) (vs : List ℤ) (l : List ℕ) → length (encode (selected x ts vs l)) ≡ sizeOf (toleranceCommand x) + length (keptSamples ts vs l)
+unfolding encode
+record-length x ts vs l = command-length (toleranceCommand x) (keptSamples ts vs l)
+
+pub whole-length : {ts : List ℕ} {vs : List ℤ} {l : List ℕ} {n m k : ℕ} (x : Parts) → n ≡ sizeOf (toleranceCommand x) → SamplesLength ts vs l m → k ≡ n + m → LengthOf x ts vs l k
+whole-length {ts} {vs} {l} x e s f = record { is = omega (arith, e, f, s .is, record-length x ts vs l); range = s .range }
 
 module _ {ts : List ℕ} {vs : List ℤ} {l : List ℕ} (kept : Kept ts vs l) where
-  -- the record is its start, with the first kept sample, and the rest
-  pub record-parts : (r : Ratio) {s : Sample} → SampleAt ts vs l 0 s → encode (selected r ts vs l) ≡ startOf r s ++ restOf (keptTicks ts l) (keptValues vs l) 0
-  record-parts r p =
+  -- the samples' commands are that of the first kept sample, and the rest
+  pub kept-parts : {s : Sample} → SampleAt ts vs l 0 s → keptSamples ts vs l ≡ commandOnto (First (s .tick) (s .level)) [] ++ restOf (keptTicks ts l) (keptValues vs l) 0
+  kept-parts p =
       let t = kept-trace kept in
-      rw (p .tick-is, p .level-is .is) (encode-parts r (keptTicks ts l) (keptValues vs l) (t .same) (t .some))
+      rw (p .tick-is, p .level-is .is) (samples-parts (keptTicks ts l) (keptValues vs l) (t .same) (t .some))
 
-  -- so is its length
-  pub record-length : (r : Ratio) {s : Sample} → SampleAt ts vs l 0 s → length (encode (selected r ts vs l)) ≡ 16 + length (restOf (keptTicks ts l) (keptValues vs l) 0)
-  record-length r {s} p =
-      ap length (record-parts r p) ∙ length-append (startOf r s) (restOf (keptTicks ts l) (keptValues vs l) 0) ∙ omega (arith, start-length r s)
+  pub kept-length : length (keptSamples ts vs l) ≡ 7 + length (restOf (keptTicks ts l) (keptValues vs l) 0)
+  kept-length =
+      let t = kept-trace kept in
+      let m : Command = First (tick (keptTicks ts l) 0) (level (value (keptValues vs l) 0)) in
+      ap length (samples-parts (keptTicks ts l) (keptValues vs l) (t .same) (t .some)) ∙ length-append (commandOnto m []) (restOf (keptTicks ts l) (keptValues vs l) 0) ∙ omega (arith, command-length m [])
 
-  step-bytes : (i : ℕ) → i + 1 < length l → {m : Command} → m ≡ stepAt (keptTicks ts l) (keptValues vs l) i
-      → restOf (keptTicks ts l) (keptValues vs l) i ≡ commandOnto m [] ++ restOf (keptTicks ts l) (keptValues vs l) (i + 1)
-  step-bytes i h e = rw e (rest-step (keptTicks ts l) (keptValues vs l) (kept-trace kept .same) i (rw (select-length 0 ts l) h))
+  pub samples-length : {n k : ℕ} → RestLength ts vs l n → k ≡ 7 + n → SamplesLength ts vs l k
+  samples-length r e = record { is = omega (arith, e, r .is, kept-length); range = r .range }
 
-  step-length : (i : ℕ) → i + 1 < length l → {m : Command} → m ≡ stepAt (keptTicks ts l) (keptValues vs l) i
-      → length (restOf (keptTicks ts l) (keptValues vs l) i) ≡ sizeOf m + length (restOf (keptTicks ts l) (keptValues vs l) (i + 1))
-  step-length i h {m} e =
-      ap length (step-bytes i h e) ∙ length-append (commandOnto m []) (restOf (keptTicks ts l) (keptValues vs l) (i + 1)) ∙ omega (arith, command-length m [])
+  module _ {i : ℕ} {a b : Sample} (h : i + 1 < length l) (p : SampleAt ts vs l i a) (q : SampleAt ts vs l (i + 1) b) where
+    step-bytes : restOf (keptTicks ts l) (keptValues vs l) i ≡ commandOnto (stepFrom a b) [] ++ restOf (keptTicks ts l) (keptValues vs l) (i + 1)
+    step-bytes = rw (step-same kept p q) (rest-step (keptTicks ts l) (keptValues vs l) (kept-trace kept .same) i (rw (select-length 0 ts l) h))
+
+    step-length : length (restOf (keptTicks ts l) (keptValues vs l) i) ≡ sizeOf (stepFrom a b) + length (restOf (keptTicks ts l) (keptValues vs l) (i + 1))
+    step-length =
+        ap length step-bytes ∙ length-append (commandOnto (stepFrom a b) []) (restOf (keptTicks ts l) (keptValues vs l) (i + 1)) ∙ omega (arith, command-length (stepFrom a b) [])
 
   end-bytes : (i : ℕ) → length l ≤ i + 1 → restOf (keptTicks ts l) (keptValues vs l) i ≡ commandOnto (End (length l)) []
   end-bytes i h =
@@ -105,65 +119,62 @@ step-size t l t′ l′ = go (short l (t′ - t) l′)
 module _ {ts : List ℕ} {vs : List ℤ} {l : List ℕ} (kept : Kept ts vs l) where
   rest-most : (n i : ℕ) → i + 1 + n ≡ length l → length (restOf (keptTicks ts l) (keptValues vs l) i) ≤ 6 * n + 3
   rest-most zero i e = omega (arith, end-length kept i (omega arith))
-  rest-most (suc n) i e = omega (arith, step-length kept i (omega arith) refl, step-size (tick (keptTicks ts l) i) (level (value (keptValues vs l) i)) (tick (keptTicks ts l) (i + 1)) (level (value (keptValues vs l) (i + 1))), rest-most n (i + 1) (omega arith))
+  rest-most (suc n) i e =
+      let m : Command = stepAt (keptTicks ts l) (keptValues vs l) i in
+      let r = restOf (keptTicks ts l) (keptValues vs l) (i + 1) in
+      let f = ap length (rest-step (keptTicks ts l) (keptValues vs l) (kept-trace kept .same) i (rw (select-length 0 ts l) (omega arith))) in
+      omega (
+        arith,
+        f ∙ length-append (commandOnto m []) r,
+        command-length m [],
+        step-size (tick (keptTicks ts l) i) (level (value (keptValues vs l) i)) (tick (keptTicks ts l) (i + 1)) (level (value (keptValues vs l) (i + 1))),
+        rest-most n (i + 1) (omega arith),
+      )
 
-  pub record-most : (r : Ratio) → length (encode (selected r ts vs l)) ≤ 13 + 6 * length l
-  record-most r =
-      let t = kept-trace kept in
-      let s : Sample = record { tick = tick (keptTicks ts l) 0; level = level (value (keptValues vs l) 0) } in
-      let e : length (encode (selected r ts vs l)) ≡ length (startOf r s) + length (restOf (keptTicks ts l) (keptValues vs l) 0) =
-      ap length (encode-parts r (keptTicks ts l) (keptValues vs l) (t .same) (t .some)) ∙ length-append (startOf r s) (restOf (keptTicks ts l) (keptValues vs l) 0) in
-      omega (arith, e, start-length r s, rest-most (length l - 1) 0 (omega (arith, list-some kept)), list-some kept)
+  pub record-most : (x : Parts) → length (encode (selected x ts vs l)) ≤ mostBytes x (length l)
+  record-most x = omega (arith, record-length x ts vs l, kept-length kept, rest-most (length l - 1) 0 (omega (arith, list-some kept)), list-some kept)
+
+-- with parts that differ too
+pub most-bytes : (x : Parts) (n : ℕ) → mostBytes x n ≤ 21 + 6 * n
+most-bytes x n = omega (arith, tolerance-size x)
 
 -- ---- counted
 
 pub record Counted (ts : List ℕ) (vs : List ℤ) (l : List ℕ) (s : Sample) (total i : ℕ) : Type 0 where
   pub within : i < length l
   pub sample : SampleAt ts vs l i s
-  pub small : total ≤ 16 + 9 * i
-  pub is : (r : Ratio) → length (encode (selected r ts vs l)) ≡ total + length (restOf (keptTicks ts l) (keptValues vs l) i)
+  pub small : total ≤ 6 * i
+  pub is : length (restOf (keptTicks ts l) (keptValues vs l) 0) ≡ total + length (restOf (keptTicks ts l) (keptValues vs l) i)
   pub range : (k : ℕ) → k < i + 1 → mag (value (keptValues vs l) k) < 32768
 
 module _ {ts : List ℕ} {vs : List ℤ} {l : List ℕ} (kept : Kept ts vs l) where
-  pub count-begins : {s : Sample} → SampleAt ts vs l 0 s → Counted ts vs l s 16 0
+  pub count-begins : {s : Sample} → SampleAt ts vs l 0 s → Counted ts vs l s 0 0
   count-begins p = record {
     within = list-some kept;
     sample = p;
     small = omega arith;
-    is = λ r. record-length kept r p;
+    is = omega arith;
     range = below-more _ _ (λ k h. absurd (omega arith)) (p .level-is .range);
   }
 
-  pub counts : {s : Sample} {total i : ℕ} → Counted ts vs l s total i → i + 1 < length l → {m : Move} → MoveFrom ts vs l i m → {k : ℕ} → k ≡ sizeOf (m .step) → k ≤ 9
-      → Counted ts vs l (m .to) (total + k) (i + 1)
-  counts {i = i} c h m e small = record {
+  pub counts : {s : Sample} {total i : ℕ} → Counted ts vs l s total i → i + 1 < length l → {b : Sample} → SampleAt ts vs l (i + 1) b → {k : ℕ} → k ≡ sizeOf (stepFrom s b) → k ≤ 6
+      → Counted ts vs l b (total + k) (i + 1)
+  counts c h q e small = record {
     within = h;
-    sample = m .to-is;
+    sample = q;
     small = omega (arith, c .small);
-    is = λ r. c .is r ∙ omega (arith, step-length kept i h (m .step-is));
-    range = below-more _ _ (c .range) (m .to-is .level-is .range);
+    is = c .is ∙ omega (arith, step-length kept h (c .sample) q);
+    range = below-more _ _ (c .range) (q .level-is .range);
   }
 
-  -- counted from the first step on
-  pub counts-at : {s : Sample} (at : ℕ) {i : ℕ} → Counted ts vs l s (16 + at) i → i + 1 < length l → {m : Move} → MoveFrom ts vs l i m → {k : ℕ} → k ≡ sizeOf (m .step) → k ≤ 9
-      → Counted ts vs l (m .to) (16 + (at + k)) (i + 1)
-  counts-at at {i = i} c h {m = mv} m {k} e small =
-      let a : 16 + at + k ≡ 16 + (at + k) = omega arith in
-      subst (λ (t : ℕ). Counted ts vs l (mv .to) t (i + 1)) a (counts c h m e small)
-
-  pub count-ends : {s : Sample} {total i : ℕ} → Counted ts vs l s total i → length l ≤ i + 1 → LengthOf ts vs l (total + 3)
+  pub count-ends : {s : Sample} {total i : ℕ} → Counted ts vs l s total i → length l ≤ i + 1 → RestLength ts vs l (total + 3)
   count-ends {i = i} c h = record {
-    is = λ r. omega (arith, c .is r, end-length kept i h);
+    is = omega (arith, c .is, end-length kept i h);
     range = λ k. elim (decLe (suc k) (i + 1)) [
       | yes q ↦ c .range k q
       | no q ↦ rw (List·getD-eq-default (keptValues vs l) (pos 0) {n = k} (omega (arith, select-length (pos 0) vs l))) (omega arith)
     ];
   }
-
-  pub count-ends-at : {s : Sample} (at : ℕ) {i : ℕ} → Counted ts vs l s (16 + at) i → length l ≤ i + 1 → LengthOf ts vs l (16 + (at + 3))
-  count-ends-at at c h =
-      let a : 16 + at + 3 ≡ 16 + (at + 3) = omega arith in
-      subst (LengthOf ts vs l) a (count-ends c h)
 
 -- ---- written
 
@@ -186,21 +197,21 @@ module _ {ts : List ℕ} {vs : List ℤ} {l : List ℕ} (kept : Kept ts vs l) wh
     pub same-long : length part ≡ length o
     same-long = ap length (g .over) ∙ overwrite-length w o (omega (arith, g .room, g .long, total))
 
-    -- there is room for the next step
-    pub step-room : i + 1 < length l → {m : Move} → MoveFrom ts vs l i m → at + sizeOf (m .step) ≤ length part
-    step-room h m = omega (arith, same-long, g .room, total, step-length kept i h (m .step-is))
+    module _ (h : i + 1 < length l) {b : Sample} (q : SampleAt ts vs l (i + 1) b) where
+      -- there is room for the next step
+      pub step-room : at + sizeOf (stepFrom s b) ≤ length part
+      step-room = omega (arith, same-long, g .room, total, step-length kept h (g .sample) q)
 
-    pub puts : i + 1 < length l → {m : Move} → MoveFrom ts vs l i m → {k : ℕ} → k ≡ sizeOf (m .step)
-        → {ys : List ℕ} → ys ≡ overwrite (commandOnto (m .step) []) (take (length part - at) (drop at part))
-        → Putting ts vs l o (putMid at (length part - at) part ys) (m .to) (at + k) (i + 1) (w ++ commandOnto (m .step) [])
-    puts h {m = mv} m e {ys} y = record {
-      within = h;
-      sample = m .to-is;
-      rest = g .rest ∙ ap (λ (x : List ℕ). w ++ x) (step-bytes kept i h (m .step-is)) ∙ sym (append-assoc w (commandOnto (mv .step) []) (restOf (keptTicks ts l) (keptValues vs l) (i + 1)));
-      over = written-part part o w (commandOnto (mv .step) []) ys at (g .over) (g .long) y;
-      long = length-append w (commandOnto (mv .step) []) ∙ omega (arith, g .long, command-length (mv .step) []);
-      room = g .room;
-    }
+      pub puts : {k : ℕ} → k ≡ sizeOf (stepFrom s b) → {ys : List ℕ} → ys ≡ overwrite (commandOnto (stepFrom s b) []) (take (length part - at) (drop at part))
+          → Putting ts vs l o (putMid at (length part - at) part ys) b (at + k) (i + 1) (w ++ commandOnto (stepFrom s b) [])
+      puts e {ys} y = record {
+        within = h;
+        sample = q;
+        rest = g .rest ∙ ap (λ (x : List ℕ). w ++ x) (step-bytes kept h (g .sample) q) ∙ sym (append-assoc w (commandOnto (stepFrom s b) []) (restOf (keptTicks ts l) (keptValues vs l) (i + 1)));
+        over = written-part part o w (commandOnto (stepFrom s b) []) ys at (g .over) (g .long) y;
+        long = length-append w (commandOnto (stepFrom s b) []) ∙ omega (arith, g .long, command-length (stepFrom s b) []);
+        room = g .room;
+      }
 
     -- and for the end
     pub end-room : length l ≤ i + 1 → at + 3 ≤ length part

@@ -94,13 +94,14 @@ impl Arguments {
 
     /// The option's value, which is empty for a flag, if the option is given.
     pub fn value(&self, name: &str) -> Option<&OsStr> {
-        self.values(name).first().copied()
+        self.all(&[name]).first().map(|&(_, value)| value)
     }
 
-    /// Each value of an option that may be given several times, in the order given.
-    pub fn values(&self, name: &str) -> Vec<&OsStr> {
-        let found = self.options.iter().filter(|(option, _)| *option == name);
-        found.map(|(_, value)| value.as_os_str()).collect()
+    /// Each of these options that is given, in the order given: its name and its value.
+    pub fn all(&self, names: &[&str]) -> Vec<(&'static str, &OsStr)> {
+        let found = self.options.iter();
+        let found = found.filter(|(option, _)| names.contains(option));
+        found.map(|(name, value)| (*name, &value[..])).collect()
     }
 }
 
@@ -171,8 +172,12 @@ mod tests {
         let from = parse(&["--from", "-5"]).unwrap();
         assert_eq!(from.value("from"), Some(OsStr::new("-5")));
         let several = parse(&["-l1", "in", "--level", "3", "-t2", "--level=1"]).unwrap();
-        assert_eq!(several.values("level"), ["1", "3", "1"]);
-        assert!(several.values("from").is_empty());
+        let level = |value| ("level", OsStr::new(value));
+        assert_eq!(several.all(&["level"]), ["1", "3", "1"].map(level));
+        let of_both = several.all(&["level", "tolerance", "from"]);
+        let tolerance = ("tolerance", OsStr::new("2"));
+        assert_eq!(of_both, [level("1"), level("3"), tolerance, level("1")]);
+        assert!(several.all(&["from"]).is_empty());
         let empty = parse(&["--output=", ""]).unwrap();
         assert_eq!(empty.value("output"), Some(OsStr::new("")));
         assert_eq!(empty.operands, [""]);

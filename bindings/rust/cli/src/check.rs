@@ -9,7 +9,7 @@ use crate::source::Source;
 use crate::stray::{crosses, lies};
 use crate::text::Text;
 use crate::{help, output};
-use kovrelna::{judge, Ratio, Side, Tolerance, Verdict};
+use kovrelna::{judge, Side, Verdict};
 use std::ffi::OsString;
 
 pub fn check(arguments: &[OsString]) -> Result<Status, Failure> {
@@ -41,12 +41,8 @@ fn fault(record: &Record, trace: &Text, gap: Option<u32>) -> Result<Option<OsStr
         Ok(list) => list,
         Err(fault) => return Ok(Some(fault)),
     };
-    let Ratio { p, q } = record.tolerance;
-    let limits = Limits {
-        tolerance: Tolerance::Ratio { p, q },
-        held: record.tolerance,
-        gap,
-    };
+    let held = record.tolerance;
+    let limits = Limits { held, gap };
     let verdict = judge(&trace.ticks, &trace.values, &list, limits);
     let verdict = verdict.map_err(|refusal| trace.refused(refusal))?;
     let Verdict::Outside { link, measure } = verdict else {
@@ -57,7 +53,10 @@ fn fault(record: &Record, trace: &Text, gap: Option<u32>) -> Result<Option<OsStr
     let ends = format!("{} to {}", end(list[link]), end(list[link + 1]));
     let cause = match measure.side {
         Side::Gap => crosses(&trace.ticks, measure),
-        _ => format!("is not within {p}/{q}: {}", lies(&trace.ticks, measure)),
+        _ => {
+            let lies = lies(&trace.ticks, measure, held);
+            format!("is not within {held}: {lies}")
+        }
     };
     Ok(Some(joined(&[
         &format!("link {link}, from {ends} of "),

@@ -2,7 +2,9 @@
 
 use crate::failure::{Failure, Status};
 use crate::line::{each, Kept, Line, METHODS};
-use crate::line::{ALLOWANCE, BUDGET, GAP, LIST, LIST_FILE, METHOD, OUTPUT, TOLERANCE};
+use crate::line::{
+    ABOVE, ALLOWANCE, BELOW, BUDGET, GAP, LIST, LIST_FILE, METHOD, OUTPUT, TOLERANCE,
+};
 use crate::name::{joined, placed};
 use crate::records;
 use crate::source::Source;
@@ -42,7 +44,7 @@ pub fn find(name: &str) -> Option<Command> {
 }
 
 fn record(arguments: &[OsString]) -> Result<Status, Failure> {
-    let options = [TOLERANCE, GAP, METHOD, OUTPUT, BUDGET];
+    let options = [TOLERANCE, ABOVE, BELOW, GAP, METHOD, OUTPUT, BUDGET];
     let line = Line::parse("record", &options, arguments)?;
     if line.arguments.help {
         return output::print(help::RECORD);
@@ -79,15 +81,15 @@ fn show(arguments: &[OsString]) -> Result<Status, Failure> {
             _ => joined(&[&"# ", &source.name, &"\n"]),
         };
         let record = records::load(source)?;
-        let Ratio { p, q } = record.tolerance;
-        text.push(format!("# tolerance {p}/{q}\n"));
+        text.push(format!("# tolerance {}\n", record.tolerance));
         text.push(text::lines(&record.ticks, &record.values));
         Ok(text)
     })
 }
 
 fn judge(arguments: &[OsString]) -> Result<Status, Failure> {
-    let line = Line::parse("judge", &[TOLERANCE, GAP, LIST, LIST_FILE], arguments)?;
+    let options = [TOLERANCE, ABOVE, BELOW, GAP, LIST, LIST_FILE];
+    let line = Line::parse("judge", &options, arguments)?;
     if line.arguments.help {
         return output::print(help::JUDGE);
     }
@@ -108,7 +110,7 @@ fn judge(arguments: &[OsString]) -> Result<Status, Failure> {
             let (from, to) = (list.entries[link], list.entries[link + 1]);
             let cause = match measure.side {
                 Side::Gap => format!("it {}", crosses(&text.ticks, measure)),
-                _ => lies(&text.ticks, measure),
+                _ => lies(&text.ticks, measure, limits.held),
             };
             let link = format!("link {link}, from sample {from} to {to}");
             output::print(format!("no at {link}: {cause}\n"))?;

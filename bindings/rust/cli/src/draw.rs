@@ -1,21 +1,21 @@
 //! The command `draw`.
 
-use crate::budget::{compared, ratio};
 use crate::failure::{Failure, Status};
+use crate::fraction::compared;
 use crate::holes::holes;
-use crate::line::{and_gap, Kept, Line, FROM, GAP, METHOD, OUTPUT, TO, TOLERANCE};
+use crate::line::{and_gap, Kept, Line};
+use crate::line::{ABOVE, BELOW, FROM, GAP, METHOD, OUTPUT, TO, TOLERANCE};
 use crate::measure::measures;
 use crate::name::{placed, shown};
 use crate::source::Source;
 use crate::svg::{self, Picture, Worst};
 use crate::text::Text;
-use crate::{help, output, records};
-use kovrelna::Ratio;
+use crate::{budget, help, output, records};
 use std::ffi::OsString;
 use std::path::Path;
 
 pub fn draw(arguments: &[OsString]) -> Result<Status, Failure> {
-    let options = [TOLERANCE, GAP, METHOD, OUTPUT, FROM, TO];
+    let options = [TOLERANCE, ABOVE, BELOW, GAP, METHOD, OUTPUT, FROM, TO];
     let line = Line::parse("draw", &options, arguments)?;
     if line.arguments.help {
         return output::print(help::DRAW);
@@ -36,8 +36,7 @@ pub fn draw(arguments: &[OsString]) -> Result<Status, Failure> {
         Some(name) if name != "-" => format!(": {}", shown(name).to_string_lossy()),
         _ => String::new(),
     };
-    let Ratio { p, q } = picture.tolerance;
-    let (tolerance, gap) = (ratio(p, q), and_gap(line.gap()?));
+    let (tolerance, gap) = (budget::words(picture.tolerance), and_gap(line.gap()?));
     let title = format!("{counts}, tolerance {tolerance}{gap}{ticks}{name}");
     let svg = svg::draw(&title, &picture);
     output::write(line.value(OUTPUT), svg.as_bytes(), true)
@@ -69,9 +68,14 @@ pub fn samples(count: usize) -> String {
 /// The lines of a record, and how many samples there are in words.
 fn picture_of_record(line: &Line, source: Source) -> Result<(String, Picture), Failure> {
     let given = |option| line.value(option).is_some();
-    if [TOLERANCE, GAP, METHOD].into_iter().any(given) {
-        let cause =
-            "a record, with its own tolerance: --tolerance, --gap and --method do not apply";
+    let options = [TOLERANCE, ABOVE, BELOW, GAP, METHOD];
+    if options.into_iter().any(given) {
+        let tolerance = match given(ABOVE) || given(BELOW) {
+            true => "--above, --below",
+            false => "--tolerance",
+        };
+        let cause = "a record, with its own tolerance";
+        let cause = format!("{cause}: {tolerance}, --gap and --method do not apply");
         return Err(line.wrong(placed(&source.name, cause)));
     }
     let record = records::load(source)?;

@@ -33,7 +33,10 @@ so are blank lines and a heading of words. A trace has 1 to 4,096 samples;
 ticks rise; the last is at most 1,048,575 above the first.
 
 A tolerance is p/q (2/3), counts (2 or 1.5, in steps of 1/64), or a channel's
-noise and the multiple wanted (3.25x4).
+noise and the multiple wanted (3.25x4). --above U --below D, in place of
+--tolerance T, give it two parts, each written in one of these ways: a sample
+above its line may be U above it, and one below its line D below it. Where they
+differ, both are printed, U first: 2/1 16/1.
 
 A gap limit (--gap) is from 1 to 1048575 ticks. Two neighbouring samples that
 lie further apart are a hole: no link crosses it but the one between these two.
@@ -51,11 +54,14 @@ pub const RECORD: &str = "\
 Makes a record from a trace: keeps a few samples, so that the straight lines
 between them pass all others within the tolerance.
 
-Usage: kovrelna record -t TOLERANCE [--gap G] [-m METHOD] [-o FILE [-b]]
-                       [INPUT]
+Usage: kovrelna record TOLERANCE [--gap G] [-m METHOD] [-o FILE [-b]] [INPUT]
        kovrelna record [-o FILE [-b]] [INPUT]
 
+TOLERANCE is -t T, or --above U --below D:
+
   -t, --tolerance T   p/q, counts, or noise x multiple: 2/3, 1.5, 3.25x4
+      --above U       the part for samples above their line, written as T is
+      --below D       the part for samples below their line
       --gap G         a link longer than one step crosses no two neighbouring
                       samples more than G ticks apart; default: no limit
   -m, --method M      walk (the default; one pass), gallop, or minimum (as few
@@ -67,9 +73,10 @@ Usage: kovrelna record -t TOLERANCE [--gap G] [-m METHOD] [-o FILE [-b]]
   -b, --budget        print what an error budget may say of the record: the
                       tolerance, and a paragraph to copy
 
-Without a tolerance, INPUT has a line `# tolerance p/q` before its samples, as
-`kovrelna show` prints it, and every sample is kept: show and record without
-options give the same record again. With a tolerance such a line is refused:
+Without a tolerance, INPUT has a line `# tolerance p/q`, or `# tolerance U D`
+with two ratios, before its samples, as `kovrelna show` prints it, and every
+sample is kept: show and record without options give the same record again.
+Two equal ratios are taken as one. With a tolerance such a line is refused:
 samples reduced at one tolerance and again at another are within the sum of
 both only.
 
@@ -77,9 +84,10 @@ Exit status: 0 done, 2 error.
 ";
 
 pub const SHOW: &str = "\
-Prints records as text: a line `# tolerance p/q`, then each sample's tick and
-value, with a comma between. Before each of several records is a line with its
-name. `kovrelna record` reads the text of one record back.
+Prints records as text: a line `# tolerance p/q`, or `# tolerance U D` with two
+ratios where the tolerance has two parts, then each sample's tick and value,
+with a comma between. Before each of several records is a line with its name.
+`kovrelna record` reads the text of one record back.
 
 Usage: kovrelna show [FILE..]
 
@@ -103,10 +111,25 @@ every sample is within the tolerance. Samples and links are counted from 0; the
 list begins with 0, rises, and ends with the last one. INPUT is the original
 trace: samples with a line `# tolerance p/q` are refused.
 
-Usage: kovrelna judge -t TOLERANCE [--gap G] -l LIST [INPUT]
-       kovrelna judge -t TOLERANCE [--gap G] -f FILE [INPUT]
+Where the tolerance has two parts, the sample that is farthest from the line
+may lie within its own part. It is named all the same, and a sample on the
+other side is what makes the link invalid. CAUSE is then one of
+
+  sample K at tick T lies p/q above the line, within U; another lies more
+  than D below it
+  sample K at tick T lies p/q below the line, within D; another lies more
+  than U above it
+
+each in one line.
+
+Usage: kovrelna judge TOLERANCE [--gap G] -l LIST [INPUT]
+       kovrelna judge TOLERANCE [--gap G] -f FILE [INPUT]
+
+TOLERANCE is -t T, or --above U --below D:
 
   -t, --tolerance T     p/q, counts, or noise x multiple: 2/3, 1.5, 3.25x4
+      --above U         the part for samples above their line, written as T is
+      --below D         the part for samples below their line
       --gap G           a link longer than one step crosses no two neighbouring
                         samples more than G ticks apart; default: no limit
   -l, --list LIST       samples, with commas between: 0,3,4
@@ -119,12 +142,13 @@ Exit status: 0 yes, 1 no, 2 error.
 pub const CHECK: &str = "\
 Says whether a record may stand for a trace, before the trace is erased: its
 samples are samples of the trace, with the same values, the first and the last
-among them, and every link is valid at the record's own tolerance. No record
-has a gap limit: --gap asks for one here. Prints `yes`, or `no: RECORD: cause`
-with the first sample or link that is wrong, and where the link strays, as
-`kovrelna judge` does. Samples and links are counted from 0. TRACE is the
-original trace as text: samples with a line `# tolerance p/q` are refused. One
-of the two may be - for standard input.
+among them, and every link is valid at the record's own tolerance, with both
+its parts. No record has a gap limit: --gap asks for one here. Prints `yes`, or
+`no: RECORD: cause` with the first sample or link that is wrong, and where the
+link strays, as `kovrelna judge` does, whose help says what it means that the
+sample lies within its own part. Samples and links are counted from 0. TRACE is
+the original trace as text: samples with a line `# tolerance p/q` are refused.
+One of the two may be - for standard input.
 
 Usage: kovrelna check [--gap G] RECORD TRACE
 
@@ -137,8 +161,8 @@ one of them cannot be read).
 
 pub const SAME: &str = "\
 Says whether two records are the same: their samples agree, and so do their
-tolerances. That is so exactly if their bytes agree. Prints `yes`, or a line
-with what differs,
+tolerances, with both parts. That is so exactly if their bytes agree. Prints
+`yes`, or a line with what differs,
 
   no: the samples differ
   no: the tolerances differ
@@ -197,13 +221,18 @@ trace, under a heading, its samples, how many of them walk, gallop and minimum
 keep at the tolerance, how many minimum keeps at half of it, and the file; for
 several traces also the total. No list within the tolerance has fewer samples
 than minimum's, and walk and gallop keep at most as many as minimum at half the
-tolerance; with a gap limit this is said of lists that obey it. Half of p/q is
-p over 2q; where no denominator so great is allowed, `-` stands in its place.
-Samples with a line `# tolerance p/q` are refused.
+tolerance; with a gap limit this is said of lists that obey it. Of a tolerance
+with two parts, half is half of the smaller part, on either side of the lines.
+Half of p/q is p over 2q; where no denominator so great is allowed, `-` stands
+in its place. Samples with a line `# tolerance p/q` are refused.
 
-Usage: kovrelna near -t TOLERANCE [--gap G] [FILE..]
+Usage: kovrelna near TOLERANCE [--gap G] [FILE..]
+
+TOLERANCE is -t T, or --above U --below D:
 
   -t, --tolerance T   p/q, counts, or noise x multiple: 2/3, 1.5, 3.25x4
+      --above U       the part for samples above their line, written as T is
+      --below D       the part for samples below their line
       --gap G         a link longer than one step crosses no two neighbouring
                       samples more than G ticks apart; default: no limit
 
@@ -224,9 +253,13 @@ s (2 floor(log2(n - 1)) + 1), and at most 2 (n - 1) - s, which is reached
 exactly where no stop advances by more than 2 samples. One sample takes no
 probe. Samples with a line `# tolerance p/q` are refused.
 
-Usage: kovrelna probes -t TOLERANCE [--gap G] [FILE..]
+Usage: kovrelna probes TOLERANCE [--gap G] [FILE..]
+
+TOLERANCE is -t T, or --above U --below D:
 
   -t, --tolerance T   p/q, counts, or noise x multiple: 2/3, 1.5, 3.25x4
+      --above U       the part for samples above their line, written as T is
+      --below D       the part for samples below their line
       --gap G         a link longer than one step crosses no two neighbouring
                       samples more than G ticks apart; default: no limit
 
@@ -240,28 +273,33 @@ Scans a trace at 1 to 16 tolerances in one pass: prints, under a heading, a
 line for each in the order given, with the tolerance, how many samples walk
 keeps at it, and the bytes of the record of these. Tolerances may repeat.
 
-Usage: kovrelna scan -t TOLERANCE [-t TOLERANCE].. [--gap G] [--csv] [INPUT]
-       kovrelna scan -t TOLERANCE [-t TOLERANCE].. [--gap G] --draw [-o FILE]
-                     [INPUT]
+Usage: kovrelna scan TOLERANCE.. [--gap G] [--csv] [INPUT]
+       kovrelna scan TOLERANCE.. [--gap G] --draw [-o FILE] [INPUT]
 
-  -t, --tolerance T   p/q, counts, or noise x multiple: 2/3, 1.5, 3.25x4; up to
-                      16 times
+TOLERANCE is -t T, or --above U --below D, which follow one another:
+
+  -t, --tolerance T   p/q, counts, or noise x multiple: 2/3, 1.5, 3.25x4
+      --above U       the part for samples above their line, written as T is
+      --below D       the part for samples below their line
       --gap G         a link longer than one step crosses no two neighbouring
                       samples more than G ticks apart; default: no limit
       --csv           print CSV for a spreadsheet, with two columns for a
-                      tolerance, one for the bound and, if it is given, a last
-                      one for the gap limit
+                      tolerance, one for the bound and, at the end, one for the
+                      gap limit, if it is given; where a tolerance has two
+                      parts, the two columns are for U and two more at the end
+                      for D
       --draw          draw the kept numbers by tolerance as SVG instead, with
-                      the bound of each
+                      the bound of each; no tolerance may have two parts that
+                      differ, as its place on the axis is one number
   -o, --output FILE   write the picture to FILE instead of standard output (-),
                       as `kovrelna draw` does
 
-The bound is how many samples minimum keeps at half the tolerance under the
-same gap limit: walk never keeps more. Half of p/q is p over 2q; where no
-denominator so great is allowed, there is no bound, and the picture says so. It
-has each tolerance once, and an axis whose numbers are far apart is
-logarithmic. INPUT is the original trace: samples with a line `# tolerance p/q`
-are refused.
+The bound is how many samples minimum keeps at half the tolerance, or half of
+its smaller part, under the same gap limit: walk never keeps more. Half of p/q
+is p over 2q; where no denominator so great is allowed, there is no bound, and
+the picture says so. It has each tolerance once, and an axis whose numbers are
+far apart is logarithmic. INPUT is the original trace: samples with a line
+`# tolerance p/q` are refused.
 
 Exit status: 0 done, 2 error.
 ";
@@ -305,22 +343,30 @@ and the joined list has the samples that either list has. Prints
   samples N                     how many samples the summed trace has
   kept K, joined from I and J   of these, how many the joined list has, and how
                                 many the lists of A and B have
-  tolerance p/q                 2 (T1 + T2)
+  tolerance p/q                 2 (T1 + T2), or U1 + D1 + U2 + D2
   error p/q                     how far the samples are from the lines between
                                 the joined ones at most
 
 Of any two traces, the error is at most 2 (T1 + T2) and the joined list obeys
 the gap limit, so that its record may have the tolerance 2 (T1 + T2). The error
-may be above T1 + T2. Where the denominator of 2 (T1 + T2) is above 1,048,575,
-the record has the least allowed tolerance above it; where it is above 65,535,
-the record has 65535/1, as no error is more. The line then ends with `in place
-of`, 2 (T1 + T2) and the cause. Nothing else is rounded.
+may be above T1 + T2. Where a tolerance has two parts, the same is said of all
+four added, U1 + D1 + U2 + D2: it is one tolerance, above the lines and below.
+Where the denominator of 2 (T1 + T2) is above 1,048,575, the record has the
+least allowed tolerance above it; where it is above 65,535, the record has
+65535/1, as no error is more. The line then ends with `in place of`, the exact
+sum and the cause. Nothing else is rounded.
 
-Usage: kovrelna sum -t T1 [--tolerance2 T2] [--gap G] [-m METHOD] [-o FILE]
+Usage: kovrelna sum TOLERANCE [TOLERANCE2] [--gap G] [-m METHOD] [-o FILE]
                     [--trace FILE] A B
 
+TOLERANCE is -t T1, or --above U1 --below D1; TOLERANCE2, for B, is
+--tolerance2 T2, or --above2 U2 --below2 D2; default: that of A.
+
   -t, --tolerance T1    p/q, counts, or noise x multiple: 2/3, 1.5, 3.25x4
-      --tolerance2 T2   the same for B; default: T1
+      --above U1        the part for samples above their line, written as T1 is
+      --below D1        the part for samples below their line
+      --tolerance2 T2, --above2 U2, --below2 D2
+                        the same for B
       --gap G           a link longer than one step crosses no two neighbouring
                         samples more than G ticks apart; default: no limit
   -m, --method M        walk (the default), gallop or minimum
@@ -338,15 +384,16 @@ Exit status: 0 done, 2 error.
 
 pub const SUMMARY: &str = "\
 Prints a line for each record, under a heading, with tabs between: samples,
-span in ticks, tolerance, least and greatest value, bytes, file. The last line
-is the total: samples, spans and bytes added, least and greatest of all values,
-and the tolerance if all records have the same.
+span in ticks, tolerance, least and greatest value, bytes, file. A tolerance
+with two parts has both in its field, U first, with a space between. The last
+line is the total: samples, spans and bytes added, least and greatest of all
+values, and the tolerance if all records have the same.
 
 Usage: kovrelna summary [-b] [FILE..]
 
   -b, --budget   print what an error budget may say of all records: the
-                 greatest tolerance, and a paragraph to copy; nothing if a
-                 record is faulty
+                 greatest tolerance, or the greatest part of each side, and a
+                 paragraph to copy; nothing if a record is faulty
 
 After a faulty record the others are still summarised.
 
@@ -358,17 +405,22 @@ Prints the sheet of a crate of up to 64 channels: a line for each, with its
 samples, how many of them walk keeps at the tolerance, the error of what is
 kept, the worst sample, 0 or the number of a refusal, and the file; then the
 totals, with the largest error. The worst sample is the first whose distance
-from its line is the error, counted from 0 in its channel; where the error is 0
-there is none.
+from its line is the error, above the line or below it alike, counted from 0 in
+its channel; where the error is 0 there is none.
 
-Usage: kovrelna report -t TOLERANCE [--gap G] [--csv] [FILE..]
+Usage: kovrelna report TOLERANCE [--gap G] [--csv] [FILE..]
+
+TOLERANCE is -t T, or --above U --below D:
 
   -t, --tolerance T   p/q, counts, or noise x multiple: 2/3, 1.5, 3.25x4
+      --above U       the part for samples above their line, written as T is
+      --below D       the part for samples below their line
       --gap G         a link longer than one step crosses no two neighbouring
                       samples more than G ticks apart; default: no limit
       --csv           print CSV for a spreadsheet, with two columns for a ratio
-                      and, if it is given, a last one for the gap limit; where
-                      the error is 0, the sample is 0
+                      and, at the end, one for the gap limit, if it is given,
+                      and two for D, if it is not U; where the error is 0, the
+                      sample is 0
 
 Each of several files is the trace of a channel; channels are counted from 0.
 One file may have all of them, with the channel's number (0 to 4294967295) in a
@@ -395,7 +447,9 @@ and limits are rounded to 1/1000 in print alone.
 Usage: kovrelna pedestals -t TOLERANCE -k K [--csv] TODAY YESTERDAY
        kovrelna pedestals -t TOLERANCE -k K --draw [-o FILE] TODAY YESTERDAY
 
-  -t, --tolerance T   p/q, counts, or noise x multiple: 2/3, 1.5, 3.25x4
+  -t, --tolerance T   p/q, counts, or noise x multiple: 2/3, 1.5, 3.25x4; one
+                      for means that rise and fall: there is no --above and no
+                      --below here
   -k, --noise K       so many times yesterday's width is allowed: 1 to 16
       --csv           print CSV for a spreadsheet: in place of what is rounded,
                       the samples, their sum and the sum of their squares
@@ -422,16 +476,21 @@ Exit status: 0 nothing is listed, 1 a channel is listed, 2 error.
 pub const DRAW: &str = "\
 Draws a trace with the lines that are kept of it and their tolerance band, as
 SVG, and below it how far the trace is above or below the lines, in the same
-band. An arrowhead points at the worst sample, the first that is farthest from
-its line, with the exact distance below, unless every sample is on the lines.
-With a gap limit nothing but a line that is kept goes across a hole. Of a
-record, or its text as `kovrelna show` prints it, the lines and the band are
+band. Of a tolerance with two parts the band reaches U above the lines and D
+below them. An arrowhead points at the worst sample, the first that is farthest
+from its line, with the exact distance below, unless every sample is on the
+lines. With a gap limit nothing but a line that is kept goes across a hole. Of
+a record, or its text as `kovrelna show` prints it, the lines and the band are
 drawn at its own tolerance; its holes are not known.
 
-Usage: kovrelna draw -t TOLERANCE [--gap G] [-m METHOD] [OPTION..] [INPUT]
+Usage: kovrelna draw TOLERANCE [--gap G] [-m METHOD] [OPTION..] [INPUT]
        kovrelna draw [OPTION..] [RECORD]
 
+TOLERANCE is -t T, or --above U --below D:
+
   -t, --tolerance T   p/q, counts, or noise x multiple: 2/3, 1.5, 3.25x4
+      --above U       the part for samples above their line, written as T is
+      --below D       the part for samples below their line
       --gap G         a link longer than one step crosses no two neighbouring
                       samples more than G ticks apart; default: no limit
   -m, --method M      walk (the default), gallop or minimum

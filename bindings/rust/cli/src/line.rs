@@ -3,17 +3,25 @@
 
 use crate::args::{Arguments, Known};
 use crate::failure::{Failure, Status};
-use crate::name::{joined, placed, plain, shown};
+use crate::fraction::compared;
+use crate::name::{joined, placed, shown};
 use crate::source::Source;
 use crate::text::{whole, Text};
+use crate::tolerance::both;
 use crate::{output, tolerance};
-use kovrelna::{hold, judge, Ratio, Refusal, Tolerance, GAP_MAX};
+use kovrelna::{hold, judge, Parts, Ratio, Refusal, Tolerance, GAP_MAX};
 use std::ffi::{OsStr, OsString};
 use std::fmt::Display;
 
 pub const TOLERANCE: Known = Known::valued("tolerance", Some('t'));
-pub const TOLERANCES: Known = Known::repeated("tolerance", Some('t'));
+pub const ABOVE: Known = Known::valued("above", None);
+pub const BELOW: Known = Known::valued("below", None);
 pub const TOLERANCE2: Known = Known::valued("tolerance2", None);
+pub const ABOVE2: Known = Known::valued("above2", None);
+pub const BELOW2: Known = Known::valued("below2", None);
+pub const TOLERANCES: Known = Known::repeated("tolerance", Some('t'));
+pub const ABOVES: Known = Known::repeated("above", None);
+pub const BELOWS: Known = Known::repeated("below", None);
 pub const GAP: Known = Known::valued("gap", None);
 pub const METHOD: Known = Known::valued("method", Some('m'));
 pub const OUTPUT: Known = Known::valued("output", Some('o'));
@@ -56,39 +64,88 @@ impl Line {
     /// An option's value as text.
     pub fn text(&self, option: Known) -> Result<Option<&str>, Failure> {
         let value = self.value(option);
-        value.map(|value| self.as_text(option, value)).transpose()
+        let text = value.map(|value| self.as_text(option.name, value));
+        text.transpose()
     }
 
-    /// This value of an option as text.
-    fn as_text<'a>(&self, option: Known, value: &'a OsStr) -> Result<&'a str, Failure> {
+    /// This value of the option with this name as text.
+    fn as_text<'a>(&self, name: &str, value: &'a OsStr) -> Result<&'a str, Failure> {
         value.to_str().ok_or_else(|| {
-            let place = format!("--{}: ", option.name);
+            let place = format!("--{name}: ");
             self.wrong(joined(&[&place, &shown(value), &" is no text"]))
         })
     }
 
-    /// An option's value as a tolerance, and the ratio it is held as.
-    pub fn tolerance(&self, option: Known) -> Result<Option<(Tolerance, Ratio)>, Failure> {
+    /// An option's value as a tolerance or a part of one: the ratio as which it is held.
+    fn ratio(&self, option: Known) -> Result<Option<Ratio>, Failure> {
         let Some(text) = self.text(option)? else {
             return Ok(None);
         };
         match tolerance::parse(text) {
-            Ok(tolerance) => Ok(Some(tolerance)),
+            Ok(ratio) => Ok(Some(ratio)),
             Err(cause) => Err(self.wrong(format!("--{}: {cause}", option.name))),
         }
     }
 
-    /// Each tolerance of a command that takes several, and the ratio it is held as, in the order given.
-    pub fn tolerances(&self) -> Result<Vec<(Tolerance, Ratio)>, Failure> {
-        let tolerance = |(position, value): (usize, &OsStr)| {
-            let text = self.as_text(TOLERANCES, value)?;
-            tolerance::parse(text).map_err(|cause| {
-                let place = format!("--tolerance {}, at position {position}", plain(text));
-                self.wrong(placed(place, cause))
-            })
+    /// A tolerance as it is held, by the option for both parts, or by that for the part above and that for
+    /// the part below.
+    pub fn tolerance(&self, options: [Known; 3]) -> Result<Option<Parts>, Failure> {
+        let [option, above, below] = options.map(|option| option.name);
+        let [one, part_above, part_below] = options.map(|option| self.ratio(option));
+        let cause = match (one?, part_above?, part_below?) {
+            (None, None, None) => return Ok(None),
+            (Some(one), None, None) => return Ok(Some(both(one))),
+            (None, Some(above), Some(below)) => return Ok(Some(Parts { above, below })),
+            (None, Some(_), None) => format!("--{above} needs --{below}"),
+            (None, None, Some(_)) => format!("--{below} needs --{above}"),
+            (Some(_), ..) => {
+                format!("--{option} has both parts: --{above} and --{below} do not go with it")
+            }
         };
-        let values = self.arguments.values(TOLERANCES.name);
-        values.into_iter().enumerate().map(tolerance).collect()
+        Err(self.wrong(cause))
+    }
+
+    /// Each tolerance of a command that takes several, as it is held, in the order given: by the option for
+    /// both parts, or by those for the part above and the part below, which follow one another.
+    pub fn tolerances(&self) -> Result<Vec<Parts>, Failure> {
+        let names = [TOLERANCES, ABOVES, BELOWS].map(|option| option.name);
+        let mut options = self.arguments.all(&names).into_iter();
+        let mut tolerances = Vec::new();
+        while let Some(option) = options.next() {
+            let position = tolerances.len();
+            let one = self.ratio_at(position, option)?;
+            let mut followed_by = |Known { name, .. }| match options.next() {
+                Some(next) if next.0 == name => self.ratio_at(position, next),
+                _ => Err(self.wrong_at(position, option, &format!("--{name} must follow it"))),
+            };
+            tolerances.push(if option.0 == ABOVES.name {
+                Parts {
+                    above: one,
+                    below: followed_by(BELOWS)?,
+                }
+            } else if option.0 == BELOWS.name {
+                Parts {
+                    above: followed_by(ABOVES)?,
+                    below: one,
+                }
+            } else {
+                both(one)
+            });
+        }
+        Ok(tolerances)
+    }
+
+    /// What this option, by its name and its value, gives for the tolerance at this position: the ratio as
+    /// which it is held.
+    fn ratio_at(&self, position: usize, option: (&str, &OsStr)) -> Result<Ratio, Failure> {
+        let text = self.as_text(option.0, option.1)?;
+        tolerance::parse(text).map_err(|cause| self.wrong_at(position, option, &cause))
+    }
+
+    /// The option is wrong, at this position.
+    fn wrong_at(&self, position: usize, (name, value): (&str, &OsStr), cause: &str) -> Failure {
+        let (option, at) = (format!("--{name} "), format!(", at position {position}"));
+        self.wrong(placed(joined(&[&option, &shown(value), &at]), cause))
     }
 
     /// The gap limit, if one is given.
@@ -107,14 +164,10 @@ impl Line {
 
     /// The tolerance, and the gap limit with it.
     fn limits(&self) -> Result<Option<Limits>, Failure> {
-        match (self.tolerance(TOLERANCE)?, self.gap()?) {
+        match (self.tolerance([TOLERANCE, ABOVE, BELOW])?, self.gap()?) {
             (None, None) => Ok(None),
             (None, Some(_)) => Err(self.wrong("--gap needs --tolerance")),
-            (Some((tolerance, held)), gap) => Ok(Some(Limits {
-                tolerance,
-                held,
-                gap,
-            })),
+            (Some(held), gap) => Ok(Some(Limits { held, gap })),
         }
     }
 
@@ -210,29 +263,29 @@ pub fn each(
 /// What a link is asked to meet.
 #[derive(Clone, Copy)]
 pub struct Limits {
-    pub tolerance: Tolerance,
-    /// The ratio as which the tolerance is held.
-    pub held: Ratio,
+    /// The parts as which the tolerance is held.
+    pub held: Parts,
     /// The gap limit, if one is given.
     pub gap: Option<u32>,
 }
 
 impl Limits {
-    /// Half the tolerance under the same gap limit, if half of it is an allowed tolerance.
+    /// Half the smaller part of the tolerance, above and below alike, under the same gap limit, if it is an
+    /// allowed tolerance. Walk and gallop keep no more samples than minimum keeps there.
     pub fn half(self) -> Option<Limits> {
         let Ratio { p, q } = half(self.held);
-        let tolerance = Tolerance::Ratio { p, q };
-        let held = hold(tolerance).ok()?;
-        Some(Limits {
-            tolerance,
-            held,
-            ..self
-        })
+        let held = hold(Tolerance::Ratio { p, q }).ok()?;
+        Some(Limits { held, ..self })
     }
 }
 
-/// Half of p/q, which is in lowest terms: p over 2q in lowest terms. It need not be an allowed tolerance.
-pub fn half(Ratio { p, q }: Ratio) -> Ratio {
+/// Half of the smaller part, in lowest terms: of p/q, p over 2q. It need not be an allowed tolerance.
+pub fn half(Parts { above, below }: Parts) -> Ratio {
+    let Ratio { p, q } = if compared(&above, &below).is_le() {
+        above
+    } else {
+        below
+    };
     match p % 2 {
         0 => Ratio { p: p / 2, q },
         _ => Ratio { p, q: 2 * q },
@@ -240,8 +293,8 @@ pub fn half(Ratio { p, q }: Ratio) -> Ratio {
 }
 
 impl From<Limits> for kovrelna::Limits {
-    fn from(Limits { tolerance, gap, .. }: Limits) -> kovrelna::Limits {
-        tolerance.with_gap(gap.unwrap_or(GAP_MAX))
+    fn from(Limits { held, gap }: Limits) -> kovrelna::Limits {
+        Tolerance::from(held).with_gap(gap.unwrap_or(GAP_MAX))
     }
 }
 
@@ -307,9 +360,9 @@ impl Kept {
     pub fn of(text: &Text, reduction: Option<(Method, Limits)>) -> Result<Option<Kept>, Failure> {
         Ok(Some(match (reduction, text.tolerance()?) {
             (None, None) => return Ok(None),
-            (Some(_), Some((_, Ratio { p, q }))) => {
+            (Some(_), Some(held)) => {
                 let cause = "samples are reduced already at";
-                let cause = format!("{cause} {p}/{q}: tolerances would add");
+                let cause = format!("{cause} {held}: tolerances would add");
                 return Err(text.at_tolerance(&cause));
             }
             (Some((method, limits)), None) => Kept {
@@ -317,15 +370,11 @@ impl Kept {
                 limits,
                 method: Some(method.name),
             },
-            (None, Some((tolerance, held))) => {
+            (None, Some(held)) => {
                 text.must_be_a_trace()?;
                 Kept {
                     list: text.every_sample(),
-                    limits: Limits {
-                        tolerance,
-                        held,
-                        gap: None,
-                    },
+                    limits: Limits { held, gap: None },
                     method: None,
                 }
             }

@@ -4,6 +4,7 @@
 //! - `help`: what `--help` and `--version` print.
 //! - `failure`: why the tool stops, and its exit status.
 //! - `number`: decimal numbers, exactly as they are written.
+//! - `fraction`: exact sums of tolerances.
 //! - `tolerance`: a tolerance as it is written on the command line.
 //! - `name`: names of files in what is printed.
 //! - `source`: files and standard input.
@@ -49,6 +50,7 @@ mod draw;
 #[allow(unsafe_code)]
 mod ending;
 mod failure;
+mod fraction;
 mod help;
 mod holes;
 mod kept;

@@ -1,13 +1,13 @@
 //! The command `near`: how near the lists of walk and gallop are to the shortest.
 
 use crate::failure::{Failure, Status};
-use crate::line::{and_gap, half, Limits, Line, Method, GAP, METHODS, TOLERANCE};
+use crate::line::{and_gap, half, ratio, Limits, Line, Method};
+use crate::line::{ABOVE, BELOW, GAP, METHODS, TOLERANCE};
 use crate::{counts, help, output};
-use kovrelna::Ratio;
 use std::ffi::OsString;
 
 pub fn near(arguments: &[OsString]) -> Result<Status, Failure> {
-    let line = Line::parse("near", &[TOLERANCE, GAP], arguments)?;
+    let line = Line::parse("near", &[TOLERANCE, ABOVE, BELOW, GAP], arguments)?;
     if line.arguments.help {
         return output::print(help::NEAR);
     }
@@ -28,20 +28,22 @@ pub fn near(arguments: &[OsString]) -> Result<Status, Failure> {
         ])
     })?;
     if at_half.is_none() {
-        let Ratio { p, q } = half(limits.held);
+        let half = ratio(half(limits.held));
         let cause = "is no tolerance: its denominator is above 1,048,575";
-        output::print(format!("# {p}/{q} {cause}\n"))?;
+        output::print(format!("# {half} {cause}\n"))?;
     }
     Ok(status)
 }
 
 /// What the columns mean, and their names.
-fn heading(Limits { held, gap, .. }: Limits) -> String {
-    let Ratio { p, q } = held;
-    let (half, gap) = (half(held), and_gap(gap));
+fn heading(Limits { held, gap }: Limits) -> String {
+    let (half, gap) = (ratio(half(held)), and_gap(gap));
+    let of = match held.one() {
+        Some(_) => "",
+        None => ", half of the smaller part",
+    };
     format!(
-        "# samples kept at {p}/{q}{gap}; half: by minimum at {}/{}\n\
-         samples    walk  gallop minimum    half  file\n",
-        half.p, half.q
+        "# samples kept at {held}{gap}; half: by minimum at {half}{of}\n\
+         samples    walk  gallop minimum    half  file\n"
     )
 }

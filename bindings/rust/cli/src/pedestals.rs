@@ -4,11 +4,12 @@
 use crate::channels::Traces;
 use crate::failure::{Failure, Status};
 use crate::levels::{self, Levels};
-use crate::line::{ratio, Line, CSV, DRAW, NOISE, OUTPUT, TOLERANCE};
+use crate::line::{ratio, Line, ABOVE, BELOW, CSV, DRAW, NOISE, OUTPUT, TOLERANCE};
 use crate::name::{joined, shown};
 use crate::runs::{Channel, Run};
 use crate::table::{self, quoted};
 use crate::text::whole;
+use crate::tolerance::both;
 use crate::{budget, help, output, rounded};
 use kovrelna::{Ratio, Refusal, Tolerance};
 use std::ffi::{OsStr, OsString};
@@ -16,15 +17,18 @@ use std::fmt::{self, Display, Formatter};
 use std::path::Path;
 
 pub fn pedestals(arguments: &[OsString]) -> Result<Status, Failure> {
-    let options = [TOLERANCE, NOISE, CSV, DRAW, OUTPUT];
+    let options = [TOLERANCE, ABOVE, BELOW, NOISE, CSV, DRAW, OUTPUT];
     let line = Line::parse("pedestals", &options, arguments)?;
     if line.arguments.help {
         return output::print(help::PEDESTALS);
     }
-    let needed = line.needed_limits()?;
+    let given = |option| line.value(option).is_some();
+    if given(ABOVE) || given(BELOW) {
+        let cause = "pedestals are compared at one tolerance: --above and --below do not apply";
+        return Err(line.wrong(cause));
+    }
     let limits = Limits {
-        tolerance: needed.tolerance,
-        held: needed.held,
+        held: line.needed_limits()?.held.above,
         noise: noise(&line)?,
     };
     let (is_csv, is_drawn) = (line.value(CSV).is_some(), line.value(DRAW).is_some());
@@ -56,7 +60,6 @@ pub fn pedestals(arguments: &[OsString]) -> Result<Status, Failure> {
 
 /// What a channel may do and not be listed.
 struct Limits {
-    tolerance: Tolerance,
     /// The ratio as which the tolerance is held.
     held: Ratio,
     noise: u64,
@@ -141,7 +144,7 @@ fn rows<'a>(today: &'a Run, yesterday: &'a Run, limits: &Limits) -> Result<Vec<R
     let compared = kovrelna::pedestals(
         traces(today).run(),
         traces(yesterday).run(),
-        limits.tolerance,
+        both(limits.held).into(),
         limits.noise,
         &mut moved,
         &mut noisy,
@@ -216,7 +219,7 @@ const COLUMNS: [&str; 9] = [
 /// A line for each listed channel in columns of equal width, if there is one, and the summary.
 fn lines(rows: &[Row], limits: &Limits, summary: &Summary) -> OsString {
     let summary = OsString::from(format!("{summary}\n"));
-    let Limits { held, noise, .. } = limits;
+    let Limits { held, noise } = limits;
     let rows: Vec<&Row> = rows.iter().filter(|row| row.is_listed()).collect();
     if rows.is_empty() {
         return summary;
@@ -289,9 +292,9 @@ fn csv(rows: &[Row], limits: &Limits, summary: &Summary) -> OsString {
 
 /// The picture of both runs, which have these names.
 fn picture(rows: &[Row], limits: &Limits, summary: &Summary, names: [&OsStr; 2]) -> String {
-    let Limits { held, noise, .. } = limits;
+    let Limits { held, noise } = limits;
     let Ratio { p, q } = *held;
-    let tolerance = budget::ratio(p, q);
+    let tolerance = budget::ratio(*held);
     let last = |name: &'_ OsStr| {
         let last = Path::new(name).file_name().unwrap_or(name);
         last.to_string_lossy().into_owned()

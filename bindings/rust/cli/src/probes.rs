@@ -1,13 +1,13 @@
 //! The command `probes`: how many probes gallop takes.
 
 use crate::failure::{Failure, Status};
-use crate::line::{and_gap, ratio, Line, GAP, TOLERANCE};
+use crate::line::{and_gap, Line, ABOVE, BELOW, GAP, TOLERANCE};
 use crate::{counts, help, output};
 use kovrelna::gallop;
 use std::ffi::OsString;
 
 pub fn probes(arguments: &[OsString]) -> Result<Status, Failure> {
-    let line = Line::parse("probes", &[TOLERANCE, GAP], arguments)?;
+    let line = Line::parse("probes", &[TOLERANCE, ABOVE, BELOW, GAP], arguments)?;
     if line.arguments.help {
         return output::print(help::PROBES);
     }
@@ -15,7 +15,7 @@ pub fn probes(arguments: &[OsString]) -> Result<Status, Failure> {
     let inputs = line.inputs()?;
     output::print(format!(
         "# gallop at {}{}\nsamples   stops  probes  file\n",
-        ratio(limits.held),
+        limits.held,
         and_gap(limits.gap)
     ))?;
     counts::print(&inputs, [Some(0); 3], |text| {

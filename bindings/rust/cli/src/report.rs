@@ -2,17 +2,18 @@
 
 use crate::channels::{in_file, Traces, CHANNELS};
 use crate::failure::{Failure, Status};
-use crate::line::{and_gap, ratio, Limits, Line, CSV, GAP, TOLERANCE};
+use crate::line::{and_gap, ratio, Limits, Line, ABOVE, BELOW, CSV, GAP, TOLERANCE};
 use crate::name::joined;
 use crate::source::Source;
-use crate::table::{self, quoted};
+use crate::table::{self, quoted, Columns};
 use crate::text::Text;
 use crate::{help, output};
 use kovrelna::{Ratio, Refusal, Summary};
 use std::ffi::{OsStr, OsString};
 
 pub fn report(arguments: &[OsString]) -> Result<Status, Failure> {
-    let line = Line::parse("report", &[TOLERANCE, GAP, CSV], arguments)?;
+    let options = [TOLERANCE, ABOVE, BELOW, GAP, CSV];
+    let line = Line::parse("report", &options, arguments)?;
     if line.arguments.help {
         return output::print(help::REPORT);
     }
@@ -98,7 +99,7 @@ fn rows(channels: &[(u32, Text)], limits: Limits) -> Result<Vec<Row>, Refusal> {
 }
 
 /// The sheet with columns of equal width.
-fn aligned(rows: &[Row], Limits { held, gap, .. }: Limits) -> OsString {
+fn aligned(rows: &[Row], Limits { held, gap }: Limits) -> OsString {
     let heading = ["channel", "samples", "kept", "error", "worst at", "refusal"];
     let mut lines = vec![(heading.map(String::from), OsStr::new("file"))];
     for row in rows {
@@ -120,24 +121,27 @@ fn aligned(rows: &[Row], Limits { held, gap, .. }: Limits) -> OsString {
         };
         lines.push((fields, last));
     }
-    let heading = format!("# kept by walk at {}{}\n", ratio(held), and_gap(gap));
+    let heading = format!("# kept by walk at {held}{}\n", and_gap(gap));
     joined(&[&heading, &table::aligned(&lines)])
 }
 
 /// The sheet for a spreadsheet. A ratio has two columns, as p/q would be taken for a date. The gap limit
-/// has the last one, if it is given.
-fn csv(rows: &[Row], Limits { held, gap, .. }: Limits) -> OsString {
-    let heading = "channel,samples,kept,error p,error q,sample,\
-                   tolerance p,tolerance q,refusal,file,cause";
+/// has one at the end, if it is given, and the part below two more, if it is not that above.
+fn csv(rows: &[Row], Limits { held, gap }: Limits) -> OsString {
+    let tolerance = Columns::of(&[held]);
     let (name, gap) = match gap {
         Some(gap) => (",gap limit", format!(",{gap}")),
         None => ("", String::new()),
     };
-    let mut sheet = joined(&[&heading, &name, &"\n"]);
+    let heading = format!(
+        "channel,samples,kept,error p,error q,sample,{},refusal,file,cause",
+        tolerance.names
+    );
+    let mut sheet = joined(&[&heading, &name, &tolerance.last_names, &"\n"]);
     for row in rows {
         let (channel, samples, kept) = (&row.channel, row.samples, row.kept);
-        let pair = |Ratio { p, q }: Ratio| format!("{p},{q}");
-        let (error, tolerance) = (pair(row.error), pair(held));
+        let error = table::pair(row.error);
+        let (tolerance, last) = tolerance.fields(held);
         let sample = row
             .sample
             .map_or(String::new(), |sample| sample.to_string());
@@ -146,7 +150,7 @@ fn csv(rows: &[Row], Limits { held, gap, .. }: Limits) -> OsString {
             .map_or(String::new(), |number| number.to_string());
         let fields = format!("{channel},{samples},{kept},{error},{sample},{tolerance},{refusal},");
         let (file, cause) = (quoted(&row.file), quoted(&row.cause));
-        sheet.push(joined(&[&fields, &file, &",", &cause, &gap, &"\n"]));
+        sheet.push(joined(&[&fields, &file, &",", &cause, &gap, &last, &"\n"]));
     }
     sheet
 }

@@ -1,7 +1,7 @@
 //! The command `same`: whether two records are the same, and if they are not, what differs.
 
 use crate::failure::{Failure, Status};
-use crate::line::{ratio, Line};
+use crate::line::Line;
 use crate::name::joined;
 use crate::records::{self, Record};
 use crate::source::Source;
@@ -67,7 +67,7 @@ fn samples(first: &Named, second: &Named) -> Option<OsString> {
 /// A line with the tolerances, if they differ.
 fn tolerances(first: &Named, second: &Named) -> Option<OsString> {
     let (one, other) = (first.record.tolerance, second.record.tolerance);
-    let is = format!("the tolerance is {} in ", ratio(one));
-    let and = format!(", and {} in ", ratio(other));
+    let is = format!("the tolerance is {one} in ");
+    let and = format!(", and {other} in ");
     (one != other).then(|| joined(&[&is, &first.name, &and, &second.name, &"\n"]))
 }

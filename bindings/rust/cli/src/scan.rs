@@ -2,19 +2,21 @@
 
 use crate::draw::samples;
 use crate::failure::{Failure, Status};
+use crate::fraction::compared;
 use crate::kept::{self, Point};
-use crate::line::{and_gap, ratio, Limits, Line, CSV, DRAW, GAP, METHODS, OUTPUT, TOLERANCES};
+use crate::line::{and_gap, Limits, Line, METHODS};
+use crate::line::{ABOVES, BELOWS, CSV, DRAW, GAP, OUTPUT, TOLERANCES};
 use crate::name::{joined, shown};
 use crate::source::Source;
-use crate::table::{self, quoted};
+use crate::table::{self, quoted, Columns};
 use crate::text::Text;
-use crate::{budget, help, output, records};
-use kovrelna::{Tolerance, GAP_MAX, TOLERANCES_MAX};
+use crate::{help, output, records};
+use kovrelna::{Parts, Tolerance, GAP_MAX, TOLERANCES_MAX};
 use std::ffi::{OsStr, OsString};
 use std::path::Path;
 
 pub fn scan(arguments: &[OsString]) -> Result<Status, Failure> {
-    let options = [TOLERANCES, GAP, CSV, DRAW, OUTPUT];
+    let options = [TOLERANCES, ABOVES, BELOWS, GAP, CSV, DRAW, OUTPUT];
     let line = Line::parse("scan", &options, arguments)?;
     if line.arguments.help {
         return output::print(help::SCAN);
@@ -26,6 +28,9 @@ pub fn scan(arguments: &[OsString]) -> Result<Status, Failure> {
     }
     if line.value(OUTPUT).is_some() && !is_drawn {
         return Err(line.wrong("--output needs --draw"));
+    }
+    if is_drawn {
+        must_have_equal_parts(&line, &limits)?;
     }
     let input = line.input()?;
     let text = Text::read(Source::open(input)?)?.original()?;
@@ -46,11 +51,7 @@ fn limits(line: &Line) -> Result<Vec<Limits>, Failure> {
     if tolerances.is_empty() {
         return Err(line.wrong("--tolerance is missing"));
     }
-    let limits = tolerances.into_iter().map(|(tolerance, held)| Limits {
-        tolerance,
-        held,
-        gap,
-    });
+    let limits = tolerances.into_iter().map(|held| Limits { held, gap });
     let limits: Vec<Limits> = limits.collect();
     // Nothing but the number of tolerances can be refused here.
     match lists(&[0], &[0], &limits) {
@@ -62,13 +63,24 @@ fn limits(line: &Line) -> Result<Vec<Limits>, Failure> {
     }
 }
 
+/// Fails if a tolerance has two parts that differ: a place on the axis of tolerances is one number.
+fn must_have_equal_parts(line: &Line, limits: &[Limits]) -> Result<(), Failure> {
+    let differ = |limits: &Limits| limits.held.one().is_none();
+    let Some(position) = limits.iter().position(differ) else {
+        return Ok(());
+    };
+    let tolerance = format!("{}, at position {position}", limits[position].held);
+    let cause = "has two parts, and the axis one number for a tolerance";
+    Err(line.wrong(format!("--draw: {tolerance}, {cause}")))
+}
+
 /// Walk's list at each tolerance.
 fn lists(
     ticks: &[u32],
     values: &[i16],
     limits: &[Limits],
 ) -> Result<Vec<Vec<u16>>, kovrelna::Refusal> {
-    let tolerances: Vec<Tolerance> = limits.iter().map(|limits| limits.tolerance).collect();
+    let tolerances: Vec<Tolerance> = limits.iter().map(|limits| limits.held.into()).collect();
     let gap = limits.first().and_then(|limits| limits.gap);
     let samples = ticks.len();
     let mut out = vec![0; TOLERANCES_MAX * samples];
@@ -86,7 +98,7 @@ struct Row {
 }
 
 impl Row {
-    /// How many samples minimum keeps at half the tolerance, if that is an allowed tolerance.
+    /// How many samples minimum keeps at half the smaller part of the tolerance, if that is an allowed one.
     fn bound(&self, text: &Text) -> Result<Option<usize>, Failure> {
         let [_, _, minimum] = METHODS;
         let list = self.limits.half().map(|half| minimum.list(text, half));
@@ -119,7 +131,7 @@ fn lines(rows: &[Row], text: &Text) -> OsString {
     let mut lines = vec![(heading, OsStr::new(""))];
     for row in rows {
         let fields = [
-            ratio(row.limits.held),
+            row.limits.held.to_string(),
             row.kept.to_string(),
             row.bytes.to_string(),
         ];
@@ -131,32 +143,35 @@ fn lines(rows: &[Row], text: &Text) -> OsString {
 }
 
 /// The table for a spreadsheet. A tolerance has two columns, as p/q would be taken for a date. The gap limit
-/// has the last one, if it is given.
+/// has one at the end, if it is given, and the part below two more, if a tolerance has parts that differ.
 fn csv(rows: &[Row], text: &Text) -> Result<OsString, Failure> {
+    let tolerances: Vec<Parts> = rows.iter().map(|row| row.limits.held).collect();
+    let columns = Columns::of(&tolerances);
     let (name, gap) = match gap(rows) {
         Some(gap) => (",gap limit", format!(",{gap}")),
         None => ("", String::new()),
     };
-    let heading = "tolerance p,tolerance q,samples,kept,bytes,bound,file";
-    let mut table = joined(&[&heading, &name, &"\n"]);
+    let heading = format!("{},samples,kept,bytes,bound,file", columns.names);
+    let mut table = joined(&[&heading, &name, &columns.last_names, &"\n"]);
     let (samples, file) = (text.ticks.len(), quoted(&text.name));
     for row in rows {
-        let (held, kept, bytes) = (row.limits.held, row.kept, row.bytes);
+        let (tolerance, last) = columns.fields(row.limits.held);
+        let (kept, bytes) = (row.kept, row.bytes);
         let bound = row.bound(text)?;
         let bound = bound.map_or(String::new(), |bound| bound.to_string());
-        let fields = format!("{},{},{samples},{kept},{bytes},{bound},", held.p, held.q);
-        table.push(joined(&[&fields, &file, &gap, &"\n"]));
+        let fields = format!("{tolerance},{samples},{kept},{bytes},{bound},");
+        table.push(joined(&[&fields, &file, &gap, &last, &"\n"]));
     }
     Ok(table)
 }
 
-/// The picture of the kept numbers and their bounds, with each tolerance once.
+/// The picture of the kept numbers and their bounds, with each tolerance, whose parts are equal, once.
 fn picture(rows: &[Row], text: &Text, input: Option<&OsStr>) -> Result<String, Failure> {
     let mut rows: Vec<&Row> = rows.iter().collect();
-    rows.sort_by(|one, other| budget::compared(&one.limits.held, &other.limits.held));
+    rows.sort_by(|one, other| compared(&one.limits.held.above, &other.limits.held.above));
     rows.dedup_by_key(|row| row.limits.held);
     let point = |row: &&Row| {
-        let held = row.limits.held;
+        let held = row.limits.held.above;
         Ok(Point {
             tolerance: held.p as f64 / held.q as f64,
             kept: row.kept,

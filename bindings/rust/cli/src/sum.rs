@@ -1,21 +1,27 @@
 //! The command `sum`: two traces with the same ticks added sample by sample, and what is kept of both.
 
 use crate::args::Known;
-use crate::budget::{compared, greatest};
+use crate::budget::greatest;
 use crate::failure::{Failure, Status};
+use crate::fraction::{compared, Fraction};
 use crate::line::{ratio, Limits, Line, Method};
-use crate::line::{GAP, METHOD, OUTPUT, TOLERANCE, TOLERANCE2, TRACE};
+use crate::line::{
+    ABOVE, ABOVE2, BELOW, BELOW2, GAP, METHOD, OUTPUT, TOLERANCE, TOLERANCE2, TRACE,
+};
 use crate::measure::measures;
 use crate::name::joined;
 use crate::source::Source;
 use crate::text::{self, Text};
+use crate::tolerance::both;
 use crate::{help, output, records};
-use kovrelna::{hold, Ratio, ReducedTrace, Refusal, Tolerance};
+use kovrelna::{hold, Parts, Ratio, ReducedTrace, Refusal, Tolerance};
 use std::cmp::Ordering;
 use std::ffi::{OsStr, OsString};
 
 pub fn sum(arguments: &[OsString]) -> Result<Status, Failure> {
-    let options = [TOLERANCE, TOLERANCE2, GAP, METHOD, OUTPUT, TRACE];
+    let second_tolerance = [TOLERANCE2, ABOVE2, BELOW2];
+    let others = [TOLERANCE, ABOVE, BELOW, GAP, METHOD, OUTPUT, TRACE];
+    let options = [&second_tolerance[..], &others].concat();
     let line = Line::parse("sum", &options, arguments)?;
     if line.arguments.help {
         return output::print(help::SUM);
@@ -23,12 +29,8 @@ pub fn sum(arguments: &[OsString]) -> Result<Status, Failure> {
     let Some((method, first)) = line.reduction()? else {
         return Err(line.wrong("--tolerance is missing"));
     };
-    let second = match line.tolerance(TOLERANCE2)? {
-        Some((tolerance, held)) => Limits {
-            tolerance,
-            held,
-            ..first
-        },
+    let second = match line.tolerance(second_tolerance)? {
+        Some(held) => Limits { held, ..first },
         None => first,
     };
     let (record, trace) = (file(&line, OUTPUT)?, file(&line, TRACE)?);
@@ -43,11 +45,9 @@ pub fn sum(arguments: &[OsString]) -> Result<Status, Failure> {
     let one = Reduced::read(one, method, first)?;
     let other = Reduced::read(other, method, second)?;
     let exact = bound(first.held, second.held);
-    let held = allowed(exact);
-    let Ratio { p, q } = held;
+    let tolerance = allowed(exact);
     let limits = Limits {
-        tolerance: Tolerance::Ratio { p, q },
-        held,
+        held: both(tolerance),
         ..first
     };
     let sum = Sum::of(&one, &other, limits).map_err(|refusal| refused(&one, &other, refusal))?;
@@ -64,7 +64,7 @@ pub fn sum(arguments: &[OsString]) -> Result<Status, Failure> {
         sum.list.len(),
         one.list.len(),
         other.list.len(),
-        tolerance_line(held, exact),
+        tolerance_line(tolerance, exact),
         ratio(sum.error)
     ))
 }
@@ -120,8 +120,8 @@ impl Sum {
         let kept = kovrelna::sum(one.trace(), other.trace(), &mut values, &mut list)?;
         list.truncate(kept);
         let measures = measures(ticks, &values, &list)?;
-        let errors: Vec<Ratio> = measures.iter().map(|measure| measure.error).collect();
-        let error = greatest(&errors).unwrap_or_default();
+        let errors = measures.iter().map(|measure| measure.error);
+        let error = greatest(errors).unwrap_or_default();
         let record = records::save(ticks, &values, &list, limits)?;
         Ok(Sum {
             values,
@@ -171,19 +171,9 @@ fn overflow(one: &Text, other: &Text, sample: usize) -> OsString {
     joined(&[&one.line_of(sample), &has, &other.line_of(sample), &cause])
 }
 
-/// 2 (T1 + T2) in lowest terms. It need not be an allowed tolerance.
-fn bound(one: Ratio, other: Ratio) -> Ratio {
-    // A denominator is below 2^20 and a tolerance below 2^16, so that p is below 2^58.
-    let p = 2 * (one.p * other.q + other.p * one.q);
-    let q = one.q * other.q;
-    let (mut divisor, mut rest) = (q, p % q);
-    while rest > 0 {
-        (divisor, rest) = (rest, divisor % rest);
-    }
-    Ratio {
-        p: p / divisor,
-        q: q / divisor,
-    }
+/// U1 + D1 + U2 + D2, which is 2 (T1 + T2) for tolerances with equal parts.
+fn bound(one: Parts, other: Parts) -> Fraction {
+    Fraction::from(one.above) + one.below + other.above + other.below
 }
 
 /// The greatest allowed tolerance. No link's error is above it, as all values are from -32768 to 32767.
@@ -192,37 +182,46 @@ const GREATEST: Ratio = Ratio { p: 65_535, q: 1 };
 const DENOMINATOR: u64 = 1_048_575;
 
 /// The least allowed tolerance that is not below this one; the greatest if there is none.
-fn allowed(exact: Ratio) -> Ratio {
-    let Ratio { p, q } = exact;
-    match hold(Tolerance::Ratio { p, q }) {
-        Ok(held) => held,
-        Err(_) if compared(&exact, &GREATEST).is_gt() => GREATEST,
-        Err(_) => not_below(exact, DENOMINATOR),
+fn allowed(exact: Fraction) -> Ratio {
+    match held(exact) {
+        Some(held) => held,
+        None if exact.compared(GREATEST).is_gt() => GREATEST,
+        None => not_below(exact, DENOMINATOR),
     }
 }
 
-/// Of the fractions with a denominator of at most `most`, the least that is not below p/q, in lowest
-/// terms.
-fn not_below(Ratio { p, q }: Ratio, most: u64) -> Ratio {
-    // What is left beside whole counts, times any denominator, is below 2^60.
+/// The fraction as a tolerance, if it is an allowed one.
+fn held(Fraction { p, q }: Fraction) -> Option<Ratio> {
+    let (p, q) = (p.try_into().ok()?, q.try_into().ok()?);
+    let held = hold(Tolerance::Ratio { p, q }).ok()?;
+    held.one()
+}
+
+/// Of the fractions with a denominator of at most `most`, the least that is not below p/q, which is at
+/// most the greatest tolerance; in lowest terms.
+fn not_below(Fraction { p, q }: Fraction, most: u64) -> Ratio {
+    // What is left beside whole counts, times any denominator, is below 2^100.
     let (whole, left) = (p / q, p % q);
-    let of = |denominator: u64| Ratio {
-        p: whole * denominator + (left * denominator).div_ceil(q),
-        q: denominator,
+    let of = |denominator: u64| {
+        let times = u128::from(denominator);
+        Ratio {
+            p: (whole * times + (left * times).div_ceil(q)) as u64,
+            q: denominator,
+        }
     };
     // Of equal fractions the first is taken, which is in lowest terms.
     (1..=most).map(of).min_by(compared).unwrap_or_default()
 }
 
-/// The tolerance of the record, and 2 (T1 + T2) if that is another.
-fn tolerance_line(held: Ratio, exact: Ratio) -> String {
-    let cause = match compared(&held, &exact) {
-        Ordering::Equal => return format!("tolerance {}", ratio(held)),
-        Ordering::Greater => "whose denominator is above 1,048,575",
-        Ordering::Less => "which is above 65,535",
+/// The tolerance of the record, and the exact bound if that is another.
+fn tolerance_line(held: Ratio, exact: Fraction) -> String {
+    let line = format!("tolerance {}", ratio(held));
+    let cause = match exact.compared(held) {
+        Ordering::Equal => return line,
+        Ordering::Less => "whose denominator is above 1,048,575",
+        Ordering::Greater => "which is above 65,535",
     };
-    let (held, exact) = (ratio(held), ratio(exact));
-    format!("tolerance {held} in place of {exact}, {cause}")
+    format!("{line} in place of {exact}, {cause}")
 }
 
 #[cfg(test)]
@@ -258,9 +257,51 @@ mod tests {
                 of(144_112_576_740_196_351, LONG.q),
             ),
         ] {
+            let expected = expected.into();
+            let (one, other) = (both(one), both(other));
             assert_eq!(bound(one, other), expected);
             assert_eq!(bound(other, one), expected);
         }
+    }
+
+    /// The sum of all four parts, whichever part of whichever trace they are.
+    #[test]
+    fn bounds_of_parts() {
+        // The four denominators whose product is greatest, of those that have no divisor in common.
+        let denominators = [0, 1, 2, 4].map(|less| DENOMINATOR - less);
+        let q = 1_208_913_137_523_158_412_165_150;
+        let (least, greatest) = (
+            4_611_649_734_629_654_467,
+            316_904_489_865_709_096_430_342_766_533,
+        );
+        for (parts, expected) in [
+            ([of(2, 1), of(1, 1), of(0, 1), of(0, 1)], of(3, 1).into()),
+            ([of(1, 2), of(1, 3), of(1, 4), of(1, 5)], of(77, 60).into()),
+            ([of(1, 6), of(1, 10), of(2, 15), of(3, 5)], of(1, 1).into()),
+            (denominators.map(|q| of(1, q)), Fraction { p: least, q }),
+            (
+                denominators.map(|q| of(65_535 * q - 1, q)),
+                Fraction { p: greatest, q },
+            ),
+        ] {
+            for turn in 0..4 {
+                let mut turned = parts;
+                turned.rotate_left(turn);
+                let [one, other] = [0, 2].map(|k| Parts {
+                    above: turned[k],
+                    below: turned[k + 1],
+                });
+                assert_eq!(bound(one, other), expected);
+            }
+        }
+        let place = format!("/{q}, whose denominator is above 1,048,575");
+        let line = format!("tolerance 4/1048573 in place of {least}{place}");
+        let exact = Fraction { p: least, q };
+        assert_eq!(allowed(exact), of(4, 1_048_573));
+        assert_eq!(tolerance_line(allowed(exact), exact), line);
+        let exact = Fraction { p: greatest, q };
+        let line = format!("tolerance 65535/1 in place of {greatest}/{q}, which is above 65,535");
+        assert_eq!(tolerance_line(allowed(exact), exact), line);
     }
 
     #[test]
@@ -302,6 +343,7 @@ mod tests {
                 "65535/1 in place of 262140/1, which is above 65,535",
             ),
         ] {
+            let exact = exact.into();
             let found = allowed(exact);
             assert_eq!(found, expected);
             assert_eq!(tolerance_line(found, exact), format!("tolerance {line}"));
@@ -320,7 +362,8 @@ mod tests {
                 for p in 0..=3 * q {
                     let exact = of(p, q);
                     let least = all.iter().find(|other| compared(other, &exact).is_ge());
-                    assert_eq!(not_below(exact, most), *least.unwrap(), "{p}/{q} {most}");
+                    let found = not_below(exact.into(), most);
+                    assert_eq!(found, *least.unwrap(), "{p}/{q} {most}");
                 }
             }
         }

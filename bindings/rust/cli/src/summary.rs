@@ -1,11 +1,11 @@
 //! The command `summary`.
 
 use crate::failure::{Failure, Status};
-use crate::line::{each, ratio, Line, BUDGET};
+use crate::line::{each, Line, BUDGET};
 use crate::name::joined;
 use crate::records::{self, Record};
 use crate::{budget, help, output};
-use kovrelna::Ratio;
+use kovrelna::Parts;
 use std::ffi::{OsStr, OsString};
 
 /// What a line of the summary says.
@@ -65,7 +65,7 @@ pub fn summary(arguments: &[OsString]) -> Result<Status, Failure> {
         let name = source.name.clone();
         let record = records::load(source)?;
         let counts = Counts::of(&record);
-        let line = counts.line(&ratio(record.tolerance), name);
+        let line = counts.line(&record.tolerance.to_string(), name);
         total = Some(match &total {
             Some(before) => before.plus(&counts),
             None => counts,
@@ -84,16 +84,16 @@ pub fn summary(arguments: &[OsString]) -> Result<Status, Failure> {
 }
 
 /// The tolerance that all records have, if there is one.
-fn common(tolerances: &[Ratio]) -> String {
+fn common(tolerances: &[Parts]) -> String {
     match tolerances {
-        [first, rest @ ..] if rest.iter().all(|other| other == first) => ratio(*first),
+        [first, rest @ ..] if rest.iter().all(|other| other == first) => first.to_string(),
         _ => "-".to_string(),
     }
 }
 
-/// For the greatest tolerance, if every record could be read.
-fn print_budget(tolerances: &[Ratio], records: usize) -> Result<(), Failure> {
-    match budget::greatest(tolerances) {
+/// For the greatest tolerance, of each side, if every record could be read.
+fn print_budget(tolerances: &[Parts], records: usize) -> Result<(), Failure> {
+    match budget::greatest_parts(tolerances) {
         Some(greatest) if tolerances.len() == records => {
             output::print(format!("\n{}", budget::text(greatest)))?;
         }

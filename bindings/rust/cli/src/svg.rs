@@ -6,7 +6,7 @@ use crate::chart::{self, dots, path, Axis, Mark, Panel};
 use crate::chart::{BAND, KEPT, LEFT, LINE, RIGHT, SAMPLE};
 use crate::curve::{parts, Curve, Point, Sample, Stretch};
 use crate::holes::Hole;
-use kovrelna::{Ratio, Side};
+use kovrelna::{Parts, Ratio, Side};
 use std::fmt::Write;
 
 /// The first sample that is farthest from its line.
@@ -23,7 +23,7 @@ pub struct Picture {
     pub samples: Vec<Sample>,
     /// The kept samples, at least one.
     pub kept: Vec<Sample>,
-    pub tolerance: Ratio,
+    pub tolerance: Parts,
     /// The holes of the trace.
     pub holes: Vec<Hole>,
     /// None if all samples are on the lines, or only the kept ones are known.
@@ -37,7 +37,7 @@ impl Picture {
     pub fn whole(
         samples: Vec<Sample>,
         kept: Vec<Sample>,
-        tolerance: Ratio,
+        tolerance: Parts,
         holes: Vec<Hole>,
     ) -> Picture {
         let tick = |sample: Option<&Sample>| sample.map_or(0, |&(tick, _)| tick);
@@ -52,11 +52,31 @@ impl Picture {
     }
 }
 
+/// How far the tolerance band reaches above and below the lines: as far as samples may lie above and below
+/// them.
+#[derive(Clone, Copy)]
+struct Band {
+    above: f64,
+    below: f64,
+}
+
+impl Band {
+    fn of(Parts { above, below }: Parts) -> Band {
+        let number = |Ratio { p, q }: Ratio| p as f64 / q as f64;
+        Band {
+            above: number(above),
+            below: number(below),
+        }
+    }
+}
+
 /// The top and the bottom of the trace's panel, and of the distances' below it.
 const TRACE: (f64, f64) = (60.0, 420.0);
 const DISTANCES: (f64, f64) = (440.0, 560.0);
 /// The foot of the words between them.
 const BETWEEN: f64 = 434.5;
+/// The least distance of two marks of the lower panel: the height of their words.
+const APART: f64 = 13.0;
 /// Up to so many samples a line joins them.
 const JOINED: usize = 600;
 /// How the band of one sample is drawn, alone and beside other parts of the band.
@@ -72,10 +92,11 @@ const KEY: [(Mark, &str); 4] = [
 ];
 
 /// The panel of the trace and its lines.
-fn trace_panel<'a>(x: &'a Axis, (low, high): (f64, f64), tolerance: f64) -> Panel<'a> {
+fn trace_panel<'a>(x: &'a Axis, (low, high): (f64, f64), band: Band) -> Panel<'a> {
     let (top, bottom) = TRACE;
     // No sample is outside the band.
-    let y = Axis::around((low - tolerance, high + tolerance), 0.05, (bottom, top));
+    let reach = (low - band.below, high + band.above);
+    let y = Axis::around(reach, 0.05, (bottom, top));
     Panel {
         x,
         marks: y.wholes(7),
@@ -84,42 +105,50 @@ fn trace_panel<'a>(x: &'a Axis, (low, high): (f64, f64), tolerance: f64) -> Pane
     }
 }
 
-/// The panel of the distances from the lines, as high as the band.
-fn distances_panel(x: &Axis, held: Ratio, tolerance: f64) -> Panel<'_> {
+/// The panel of the distances from the lines, as high as the band and a little more.
+fn distances_panel(x: &Axis, held: Parts, band: Band) -> Panel<'_> {
     let (top, bottom) = DISTANCES;
-    let reach = if held.p == 0 { 1.0 } else { 1.25 * tolerance };
+    let greater = band.above.max(band.below);
+    let more = if greater == 0.0 { 1.0 } else { 0.25 * greater };
+    let y = Axis {
+        low: -(band.below + more),
+        high: band.above + more,
+        from: bottom,
+        to: top,
+    };
     let mut marks = vec![(0.0, "0".to_string())];
-    if held.p > 0 {
-        let words = short(held);
-        marks.extend([
-            (tolerance, format!("+{words}")),
-            (-tolerance, format!("-{words}")),
-        ]);
+    let (up, down) = match held.one() {
+        Some(_) => ("p/q", "p/q"),
+        None => ("U", "D"),
+    };
+    for (height, words) in [
+        (band.above, format!("+{}", short(held.above, up))),
+        (-band.below, format!("-{}", short(held.below, down))),
+    ] {
+        if (y.place(height) - y.place(0.0)).abs() >= APART {
+            marks.push((height, words));
+        }
     }
     Panel {
         x,
-        y: Axis {
-            low: -reach,
-            high: reach,
-            from: bottom,
-            to: top,
-        },
+        y,
         marks,
         name: "trace minus lines",
     }
 }
 
-/// The tolerance where there is room for 5 characters. The title has all of it.
-fn short(Ratio { p, q }: Ratio) -> String {
-    match ratio(p, q) {
+/// The tolerance, or a part of it, where there is room for 5 characters, or else its letter. The title has
+/// all of it.
+fn short(part: Ratio, letter: &str) -> String {
+    match ratio(part) {
         exact if exact.len() <= 5 => exact,
-        _ => "p/q".to_string(),
+        _ => letter.to_string(),
     }
 }
 
 /// The picture as SVG.
 pub fn draw(title: &str, picture: &Picture) -> String {
-    let tolerance = picture.tolerance.p as f64 / picture.tolerance.q as f64;
+    let band = Band::of(picture.tolerance);
     let stretch = (f64::from(picture.stretch.0), f64::from(picture.stretch.1));
     let parts = parts(stretch, &picture.holes);
     let (samples, kept) = (Curve::of(&picture.samples), Curve::of(&picture.kept));
@@ -128,10 +157,10 @@ pub fn draw(title: &str, picture: &Picture) -> String {
     let key = &KEY[usize::from(!with_samples)..];
     let mut svg = chart::begun(title, key, bottom);
     let x = Axis::around(stretch, 0.01, (LEFT, RIGHT));
-    let panel = trace_panel(&x, kept.cut(stretch).range(), tolerance);
+    let panel = trace_panel(&x, kept.cut(stretch).range(), band);
     panel.scales(&mut svg);
     let lines = [stretch];
-    curves(&panel, &mut svg, &samples, &kept, tolerance, &parts, &lines);
+    curves(&panel, &mut svg, &samples, &kept, band, &parts, &lines);
     let (from, to) = picture.stretch;
     let worst = picture.worst.as_ref();
     let worst = worst.filter(|worst| (from..=to).contains(&worst.tick));
@@ -139,11 +168,11 @@ pub fn draw(title: &str, picture: &Picture) -> String {
         point_at(&panel, &mut svg, &samples, worst);
     }
     if with_samples {
-        let panel = distances_panel(&x, picture.tolerance, tolerance);
+        let panel = distances_panel(&x, picture.tolerance, band);
         panel.scales(&mut svg);
         // The lines are at 0.
         let (samples, kept) = (samples.above(&kept), kept.above(&kept));
-        curves(&panel, &mut svg, &samples, &kept, tolerance, &parts, &parts);
+        curves(&panel, &mut svg, &samples, &kept, band, &parts, &parts);
         if let Some(worst) = worst {
             point_at(&panel, &mut svg, &samples, worst);
             draw_words(&x, &mut svg, worst);
@@ -159,7 +188,7 @@ fn curves(
     svg: &mut String,
     samples: &Curve,
     kept: &Curve,
-    tolerance: f64,
+    band: Band,
     parts: &[Stretch],
     lines: &[Stretch],
 ) {
@@ -168,7 +197,7 @@ fn curves(
         points.iter().map(place).collect()
     };
     for Curve { points } in kept.cuts(parts) {
-        let (above, mut below) = (places(&points, tolerance), places(&points, -tolerance));
+        let (above, mut below) = (places(&points, band.above), places(&points, -band.below));
         below.reverse();
         // The band of one sample has no width: it is drawn as a stroke.
         let stroke = match (points.len(), parts.len()) {
@@ -217,7 +246,7 @@ fn point_at(panel: &Panel, svg: &mut String, samples: &Curve, worst: &Worst) {
 /// How far the worst sample is from its line, at its tick as far as there is room.
 fn draw_words(x: &Axis, svg: &mut String, worst: &Worst) {
     let &Worst { tick, error, side } = worst;
-    let words = format!("worst: {} at tick {tick}, {side}", ratio(error.p, error.q));
+    let words = format!("worst: {} at tick {tick}, {side}", ratio(error));
     let half = 3.5 * words.len() as f64;
     let at = x.place(tick.into()).clamp(LEFT + half, RIGHT - half);
     let _ = writeln!(
@@ -233,6 +262,7 @@ mod tests {
 
     #[test]
     fn extremes() {
+        let zero = Ratio::default();
         for (samples, p, q) in [
             (vec![(0, 0)], 0, 1),
             (vec![(u32::MAX, i16::MIN)], 65_535, 1),
@@ -242,24 +272,28 @@ mod tests {
                 1_048_575,
             ),
         ] {
-            for (known, holes) in [
-                (true, vec![]),
-                (false, vec![]),
-                (true, vec![(u32::MAX - 1, u32::MAX)]),
-            ] {
-                let drawn = if known { samples.clone() } else { Vec::new() };
-                let error = Ratio { p: 1, q: 1_048_575 };
-                let (tick, side) = (samples[0].0, Side::Below);
-                let picture = Picture {
-                    worst: Some(Worst { tick, error, side }),
-                    ..Picture::whole(drawn, samples.clone(), Ratio { p, q }, holes)
-                };
-                let svg = draw("a<b>&\"c\"", &picture);
-                well_formed(&svg);
-                assert_eq!(svg.contains(ALONE), samples.len() == 1);
-                assert_eq!(svg.contains("trace minus lines"), known);
-                assert_eq!(svg.contains(">worst: 1/1048575 at tick "), known);
-                assert_eq!(svg, draw("a<b>&\"c\"", &picture));
+            let part = Ratio { p, q };
+            for (above, below) in [(part, part), (part, zero), (zero, part)] {
+                for (known, holes) in [
+                    (true, vec![]),
+                    (false, vec![]),
+                    (true, vec![(u32::MAX - 1, u32::MAX)]),
+                ] {
+                    let drawn = if known { samples.clone() } else { Vec::new() };
+                    let error = Ratio { p: 1, q: 1_048_575 };
+                    let (tick, side) = (samples[0].0, Side::Below);
+                    let tolerance = Parts { above, below };
+                    let picture = Picture {
+                        worst: Some(Worst { tick, error, side }),
+                        ..Picture::whole(drawn, samples.clone(), tolerance, holes)
+                    };
+                    let svg = draw("a<b>&\"c\"", &picture);
+                    well_formed(&svg);
+                    assert_eq!(svg.contains(ALONE), samples.len() == 1);
+                    assert_eq!(svg.contains("trace minus lines"), known);
+                    assert_eq!(svg.contains(">worst: 1/1048575 at tick "), known);
+                    assert_eq!(svg, draw("a<b>&\"c\"", &picture));
+                }
             }
         }
     }

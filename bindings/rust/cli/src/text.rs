@@ -2,16 +2,17 @@
 //!
 //! A trace has a line for each sample with its tick and its value, between them a semicolon, a comma,
 //! a tab or spaces. What follows a `#` is skipped, as are blank lines; a first line of words is a
-//! heading. One line `# tolerance p/q` before the samples, as `show` prints it, is taken notice of. A
-//! carriage return at a line's end and a byte order mark are tolerated. Several traces may be in one
-//! file, with the number of its channel in a third column for each sample.
+//! heading. One line `# tolerance p/q`, or `# tolerance U D` with two such ratios, before the samples, as
+//! `show` prints it, is taken notice of. A carriage return at a line's end and a byte order mark are
+//! tolerated. Several traces may be in one file, with the number of its channel in a third column for each
+//! sample.
 
 use crate::failure::{line_of, Failure};
 use crate::name::plain;
 use crate::number::{Decimal, Product};
 use crate::source::Source;
 use crate::{records, tolerance};
-use kovrelna::{Ratio, Refusal, Tolerance};
+use kovrelna::{Parts, Refusal, Tolerance};
 use std::collections::BTreeMap;
 use std::ffi::{OsStr, OsString};
 use std::fmt::Display;
@@ -94,13 +95,13 @@ impl Text {
         self.lines.push(line);
     }
 
-    /// The tolerance of the trace's own line, and the ratio it is held as.
-    pub fn tolerance(&self) -> Result<Option<(Tolerance, Ratio)>, Failure> {
+    /// The tolerance of the trace's own line, as it is held.
+    pub fn tolerance(&self) -> Result<Option<Parts>, Failure> {
         let Some((written, _)) = &self.tolerance else {
             return Ok(None);
         };
-        match tolerance::parse(written) {
-            Ok(tolerance) => Ok(Some(tolerance)),
+        match tolerance::parse_line(written) {
+            Ok(held) => Ok(Some(held)),
             Err(cause) => Err(self.at_tolerance(&format!("tolerance: {cause}"))),
         }
     }
@@ -114,9 +115,9 @@ impl Text {
     /// Fails if the samples are kept at a tolerance already.
     pub fn must_be_original(&self) -> Result<(), Failure> {
         match &self.tolerance {
-            Some((ratio, _)) => {
+            Some((written, _)) => {
                 let cause = "the answer would not be about the original trace";
-                let cause = format!("samples are reduced already at {ratio}: {cause}");
+                let cause = format!("samples are reduced already at {written}: {cause}");
                 Err(self.at_tolerance(&cause))
             }
             None => Ok(()),
@@ -311,14 +312,13 @@ impl Rows {
             };
             let (data, comment) = line.split_once('#').unwrap_or((line, ""));
             if data.trim().is_empty() {
-                let ratio = comment.trim().strip_prefix("tolerance ").map(str::trim);
-                if let Some(ratio) = ratio.filter(|rest| is_ratio(rest)) {
+                if let Some(written) = tolerance_in(comment) {
                     if self.tolerance.is_some() || self.is_begun {
                         let cause =
                             "a second record begins here, or its tolerance comes after its samples";
                         return Err(self.lines.wrong(cause));
                     }
-                    self.tolerance = Some((ratio.to_string(), number));
+                    self.tolerance = Some((written, number));
                 }
                 continue;
             }
@@ -388,6 +388,15 @@ impl Lines {
     fn wrong(&self, cause: &str) -> Failure {
         Failure::at_line(&self.name, self.number, cause)
     }
+}
+
+/// What stands after `tolerance` in this comment, if it is one ratio, or two for two parts; these have a
+/// space between.
+fn tolerance_in(comment: &str) -> Option<String> {
+    let written = comment.trim().strip_prefix("tolerance ")?;
+    let ratios: Vec<&str> = written.split_whitespace().collect();
+    let is_tolerance = matches!(ratios.len(), 1 | 2) && ratios.iter().all(|ratio| is_ratio(ratio));
+    is_tolerance.then(|| ratios.join(" "))
 }
 
 /// Whether this is p/q, both whole.
@@ -551,10 +560,25 @@ mod tests {
         assert_eq!(tolerance("0,1 # tolerance 2/3\n"), None);
         assert_eq!(tolerance("# tolerance of the digitiser: 2/3\n0,1\n"), None);
         assert_eq!(tolerance("# tolerance 2\n0,1\n# tolerance met\n"), None);
+        let parts = |line| Some(("2/3 1/1".to_string(), line));
+        assert_eq!(tolerance("# tolerance 2/3 1/1\n0,1\n"), parts(1));
+        assert_eq!(tolerance("\n#tolerance   2/3\t 1/1 \r\n"), parts(2));
+        for comment in [
+            "2/3 1",
+            "2/3 -1/1",
+            "2/3, 1/1",
+            "2/3 1/1 1/1",
+            "2/3 or 1/1",
+            "2/3 /",
+        ] {
+            assert_eq!(tolerance(&format!("# tolerance {comment}\n0,1\n")), None);
+        }
         for (text, line) in [
             ("0,1\n# tolerance 2/3\n", 2),
             ("# tolerance 2/3\n# tolerance 2/3\n0,1\n", 2),
             ("# tolerance 2/3\n0,1\n# b\n# tolerance 1/3\n2,1\n", 4),
+            ("# tolerance 2/3\n# tolerance 2/3 1/1\n0,1\n", 2),
+            ("0,1\n# tolerance 2/3 1/1\n", 2),
         ] {
             let told = read(text.as_bytes()).unwrap_err();
             assert!(told.starts_with(&format!("in:{line}: a second")), "{told}");

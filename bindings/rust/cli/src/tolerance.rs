@@ -1,15 +1,37 @@
-//! A tolerance as it is written on the command line: `p/q`, counts such as `2` or `1.5`, or a noise
-//! and a multiple such as `3.25x4`. The library decides what is allowed.
+//! A tolerance, or one of its parts, as it is written on the command line: `p/q`, counts such as `2` or
+//! `1.5`, or a noise and a multiple such as `3.25x4`. The library decides what is allowed.
 
 use crate::number::{Decimal, Product};
-use kovrelna::{hold, Ratio, Tolerance};
+use kovrelna::{hold, Parts, Ratio, Tolerance};
 
-/// The tolerance and the ratio it is held as, or why it is refused.
-pub fn parse(text: &str) -> Result<(Tolerance, Ratio), String> {
+/// The ratio as which it is held, or why it is refused.
+pub fn parse(text: &str) -> Result<Ratio, String> {
     let tolerance = form(text)?;
     match hold(tolerance) {
-        Ok(held) => Ok((tolerance, held)),
+        // Both parts are the same.
+        Ok(held) => Ok(held.above),
         Err(refusal) => Err(format!("{refusal}: {}", allowed(tolerance))),
+    }
+}
+
+/// The parts in the line of a trace: one ratio for both, or two with a space between, the part above
+/// first. Two may be equal, as two options may.
+pub fn parse_line(text: &str) -> Result<Parts, String> {
+    let Some((above, below)) = text.split_once(' ') else {
+        return parse(text).map(both);
+    };
+    let part = |side, text| parse(text).map_err(|cause| format!("the part {side}: {cause}"));
+    Ok(Parts {
+        above: part("above", above)?,
+        below: part("below", below)?,
+    })
+}
+
+/// The same part above and below the line.
+pub fn both(ratio: Ratio) -> Parts {
+    Parts {
+        above: ratio,
+        below: ratio,
     }
 }
 
@@ -60,8 +82,8 @@ fn as_ratio(text: &str) -> String {
     if let Ok(Product::Whole(n)) = millionths {
         let p = u64::try_from(n).unwrap_or(u64::MAX);
         // The library reduces the ratio; a million is an allowed denominator.
-        if let Ok(Ratio { p, q }) = hold(Tolerance::Ratio { p, q: 1_000_000 }) {
-            return format!("; write the ratio {p}/{q}");
+        if let Ok(held) = hold(Tolerance::Ratio { p, q: 1_000_000 }) {
+            return format!("; write the ratio {held}");
         }
     }
     String::new()
@@ -70,7 +92,9 @@ fn as_ratio(text: &str) -> String {
 /// What is allowed in this form.
 fn allowed(tolerance: Tolerance) -> &'static str {
     match tolerance {
-        Tolerance::Ratio { .. } => "p/q has q from 1 to 1,048,575 and p from 0 to 65,535 times q",
+        Tolerance::Ratio { .. } | Tolerance::Parts(_) => {
+            "p/q has q from 1 to 1,048,575 and p from 0 to 65,535 times q"
+        }
         Tolerance::Counts(_) => "counts are from 0 to 65,535",
         Tolerance::Noise { .. } => "the noise is from 0 to 1,023 and the multiple from 0 to 63",
     }
@@ -97,8 +121,35 @@ mod tests {
             ("1.5x2.125", 51, 16),
             ("1023x63", 64_449, 1),
         ] {
-            let (_, held) = parse(text).unwrap();
-            assert_eq!(held, Ratio { p, q }, "{text}");
+            assert_eq!(parse(text), Ok(Ratio { p, q }), "{text}");
+        }
+    }
+
+    #[test]
+    fn lines() {
+        let (two, one) = (Ratio { p: 2, q: 1 }, Ratio { p: 1, q: 1 });
+        let (above, below) = (two, one);
+        for (line, parts) in [
+            ("2/1", both(two)),
+            ("2/1 1/1", Parts { above, below }),
+            ("4/2 3/3", Parts { above, below }),
+            ("2/1 4/2", both(two)),
+        ] {
+            assert_eq!(parse_line(line), Ok(parts), "{line}");
+        }
+        for (line, cause) in [
+            ("1/0", "the tolerance is not allowed: p/q has"),
+            (
+                "1/0 65536/1",
+                "the part above: the tolerance is not allowed: p/q has",
+            ),
+            (
+                "1/1 65536/1",
+                "the part below: the tolerance is not allowed: p/q has",
+            ),
+        ] {
+            let told = parse_line(line).unwrap_err();
+            assert!(told.starts_with(cause), "{line}: {told}");
         }
     }
 

@@ -1,7 +1,7 @@
 //! The calls, the rows of the table of refusals that each has, and how often each call was compared on
-//! this thread, by what was answered.
+//! this thread, by what was answered, and at tolerances with unequal parts.
 
-use kovrelna_reference::Row;
+use kovrelna_reference::{Parts, Row};
 use std::cell::RefCell;
 
 /// A public call.
@@ -102,6 +102,20 @@ impl Call {
         }
     }
 
+    /// Whether it takes a tolerance, or a record with one.
+    pub fn has_tolerance(self) -> bool {
+        !matches!(
+            self,
+            Call::Measure
+                | Call::Least
+                | Call::ViewBegin
+                | Call::ViewAdd
+                | Call::Sum
+                | Call::Expand
+                | Call::ExpandWith
+        )
+    }
+
     /// Counts a comparison with this expected answer.
     pub(crate) fn count<T>(self, expected: &Result<T, Row>) {
         let row = match expected {
@@ -111,12 +125,26 @@ impl Call {
         COUNTED.with_borrow_mut(|counted| counted[self as usize][row] += 1);
     }
 
+    /// Counts a comparison at these tolerances, if one of them is allowed and has unequal parts.
+    pub(crate) fn count_parts(self, tolerances: impl IntoIterator<Item = Option<Parts>>) {
+        let mut allowed = tolerances.into_iter().flatten();
+        if allowed.any(|parts| parts.one().is_none()) {
+            UNEQUAL.with_borrow_mut(|unequal| unequal[self as usize] += 1);
+        }
+    }
+
     /// How often it was compared on this thread.
     pub fn counts(self) -> Counts {
         COUNTED.with_borrow(|counted| counted[self as usize])
     }
+
+    /// How often of these at a tolerance with unequal parts.
+    pub fn unequal(self) -> u64 {
+        UNEQUAL.with_borrow(|unequal| unequal[self as usize])
+    }
 }
 
 thread_local! {
+    static UNEQUAL: RefCell<[u64; CALLS.len()]> = const { RefCell::new([0; CALLS.len()]) };
     static COUNTED: RefCell<[Counts; CALLS.len()]> = const { RefCell::new([[0; ROWS + 1]; CALLS.len()]) };
 }

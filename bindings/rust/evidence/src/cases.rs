@@ -3,18 +3,18 @@
 //!
 //! - [`FAMILIES`], [`any`]: every sort, and one drawn from them.
 //! - [`held_tolerances`], [`links_measured`], [`judge_list`], [`codes`], [`codes_with_tables`],
-//!   [`round_trip`], [`random_commands`], [`comparison`], [`random_faults`], [`crates`],
+//!   [`unequal_parts`], [`round_trip`], [`random_commands`], [`comparison`], [`random_faults`], [`crates`],
 //!   [`pedestal_runs`], [`traces_scanned`], [`traces_viewed`], [`traces_summed`]: sorts that the tests run by
 //!   themselves too.
 //! - [`codes_and_room`]: codes, and the entries of their output.
 
 use crate::compare::{
-    exactly, expand, expand_with, form, hold, judge, least, measure, noise, pedestals, ratio, read,
-    reduce, report, same, scan, view_add, view_begin, write,
+    exactly, exactly_parts, expand, expand_with, form, given, hold, judge, least, measure, noise,
+    pedestals, ratio, read, reduce, report, same, scan, view_add, view_begin, write,
 };
 use crate::measures::{self, judged};
 use crate::reductions::{
-    any_tolerance, least_list, lists, shortest_lists, size_bounds, tolerances,
+    any_tolerance, least_list, lists, shortest_lists, size_bound_of_all, size_bounds, tolerances,
 };
 use crate::scans::{after_sample, scanned};
 use crate::sums::added;
@@ -22,14 +22,15 @@ use crate::views::{grow, grown, within_twice};
 use kovrelna::Tolerance::{self, Counts};
 use kovrelna::GAP_MAX;
 use kovrelna_reference::generate::{
-    any_limited, any_list, any_trace, channels, content, crate_of, damage_crate, damage_summand,
-    damage_trace, damage_view, damaged, damaged_table, gap_limit, growing, just_below, overflow,
-    range_table, runs, summands, tied, view_k, view_state, Random, Runs, Trace,
+    any_limited, any_list, any_parts, any_trace, bad_parts, channels, content, crate_of,
+    damage_crate, damage_summand, damage_trace, damage_view, damaged, damaged_table, exceptional,
+    gap_limit, growing, just_below, near_parts, overflow, range_table, runs, squeezed, summands,
+    tied, view_k, view_state, written, Random, Runs, Trace,
 };
-use kovrelna_reference::record::{encode, end, first, long, short, tolerance, Content};
+use kovrelna_reference::record::{encode, end, first, long, short, tolerance, unequal, Content};
 use kovrelna_reference::{
-    beside_holes, held, link_error, link_obeys, list_error, list_obeys, longest_crossed,
-    trace_refusal, Fraction, Invalid, Measure, Side, METHODS, TRIED,
+    beside_holes, held, link_error, link_obeys, list_error, list_obeys, list_parts,
+    longest_crossed, trace_refusal, Fraction, Invalid, Measure, Parts, Side, METHODS, TRIED,
 };
 
 /// A sort of case: its name, how often it is drawn, and one case of it.
@@ -40,7 +41,7 @@ pub struct Family {
 }
 
 /// Every sort.
-pub const FAMILIES: [Family; 28] = [
+pub const FAMILIES: [Family; 29] = [
     Family {
         name: "tolerances",
         weight: 40,
@@ -84,6 +85,13 @@ pub const FAMILIES: [Family; 28] = [
         name: "shortest lists",
         weight: 20,
         case: shortest,
+    },
+    Family {
+        name: "unequal parts",
+        weight: 60,
+        case: |random| {
+            unequal_parts(random);
+        },
     },
     Family {
         name: "least errors",
@@ -216,7 +224,17 @@ pub fn held_tolerances(random: &mut Random) {
     let _ = hold(noise(near, multiple));
     let _ = hold(noise(bits, multiple));
     let _ = hold(noise(near, bits));
-    let _ = hold(ratio(random.below(65_540 * q + 2), q));
+    let any = (random.below(65_540 * q + 2), q);
+    let _ = hold(ratio(any.0, any.1));
+    let [above, below] = written(any_parts(random), random);
+    for parts in [
+        [above, below],
+        [any, below],
+        [above, any],
+        bad_parts(random),
+    ] {
+        let _ = hold(given(parts));
+    }
 }
 
 /// Measures links of a trace of up to so many samples, with equal deviations or any: from end to end,
@@ -240,13 +258,15 @@ fn error(Trace { ticks, values }: &Trace, link: &[u16]) -> Fraction {
 }
 
 /// How often judge said yes; and no for a link that the tolerance alone makes invalid, that the gap limit
-/// alone does, with an error of 0 and with one above, and that both do.
-pub type Answers = [usize; 5];
+/// alone does, with an error of 0 and with one above, and that both do. How often of these the sample that it
+/// named was within its own part.
+pub type Answers = [usize; 6];
 
 /// Judges the list at an arbitrary tolerance, and for one of its links and the worst at the error
-/// itself, one unit of the link's own fraction below it, and just below it, all under the gap limit.
-/// At its error it passes without a gap limit, under its longest step that is crossed, and under the gap
-/// limit if it obeys that; one tick below that step it does not. Counts the answers.
+/// itself, one unit of the link's own fraction below it, and just below it, and near the parts of the list,
+/// all under the gap limit. At its error it passes without a gap limit, under its longest step that is crossed,
+/// and under the gap limit if it obeys that; one tick below that step it does not. It passes at its parts.
+/// Counts the answers.
 pub fn judge_list(
     trace: &Trace,
     gap: u32,
@@ -265,6 +285,10 @@ pub fn judge_list(
         let at_error = exactly(error(trace, worst));
         let passes = |gap| judged(trace, list, at_error.with_gap(gap)).is_none();
         assert!(passes(GAP_MAX), "{list:?} {trace:?}");
+        let parts = list_parts(ticks, &trace.values, list);
+        let at_parts = judged(trace, list, exactly_parts(parts));
+        assert_eq!(at_parts, None, "{parts:?} {list:?} {trace:?}");
+        tolerances.extend([(); 2].map(|_| exactly_parts(near_parts(parts, random))));
         let obeys = list_obeys(ticks, list, Some(gap));
         assert_eq!(passes(gap), obeys, "{gap} {list:?} {trace:?}");
         if let Some(step) = longest_crossed(ticks, list) {
@@ -292,14 +316,27 @@ pub fn judge_list(
     for tolerance in tolerances {
         let answer = match judged(trace, list, tolerance.with_gap(gap)) {
             None => 0,
-            Some(Invalid { link, measure }) => match measure.side {
-                Side::Gap if measure.error.p == 0 => 2,
-                Side::Gap => 3,
-                _ if obeys(link) => 1,
-                _ => 4,
-            },
+            Some(Invalid { link, measure }) => {
+                answers[5] += usize::from(within_its_part(measure, tolerance));
+                match measure.side {
+                    Side::Gap if measure.error.p == 0 => 2,
+                    Side::Gap => 3,
+                    _ if obeys(link) => 1,
+                    _ => 4,
+                }
+            }
         };
         answers[answer] += 1;
+    }
+}
+
+/// Whether the sample that judge names beside an invalid link is within its own part of the tolerance.
+fn within_its_part(Measure { error, side, .. }: Measure, tolerance: Tolerance) -> bool {
+    let parts = held(form(tolerance)).expect("judge takes the tolerance");
+    match side {
+        Side::Above => error.at_most(parts.above),
+        Side::Below => error.at_most(parts.below),
+        _ => false,
     }
 }
 
@@ -307,7 +344,7 @@ fn lists_judged(random: &mut Random) {
     let samples = random.within(1, 40) as usize;
     let (trace, gap) = any_limited(samples, random);
     let list = any_list(&trace.ticks, gap, random);
-    judge_list(&trace, gap, &list, random, &mut [0; 5]);
+    judge_list(&trace, gap, &list, random, &mut [0; 6]);
 }
 
 fn reduced(most: i64, random: &mut Random) {
@@ -334,9 +371,49 @@ fn shortest(random: &mut Random) {
     let (trace, gap) = any_limited(samples, random);
     for tolerance in tolerances(&trace, random) {
         let limits = tolerance.with_gap(gap);
-        let [.., minimum] = lists(&trace, limits, samples);
-        shortest_lists(&trace, limits, &minimum);
+        let lists = lists(&trace, limits, samples);
+        shortest_lists(&trace, limits, &lists[2]);
+        size_bound_of_all(&trace, limits, &lists);
     }
+}
+
+/// A trace on which unequal parts matter, with its parts: an exceptional one, or a squeezed one of up to 40
+/// samples with the parts of the link from end to end, or near them. Reduces it with these parts and with the
+/// parts exchanged; turned over (-1 - v for v) with the parts exchanged it has the same lists. Judges and writes
+/// the list of both ends and another. Returns the trace, the parts and the lists.
+pub fn unequal_parts(random: &mut Random) -> (Trace, Parts, [Vec<u16>; 3]) {
+    let (trace, parts) = match random.below(4) {
+        0 => exceptional(random),
+        _ => {
+            let samples = random.within(3, 40) as usize;
+            let (trace, parts) = squeezed(samples, random);
+            let near = near_parts(parts, random);
+            (trace, random.choose(&[parts, near, near]))
+        }
+    };
+    let Trace { ticks, values } = &trace;
+    let samples = ticks.len();
+    let gap = gap_limit(ticks, random);
+    let gap = random.choose(&[gap, GAP_MAX, GAP_MAX]);
+    let limits = exactly_parts(parts).with_gap(gap);
+    let kept = lists(&trace, limits, samples);
+    size_bounds(&trace, limits, &kept);
+    if samples <= TRIED {
+        size_bound_of_all(&trace, limits, &kept);
+    }
+    let turned = Trace {
+        ticks: ticks.clone(),
+        values: values.iter().map(|&value| -1 - value).collect(),
+    };
+    let exchanged = exactly_parts(parts.exchanged()).with_gap(gap);
+    assert_eq!(lists(&turned, exchanged, samples), kept, "{trace:?}");
+    lists(&trace, exchanged, samples);
+    for list in [&[0, samples as u16 - 1], &any_list(ticks, gap, random)[..]] {
+        let row = judged(&trace, list, limits).map(|invalid| (7, invalid.link as u64));
+        let size = 6 * list.len() + 21;
+        assert_eq!(write(ticks, values, list, limits, size, 0).err(), row);
+    }
+    (trace, parts, kept)
 }
 
 fn least_error(most: i64, random: &mut Random) {
@@ -383,25 +460,29 @@ pub fn codes_with_tables(random: &mut Random) {
 #[derive(Default)]
 pub struct Written {
     pub records: usize,
+    /// Those with unequal parts.
+    pub unequal: usize,
     pub refused: usize,
     pub short_steps: usize,
     pub long_steps: usize,
 }
 
-/// Writes a list of the trace at an arbitrary tolerance, at its error and just below that, all under the gap
-/// limit; without a gap limit the record is the same. Reads it back, and writes what was read, in which no
-/// link has more than one step.
+/// Writes a list of the trace at an arbitrary tolerance, at its error and just below that, and near its parts,
+/// all under the gap limit; without a gap limit the record is the same. Reads it back, and writes what was
+/// read, in which no link has more than one step.
 pub fn round_trip(Trace { ticks, values }: &Trace, gap: u32, random: &mut Random) -> Written {
     let list = any_list(ticks, gap, random);
     let error = list_error(ticks, values, &list);
-    let mut tolerances = vec![any_tolerance(random), exactly(error)];
+    let parts = near_parts(list_parts(ticks, values, &list), random);
+    let near = given(written(parts, random));
+    let mut tolerances = vec![any_tolerance(random), exactly(error), near];
     if error.p > 0 {
         tolerances.push(exactly(just_below(error)));
     }
     let mut seen = Written::default();
     for tolerance in tolerances {
         let place = random.choose(&[0, 0, 1, 30]);
-        let size = place + 6 * list.len() + 13 + random.below(3) as usize;
+        let size = place + 6 * list.len() + 21 + random.below(3) as usize;
         let limits = tolerance.with_gap(gap);
         let record = match write(ticks, values, &list, limits, size, place) {
             Ok(record) => record,
@@ -415,9 +496,11 @@ pub fn round_trip(Trace { ticks, values }: &Trace, gap: u32, random: &mut Random
         };
         let unlimited = write(ticks, values, &list, tolerance, size, place);
         assert_eq!(unlimited.as_ref(), Ok(&record));
-        // A long step has three bytes more than a short one.
-        let long = (record.len() - 16) / 3 - list.len();
+        // Unequal parts have eight bytes more than equal ones, a long step three more than a short one.
+        let unequal = held(form(tolerance)).is_some_and(|parts| parts.one().is_none());
+        let long = (record.len() - 16 - 8 * usize::from(unequal)) / 3 - list.len();
         seen.records += 1;
+        seen.unequal += usize::from(unequal);
         seen.short_steps += list.len() - 1 - long;
         seen.long_steps += long;
         let content = read(&record, list.len(), list.len() + 1).unwrap();
@@ -426,7 +509,7 @@ pub fn round_trip(Trace { ticks, values }: &Trace, gap: u32, random: &mut Random
         assert_eq!(Some(content.tolerance), held(form(tolerance)));
         let (ticks, values) = content.trace();
         let all: Vec<u16> = (0..list.len() as u16).collect();
-        let limits = exactly(content.tolerance).with_gap(1);
+        let limits = exactly_parts(content.tolerance).with_gap(1);
         let again = write(&ticks, &values, &all, limits, record.len(), 0);
         assert_eq!(again, Ok(record));
     }
@@ -440,7 +523,7 @@ fn damaged_record(most: i64, random: &mut Random) {
     for _ in 0..random.within(1, 3) {
         let at = random.below(damaged.len() as u64 + 1) as usize;
         let any = random.bits() as u8;
-        let byte = random.choose(&[any, any, 0, 0xff, b'T', b'A', b'S', b'L', b'E']);
+        let byte = random.choose(&[any, any, 0, 0xff, b'T', b'B', b'A', b'S', b'L', b'E']);
         match random.below(8) {
             0 => damaged.truncate(at),
             1 => damaged.insert(at, byte),
@@ -461,13 +544,22 @@ fn damaged_record(most: i64, random: &mut Random) {
 
 /// Commands in any order, with any operands. Whether they are a record.
 pub fn random_commands(random: &mut Random) -> bool {
-    let mut record = tolerance(random.below(3), 1 + random.below(2));
+    let ratio = |random: &mut Random| (random.below(3), 1 + random.below(2));
+    let any = |random: &mut Random| (random.bits() & 0xff_ffff_ffff, random.bits() & 0xff_ffff);
+    let (above, below) = (ratio(random), ratio(random));
+    let mut record = match random.below(2) {
+        0 => tolerance(above.0, above.1),
+        _ => unequal(above, below),
+    };
     record.extend(first(random.bits() as u32, random.bits() as i16));
     let mut given = 1;
     for _ in 0..random.below(5) {
         given += 1;
         record.extend(match random.below(24) {
-            0 => tolerance(random.bits() & 0xff_ffff_ffff, random.bits() & 0xff_ffff),
+            0 => match any(random) {
+                (p, q) if random.below(2) == 0 => tolerance(p, q),
+                above => unequal(above, any(random)),
+            },
             1 => first(random.bits() as u32, random.bits() as i16),
             2 => end(given),
             3 => vec![random.bits() as u8],
@@ -486,15 +578,30 @@ pub fn comparison(random: &mut Random) {
     let one = content(samples, random);
     let record = encode(&one);
     assert_eq!(same(&record, &record), Ok(true));
-    // The same samples.
+    // The same samples with any other tolerance, with another part on either side, and with the parts
+    // exchanged.
     let tolerance = content(1, random).tolerance;
-    let agree = tolerance == one.tolerance;
-    let other = Content {
+    let Parts { above, below } = tolerance;
+    for tolerance in [
         tolerance,
-        ..one.clone()
-    };
-    assert_eq!(same(&record, &encode(&other)), Ok(agree));
-    assert_eq!(same(&encode(&other), &record), Ok(agree));
+        Parts {
+            above,
+            ..one.tolerance
+        },
+        Parts {
+            below,
+            ..one.tolerance
+        },
+        one.tolerance.exchanged(),
+    ] {
+        let agree = tolerance == one.tolerance;
+        let other = Content {
+            tolerance,
+            ..one.clone()
+        };
+        assert_eq!(same(&record, &encode(&other)), Ok(agree));
+        assert_eq!(same(&encode(&other), &record), Ok(agree));
+    }
     // Another value, another tick, other ticks, a sample fewer; where that is still a trace.
     let at = random.below(samples as u64) as usize;
     let mut others = vec![one.clone(); 4];
@@ -524,7 +631,10 @@ pub fn random_faults(random: &mut Random) {
     let samples = random.within(1, 12) as usize;
     let (Trace { mut ticks, values }, mut gap) = any_limited(samples, random);
     let mut list = any_list(&ticks, gap, random);
-    let mut tolerance = ratio(random.below(10), 1);
+    let mut tolerance = match random.below(2) {
+        0 => ratio(random.below(10), 1),
+        _ => given([(); 2].map(|_| (random.below(10), 1))),
+    };
     let mut count = random.within(1, 16) as usize;
     let at = random.below(samples as u64) as usize;
     let mut room = samples + random.below(3) as usize;
@@ -552,7 +662,7 @@ pub fn random_faults(random: &mut Random) {
     for method in METHODS {
         let _ = reduce(method, &ticks, &values, limits, room);
     }
-    let _ = write(&ticks, &values, &list, limits, 6 * room + 13, at);
+    let _ = write(&ticks, &values, &list, limits, 6 * room + 17, at);
     let allowance = random.choose(&[2, 3, 4, 1, 0, 4_097]);
     let _ = least(&ticks, &values, gap, allowance, room);
     let mut tolerances = vec![ratio(1, 1); count];
@@ -712,9 +822,10 @@ pub fn traces_summed(most: i64, random: &mut Random) {
     let _ = added(first, second, (rooms[0], rooms[1]));
 }
 
-/// A tolerance that is not allowed.
+/// A tolerance that is not allowed, in one part or as a whole.
 fn no_tolerance(random: &mut Random) -> Tolerance {
-    random.choose(&[ratio(1, 0), Counts(0.01), noise(0.0, -1.0)])
+    let parts = given(bad_parts(random));
+    random.choose(&[ratio(1, 0), Counts(0.01), noise(0.0, -1.0), parts, parts])
 }
 
 /// A gap limit that is not allowed.
@@ -724,7 +835,8 @@ fn no_gap(random: &mut Random) -> u32 {
 
 /// Two pedestal runs of so many channels at most, of traces of up to so many samples. Half of them may
 /// have faults that the call refuses: up to three in the traces of either run, and up to two in the
-/// lengths, the lists, the factor, the tolerance or the outputs.
+/// lengths, the lists, the factor, the tolerance or the outputs. Some tolerances are given as parts, equal or
+/// nearly so.
 pub fn pedestal_runs(most: i64, samples: usize, random: &mut Random) {
     let any = random.within(1, most) as usize;
     let count = random.choose(&[1, 2, 3, any, any, most as usize]);
@@ -735,8 +847,10 @@ pub fn pedestal_runs(most: i64, samples: usize, random: &mut Random) {
         mut k,
     } = runs(count, samples, random);
     let mut traces = [today, before];
-    let mut tolerance = match random.below(6) {
+    let mut tolerance = match random.below(8) {
         0 => any_tolerance(random),
+        1 => given(written(tolerance.into(), random)),
+        2 => given(written(near_parts(tolerance.into(), random), random)),
         _ => exactly(tolerance),
     };
     let faulty = random.below(2);
@@ -788,6 +902,13 @@ mod tests {
                 let has = call.rows().contains(&(row as u32));
                 assert_eq!(has, count > 0, "{} {row} {counts:?}", call.name());
             }
+            let unequal = call.unequal();
+            assert_eq!(
+                call.has_tolerance(),
+                unequal > 20,
+                "{} {unequal}",
+                call.name()
+            );
         }
     }
 

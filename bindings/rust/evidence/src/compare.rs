@@ -13,7 +13,9 @@ use kovrelna_reference::report::{self, Report};
 use kovrelna_reference::scans;
 use kovrelna_reference::sums::{self, Sum, Summand};
 use kovrelna_reference::views::{self, State};
-use kovrelna_reference::{Form, Fraction, Invalid, Least, Measure, Method, Reduced, Row, Side};
+use kovrelna_reference::{
+    held, Form, Fraction, Invalid, Least, Measure, Method, Parts, Reduced, Row, Side,
+};
 use std::hint::black_box;
 
 /// The tolerance p/q.
@@ -26,9 +28,26 @@ pub fn noise(noise: f64, multiple: f64) -> Tolerance {
     Tolerance::Noise { noise, multiple }
 }
 
+/// The tolerance of these parts, above and below, each as p and q.
+pub fn parts(above: (u64, u64), below: (u64, u64)) -> Tolerance {
+    given([above, below])
+}
+
+/// The same of both parts together.
+pub fn given(parts: [(u64, u64); 2]) -> Tolerance {
+    let [above, below] = parts.map(|(p, q)| Ratio { p, q });
+    Tolerance::Parts(kovrelna::Parts { above, below })
+}
+
 /// The ratio of this fraction.
-pub fn exactly(Fraction { p, q }: Fraction) -> Tolerance {
-    ratio(p as u64, q as u64)
+pub fn exactly(fraction: Fraction) -> Tolerance {
+    let Ratio { p, q } = ratio_of(fraction);
+    ratio(p, q)
+}
+
+/// The tolerance of exactly these parts.
+pub fn exactly_parts(parts: Parts) -> Tolerance {
+    Tolerance::Parts(parts_of(parts))
 }
 
 /// The reference's word for it.
@@ -37,6 +56,17 @@ pub fn form(tolerance: Tolerance) -> Form {
         Tolerance::Ratio { p, q } => Form::Ratio(p, q),
         Tolerance::Counts(counts) => Form::Counts(counts),
         Tolerance::Noise { noise, multiple } => Form::Noise(noise, multiple),
+        Tolerance::Parts(kovrelna::Parts { above, below }) => {
+            Form::Parts((above.p, above.q), (below.p, below.q))
+        }
+    }
+}
+
+/// The library's word for parts.
+fn parts_of(Parts { above, below }: Parts) -> kovrelna::Parts {
+    kovrelna::Parts {
+        above: ratio_of(above),
+        below: ratio_of(below),
     }
 }
 
@@ -85,18 +115,14 @@ pub fn call(method: Method) -> Call {
     }
 }
 
-/// Calls `hold`, compares with the reference, and returns p and q or the refusal's row.
-pub fn hold(tolerance: Tolerance) -> Result<(u64, u64), Row> {
-    let answer = kovrelna::hold(tolerance)
-        .map(|held| (held.p, held.q))
-        .map_err(row);
-    let expected = match kovrelna_reference::held(form(tolerance)) {
-        Some(held) => Ok((held.p as u64, held.q as u64)),
-        None => Err((4, 0)),
-    };
+/// Calls `hold`, compares with the reference, and returns the parts or the refusal's row.
+pub fn hold(tolerance: Tolerance) -> Result<Parts, Row> {
+    let expected = held(form(tolerance)).ok_or((4, 0));
     Call::Hold.count(&expected);
-    assert_eq!(answer, expected, "hold {tolerance:?}");
-    answer
+    Call::Hold.count_parts([expected.ok()]);
+    let answer = kovrelna::hold(tolerance).map_err(row);
+    assert_eq!(answer, expected.map(parts_of), "hold {tolerance:?}");
+    expected
 }
 
 /// A slice between guard elements, and what all of it should be after a call: a copy, unless
@@ -173,6 +199,7 @@ pub fn judge(
     let limits = limits.into();
     let expected = kovrelna_reference::judge(ticks, values, list, asked(limits));
     Call::Judge.count(&expected);
+    Call::Judge.count_parts([held(form(limits.tolerance))]);
     for guards in GUARDS {
         let ticks = Guarded::new(ticks, guards.0);
         let values = Guarded::new(values, guards.1);
@@ -212,6 +239,7 @@ pub fn reduce(
     let limits = limits.into();
     let expected = kovrelna_reference::reduce(method, ticks, values, asked(limits), room);
     call(method).count(&expected);
+    call(method).count_parts([held(form(limits.tolerance))]);
     for guards in GUARDS {
         let ticks = Guarded::new(ticks, guards.0);
         let values = Guarded::new(values, guards.1);
@@ -303,6 +331,7 @@ pub fn scan(
     let forms: Vec<Form> = tolerances.iter().copied().map(form).collect();
     let expected = scans::scan(ticks, values, &forms, self::gap(gap), room);
     Call::Scan.count(&expected);
+    Call::Scan.count_parts(forms.iter().map(|&form| held(form)));
     for guards in GUARDS {
         let ticks = Guarded::new(ticks, guards.0);
         let values = Guarded::new(values, guards.1);
@@ -531,6 +560,7 @@ pub fn write(
     let limits = limits.into();
     let expected = record::write(ticks, values, list, asked(limits), size, place);
     Call::Write.count(&expected);
+    Call::Write.count_parts([held(form(limits.tolerance))]);
     for guards in GUARDS {
         let ticks = Guarded::new(ticks, guards.0);
         let values = Guarded::new(values, guards.1);
@@ -567,6 +597,7 @@ pub fn write(
 pub fn read(record: &[u8], ticks_room: usize, values_room: usize) -> Result<Content, Row> {
     let expected = record::read(record, ticks_room, values_room);
     Call::Read.count(&expected);
+    Call::Read.count_parts([expected.as_ref().map(|content| content.tolerance).ok()]);
     for guards in GUARDS {
         let record = Guarded::new(record, guards.3);
         let before: Vec<u32> = (0..ticks_room as u32)
@@ -578,7 +609,7 @@ pub fn read(record: &[u8], ticks_room: usize, values_room: usize) -> Result<Cont
             .collect();
         let mut values = Guarded::new(&before, guards.1);
         let answer = kovrelna::read(record.slice(), ticks.slice_mut(), values.slice_mut())
-            .map(|read| (read.samples, read.tolerance.p, read.tolerance.q))
+            .map(|read| (read.samples, read.tolerance))
             .map_err(row);
         let input = || {
             format!(
@@ -591,8 +622,7 @@ pub fn read(record: &[u8], ticks_room: usize, values_room: usize) -> Result<Cont
                 let (t, v) = content.trace();
                 ticks.expect(0, &t);
                 values.expect(0, &v);
-                let Fraction { p, q } = content.tolerance;
-                Ok((t.len(), p as u64, q as u64))
+                Ok((t.len(), parts_of(content.tolerance)))
             }
             Err(row) => Err(*row),
         };
@@ -614,6 +644,8 @@ pub fn read(record: &[u8], ticks_room: usize, values_room: usize) -> Result<Cont
 pub fn same(one: &[u8], other: &[u8]) -> Result<bool, Row> {
     let expected = record::same(one, other);
     Call::Same.count(&expected);
+    let decoded = [one, other].map(|record| record::decode(record).ok());
+    Call::Same.count_parts(decoded.map(|content| Some(content?.tolerance)));
     assert!(expected.is_err() || expected == Ok(one == other));
     for guards in GUARDS {
         let (one, other) = (Guarded::new(one, guards.3), Guarded::new(other, guards.3));
@@ -666,6 +698,7 @@ pub fn report(channels: &Channels, limits: impl Into<Limits>, room: usize) -> Re
     } = channels;
     let expected = report::report(ticks, values, lengths, asked(limits), room);
     Call::Report.count(&expected);
+    Call::Report.count_parts([held(form(limits.tolerance))]);
     for guards in GUARDS {
         let lent = GuardedCrate::new(channels, guards);
         // No channel has such a summary.
@@ -736,6 +769,7 @@ pub fn pedestals(
 ) -> Result<Pedestals, Row> {
     let expected = pedestals::pedestals(today, before, form(tolerance), k, rooms);
     Call::Pedestals.count(&expected);
+    Call::Pedestals.count_parts([held(form(tolerance))]);
     for guards in GUARDS {
         let [today, before] = [today, before].map(|run| GuardedCrate::new(run, guards));
         let (mut moved, mut noisy) = (output(rooms.0, guards.2), output(rooms.1, guards.2));

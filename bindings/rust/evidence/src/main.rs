@@ -17,7 +17,8 @@ use std::time::{Duration, Instant};
 const HELP: &str = "\
 Compares the library with the slow reference on random and adversarial traces,
 crates, pedestal runs, range tables and damaged records. Prints how often each
-call was compared, by answer and by refusal, and how many cases differed.
+call was compared, by answer and by refusal and at tolerances with unequal
+parts, and how many cases differed.
 
 Usage: evidence [--cases N | --minutes M] [--seed S]
        evidence --seed S --case K
@@ -150,16 +151,20 @@ fn compare(options: &Options) -> Differed {
     differed
 }
 
-/// What was compared, as a table: for each call how often it answered and how often each row of the
-/// table of refusals was due.
+/// What was compared, as a table: for each call how often it answered, how often each row of the table of
+/// refusals was due, and how often of both a tolerance had unequal parts.
 fn report(options: &Options, differed: &Differed) -> String {
-    let mut report = format!("{:<12}{:>10}", "call", "answered");
+    let mut report = format!("{:<12}{:>10}{:>10}", "call", "answered", "unequal");
     for row in 1..=ROWS {
         report += &format!("{:>9}", format!("row {row}"));
     }
     for call in CALLS {
         let counts = call.counts();
-        report += &format!("\n{:<12}{:>10}", call.name(), counts[0]);
+        let unequal = match call.has_tolerance() {
+            true => call.unequal().to_string(),
+            false => "-".into(),
+        };
+        report += &format!("\n{:<12}{:>10}{unequal:>10}", call.name(), counts[0]);
         for (row, count) in counts.iter().enumerate().skip(1) {
             let has = call.rows().contains(&(row as u32));
             let shown = if has { count.to_string() } else { "-".into() };

@@ -1,13 +1,13 @@
 //! What holds of the lists of walk, gallop, minimum and least beyond their definitions, and tolerances
 //! at which they change. A check that fails panics, with its input.
 
-use crate::compare::{asked, exactly, judge, least, noise, ratio, reduce};
+use crate::compare::{asked, exactly, exactly_parts, given, judge, least, noise, ratio, reduce};
 use kovrelna::{Limits, Tolerance};
-use kovrelna_reference::generate::{just_below, Random, Trace};
+use kovrelna_reference::generate::{any_parts, just_below, near_parts, written, Random, Trace};
 use kovrelna_reference::Method::{self, Gallop, Minimum, Walk};
 use kovrelna_reference::{
-    beside_holes, fewest, kept_lists, link_error, link_valid, list_error, list_obeys, Least,
-    Reduced, TOLERANCE,
+    beside_holes, fewest, kept_lists, link_error, link_parts, link_valid, list_error, list_obeys,
+    list_parts, Least, Reduced, TOLERANCE,
 };
 
 /// The methods whose stops are maximal.
@@ -89,8 +89,13 @@ fn has_all(list: &[u16], samples: &[u16]) -> bool {
     samples.iter().all(|sample| list.any(|kept| kept == sample))
 }
 
-/// No kept list within the limits is shorter than minimum's, and none within half the tolerance under
-/// the same gap limit is shorter than a greedy one.
+/// So much of the smaller part of a tolerance above the line, and the rest of it below: none, all of it, and
+/// half, which with equal parts is half the tolerance.
+const SHARES: [(i128, i128); 3] = [(0, 1), (1, 1), (1, 2)];
+
+/// No kept list within the limits is shorter than minimum's; and none that obeys the gap limit, and from whose
+/// lines no sample lies more than a above or more than b below, is shorter than a greedy one, for a and b that
+/// are together the smaller part of the tolerance.
 pub fn size_bounds(
     trace: &Trace,
     limits: impl Into<Limits>,
@@ -98,30 +103,60 @@ pub fn size_bounds(
 ) {
     let limits = asked(limits.into()).held().unwrap();
     let fewest = |limits| fewest(&trace.ticks, &trace.values, limits);
-    let (whole, half) = (fewest(limits), fewest(limits.half()));
-    assert_eq!(minimum.len(), whole, "{trace:?}\n{limits:?}");
-    assert!(
-        walk.len() <= half && gallop.len() <= half,
-        "{walk:?} or {gallop:?}, {half} at half the tolerance\n{trace:?}\n{limits:?}"
-    );
+    assert_eq!(minimum.len(), fewest(limits), "{trace:?}\n{limits:?}");
+    for (above, n) in SHARES {
+        let within = limits.shared(above, n);
+        let least = fewest(within);
+        assert!(
+            walk.len() <= least && gallop.len() <= least,
+            "{walk:?} or {gallop:?}, {least} within {within:?}\n{trace:?}\n{limits:?}"
+        );
+    }
 }
 
-/// A tolerance of any form, small, wide or zero.
+/// The same of every kept list, for all such a and b: a list that obeys the gap limit is within some of them
+/// exactly if the most that a sample lies above its lines and the most that one lies below are together at
+/// most the smaller part. Returns how many lists are. The trace is short.
+pub fn size_bound_of_all(
+    trace: &Trace,
+    limits: impl Into<Limits>,
+    [walk, gallop, _]: &[Vec<u16>; 3],
+) -> usize {
+    let limits = asked(limits.into()).held().unwrap();
+    let Trace { ticks, values } = trace;
+    let smaller = limits.tolerance.smaller();
+    let within = |list: &Vec<u16>| {
+        list_obeys(ticks, list, limits.gap)
+            && list_parts(ticks, values, list).sum().at_most(smaller)
+    };
+    let mut count = 0;
+    for list in kept_lists(ticks.len()).filter(within) {
+        assert!(
+            walk.len() <= list.len() && gallop.len() <= list.len(),
+            "{walk:?} or {gallop:?}, {list:?}\n{trace:?}\n{limits:?}"
+        );
+        count += 1;
+    }
+    count
+}
+
+/// A tolerance of any form, small, wide or zero; half of them are given as parts.
 pub fn any_tolerance(random: &mut Random) -> Tolerance {
     let q = random.choose(&[1, 6, 1_000, 1_048_575]);
     let q = 1 + random.below(q);
     let most = random.choose(&[0, 1, 6, 1_000, 65_535]);
-    match random.below(3) {
+    match random.below(6) {
         0 => ratio(random.below(most * q + 1), q),
         1 => Tolerance::Counts(random.below(64 * most + 1) as f64 / 64.0),
-        _ => {
+        2 => {
             let part = random.below(64 * most.min(1_023) + 1) as f64 / 64.0;
             noise(part, random.below(8 * 63 + 1) as f64 / 8.0)
         }
+        _ => given(written(any_parts(random), random)),
     }
 }
 
-/// An arbitrary tolerance; a link's error, and just below it.
+/// An arbitrary tolerance; a link's error and just below it, or a link's parts and near them.
 pub fn tolerances(Trace { ticks, values }: &Trace, random: &mut Random) -> Vec<Tolerance> {
     let mut tolerances = vec![any_tolerance(random)];
     if ticks.len() > 2 {
@@ -130,6 +165,12 @@ pub fn tolerances(Trace { ticks, values }: &Trace, random: &mut Random) -> Vec<T
         let longest = ticks.len() - 1 - i;
         let most = random.choose(&[3, 8, longest]).min(longest);
         let j = i + random.within(2, most as i64) as usize;
+        if random.below(2) == 0 {
+            let parts = link_parts(ticks, values, i, j);
+            let near = near_parts(parts, random);
+            tolerances.extend([parts, near].map(exactly_parts));
+            return tolerances;
+        }
         let error = link_error(ticks, values, i, j);
         tolerances.push(exactly(error));
         if error.p > 0 {
@@ -182,7 +223,7 @@ pub fn least_list(trace: &Trace, gap: u32, allowance: u64, room: usize) -> Optio
     assert_eq!(minimum.unwrap().list, *list, "{}", input());
     if error.p > 0 {
         let below = kovrelna_reference::Limits {
-            tolerance: just_below(*error),
+            tolerance: just_below(*error).into(),
             gap: Some(gap),
         };
         assert!(fewest(ticks, values, below) > allowance, "{}", input());

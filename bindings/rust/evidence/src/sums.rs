@@ -3,11 +3,11 @@
 use crate::compare::{exactly, form, judge, sum};
 use kovrelna_reference::generate::Trace;
 use kovrelna_reference::sums::{bound, Sum, Summand};
-use kovrelna_reference::{held, list_error, list_refusal, longest_crossed, Row};
+use kovrelna_reference::{held, list_error, list_parts, list_refusal, longest_crossed, Row};
 
 /// Adds two traces with outputs of so many entries and sees what holds of every sum. The joined list is a
-/// kept list of the summed trace; with T1 and T2 the errors of the two lists, its error is at most
-/// 2 (T1 + T2), and it obeys every gap limit that both lists obey; where that bound is allowed as a
+/// kept list of the summed trace; with U1 and D1, U2 and D2 the least parts of the two lists, its error is at
+/// most U1 + D1 + U2 + D2, and it obeys every gap limit that both lists obey; where that bound is allowed as a
 /// tolerance, judge passes it there, under the least of these gap limits. With the traces exchanged the sum
 /// is the same. The sum of either trace and one of zeros, kept at its two ends, is that trace and its list.
 pub fn added(first: &Summand, second: &Summand, rooms: (usize, usize)) -> Result<Sum, Row> {
@@ -18,8 +18,8 @@ pub fn added(first: &Summand, second: &Summand, rooms: (usize, usize)) -> Result
     let ticks = &first.trace.ticks;
     let samples = ticks.len();
     assert_eq!(list_refusal(samples, list), None, "{}", input());
-    let error = |Summand { trace, list }: &Summand| list_error(ticks, &trace.values, list);
-    let at_most = bound(error(first), error(second)).lowest();
+    let parts = |Summand { trace, list }: &Summand| list_parts(ticks, &trace.values, list);
+    let at_most = bound(parts(first), parts(second)).lowest();
     let joined = list_error(ticks, values, list);
     assert!(
         joined.at_most(at_most),

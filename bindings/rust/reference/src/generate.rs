@@ -1,5 +1,5 @@
-//! Repeatable random traces, lists, states of views, range tables, contents of records, crates, pedestal runs
-//! and traces to be added, chosen to find mistakes.
+//! Repeatable random traces, tolerances, lists, states of views, range tables, contents of records, crates,
+//! pedestal runs and traces to be added, chosen to find mistakes.
 //!
 //! - [`Random`]: numbers from a seed.
 //! - [`Trace`], [`Kind`], [`trace`]: traces within the limits, of several kinds.
@@ -11,7 +11,12 @@
 //!   faults.
 //! - [`growing`], [`view_k`], [`view_state`], [`damage_view`]: traces for views, with ties and without, and
 //!   states of views and others.
-//! - [`just_below`]: the tolerance nearest below a link's error.
+//! - [`just_below`], [`just_above`], [`near_parts`]: the tolerances nearest to a link's error, and to its
+//!   parts.
+//! - [`any_ratio`], [`any_parts`], [`written`], [`bad_ratio`], [`bad_parts`]: tolerances that are allowed, in
+//!   lowest terms and not, and others.
+//! - [`squeezed`], [`exceptional`]: traces with parts at which few slopes are left, and on which unequal parts
+//!   differ from equal ones.
 //! - [`range_table`], [`damaged_table`]: range tables that are allowed, and others.
 //! - [`content`]: contents of records.
 //! - [`Channels`], [`crate_of`], [`channels`]: crates whose channels are traces and others.
@@ -25,7 +30,10 @@ use crate::pedestals::{Sums, FACTOR};
 use crate::record::Content;
 use crate::sums::Summand;
 use crate::views::{State, ENTRIES, K};
-use crate::{beside_holes, Fraction, DENOMINATOR, GAP, SAMPLES, SPAN, TOLERANCE};
+use crate::{
+    beside_holes, link_parts, Fraction, Parts, DENOMINATOR, GAP, SAMPLES, SPAN, TOLERANCE,
+};
+use std::collections::BTreeMap;
 
 /// A generator (splitmix64): the same seed gives the same numbers.
 pub struct Random(u64);
@@ -175,6 +183,8 @@ fn values(kind: Kind, samples: usize, random: &mut Random) -> Vec<i16> {
 pub enum Shape {
     /// A straight line in whole values, with a few samples one off: cones stay barely open.
     Line,
+    /// Beside a straight line, so far above it or so far below it: either side has a part of its own.
+    Band,
     /// Ever steeper: each sample closes the cone on one side.
     Bow,
     /// Up and down by the same height, with a few samples on the line: validity falls and rises again.
@@ -191,8 +201,9 @@ pub enum Shape {
 }
 
 /// Every shape.
-pub const SHAPES: [Shape; 7] = [
+pub const SHAPES: [Shape; 8] = [
     Shape::Line,
+    Shape::Band,
     Shape::Bow,
     Shape::Swing,
     Shape::Doubling,
@@ -216,6 +227,7 @@ fn shaped(shape: Shape, ticks: &[u32], random: &mut Random) -> Vec<i16> {
     let span = i64::from(ticks[samples - 1] - ticks[0]).max(1);
     let (from, to) = (random.within(low, high), random.within(low, high));
     let height = random.choose(&[1, 3, 7, 500, high]);
+    let depth = random.choose(&[0, 1, 2, 9, 300, high]);
     let period = random.choose(&[8, 32, 4_096]);
     let edge = random.below(samples as u64) as usize;
     let values = (0..samples).map(|k| {
@@ -223,6 +235,10 @@ fn shaped(shape: Shape, ticks: &[u32], random: &mut Random) -> Vec<i16> {
         let off = random.below(9) == 0;
         let value = match shape {
             Shape::Line => from + (to - from) * at / span + i64::from(off),
+            Shape::Band => {
+                let beside = random.choose(&[height, height, -depth, -depth, 0]);
+                from + (to - from) * at / span + beside + i64::from(off)
+            }
             Shape::Bow => from + height * at / span * at / span + i64::from(off),
             Shape::Swing if off => 0,
             Shape::Swing => height * (k as i64 % 2),
@@ -498,12 +514,205 @@ pub fn damage_view(state: &mut State, random: &mut Random) {
 
 /// For p/q above 0 in lowest terms, q at most 1,048,575: the r/s below it with p s - r q = 1 and s
 /// as great as a tolerance allows. No fraction with that s lies between.
-pub fn just_below(Fraction { p, q }: Fraction) -> Fraction {
-    let s = DENOMINATOR - (DENOMINATOR - inverse(p, q)).rem_euclid(q);
+pub fn just_below(fraction: Fraction) -> Fraction {
+    nearest(fraction, -1, DENOMINATOR)
+}
+
+/// The same above p/q, which may be 0, with r q - p s = 1; p/q itself if that is the greatest tolerance.
+pub fn just_above(fraction: Fraction) -> Fraction {
+    match fraction.p == TOLERANCE * fraction.q {
+        true => fraction,
+        false => nearest(fraction, 1, DENOMINATOR),
+    }
+}
+
+/// The r/s with r q - p s = step, which is 1 or -1, and s at most so great.
+fn nearest(Fraction { p, q }: Fraction, step: i128, most: i128) -> Fraction {
+    let s = most - (most + step * inverse(p, q)).rem_euclid(q);
     Fraction {
-        p: (p * s - 1) / q,
+        p: (p * s + step) / q,
         q: s,
     }
+}
+
+/// Each part as it is, or the nearest to it above or below; a quarter of them any other. The nearest have
+/// denominators up to the greatest for the part above, and up to one less for the part below.
+pub fn near_parts(Parts { above, below }: Parts, random: &mut Random) -> Parts {
+    let mut near = |part: Fraction, most: i128| match random.below(8) {
+        0..=2 => part,
+        3 if part.p > 0 => nearest(part, -1, most),
+        4 if part.p < TOLERANCE * part.q => nearest(part, 1, most),
+        5 | 6 => any_ratio(random),
+        _ => part,
+    };
+    Parts {
+        above: near(above, DENOMINATOR),
+        below: near(below, DENOMINATOR - 1),
+    }
+}
+
+/// A ratio that is allowed as a tolerance, in lowest terms.
+pub fn any_ratio(random: &mut Random) -> Fraction {
+    let q = random.choose(&[1, 6, 1_000, DENOMINATOR]);
+    let q = 1 + i128::from(random.below(q as u64));
+    let most = random.choose(&[0, 1, 6, 1_000, TOLERANCE]) * q;
+    let any = i128::from(random.below(most as u64 + 1));
+    let p = random.choose(&[any, any, most]);
+    Fraction { p, q }.lowest()
+}
+
+/// Parts that are allowed, in lowest terms: equal; any two; one of them 0; with the same numerator; with
+/// numerators one apart; as near each other as can be; at the limits.
+pub fn any_parts(random: &mut Random) -> Parts {
+    let above = any_ratio(random);
+    let zero = Fraction { p: 0, q: 1 };
+    let below = match random.below(8) {
+        0 => above,
+        1 | 2 => any_ratio(random),
+        3 => zero,
+        // The same numerator, over a denominator that has no factor of it.
+        4 => Fraction {
+            p: above.p,
+            q: (above.q + above.p.max(1)).min(DENOMINATOR),
+        },
+        5 => Fraction {
+            p: (above.p + 1).min(TOLERANCE * above.q),
+            q: above.q,
+        },
+        6 => just_above(above),
+        _ => {
+            let least = Fraction {
+                p: 1,
+                q: DENOMINATOR,
+            };
+            let greatest = Fraction { p: TOLERANCE, q: 1 };
+            random.choose(&[zero, least, just_below(greatest), greatest])
+        }
+    };
+    let below = below.lowest();
+    match random.below(2) {
+        0 => Parts { above, below },
+        _ => Parts { above, below }.exchanged(),
+    }
+}
+
+/// p and q of the part above and of the part below, each in lowest terms or not.
+pub fn written(Parts { above, below }: Parts, random: &mut Random) -> [(u64, u64); 2] {
+    [above, below].map(|Fraction { p, q }| {
+        let most = DENOMINATOR / q;
+        let any = random.within(1, most as i64) as i128;
+        let times = random.choose(&[1, 2.min(most), any, most]);
+        ((p * times) as u64, (q * times) as u64)
+    })
+}
+
+/// A ratio that is not allowed as a tolerance, at a limit or beyond it; some are allowed if they are cut to
+/// 32 bits.
+pub fn bad_ratio(random: &mut Random) -> (u64, u64) {
+    let (q, most) = (DENOMINATOR as u64, TOLERANCE as u64);
+    random.choose(&[
+        (0, 0),
+        (1, 0),
+        (0, q + 1),
+        (1, 1 << 32 | 1),
+        (0, u64::MAX),
+        (most + 1, 1),
+        (most * q + 1, q),
+        (1 << 48, 1),
+        (u64::MAX, u64::MAX),
+        (u64::MAX, 1),
+    ])
+}
+
+/// The same of parts of which the one above is not allowed, the one below, or neither.
+pub fn bad_parts(random: &mut Random) -> [(u64, u64); 2] {
+    let mut parts = written(any_parts(random), random);
+    let (from, to) = random.choose(&[(0, 1), (1, 2), (0, 2)]);
+    parts[from..to].fill_with(|| bad_ratio(random));
+    parts
+}
+
+/// A trace of at most so many samples, at least two, beside the line from its first sample to its last, and
+/// the least parts at which the link between these is valid. Those above the line lie above it by fractions
+/// over one number, those below it by fractions over another, which has no factor in common with the first:
+/// where both parts are reached, that slope alone is left.
+pub fn squeezed(samples: usize, random: &mut Random) -> (Trace, Parts) {
+    let (one, other) =
+        random.choose(&[(1, 1), (2, 3), (5, 7), (16, 15), (128, 127), (1_025, 1_023)]);
+    let (one, other) = random.choose(&[(one, other), (other, one)]);
+    let period = one * other;
+    // As many periods as there is room for, which the samples may share.
+    let periods = random.within(1, (i64::from(SPAN) / period).min(samples as i64));
+    let last = periods * period;
+    let steep = random.choose(&[1, 7, period / 2, period + 1]);
+    let rise = random
+        .within(-steep, steep)
+        .clamp(-65_000 / periods, 65_000 / periods);
+    let (height, depth) = (random.below(4) as i64, random.below(9) as i64);
+    // Above the line, rounded up, below it, rounded down, and on it: the ticks between the samples, and how far
+    // from that the value is.
+    let sides = [(other, height), (one, -depth), (period, 0)];
+    let mut inner = BTreeMap::new();
+    for k in 2..samples {
+        let any = random.below(3) as usize;
+        let side = if k < 4 { k - 2 } else { any };
+        let (step, beside) = sides[side];
+        let at = step * random.within(0, last / step);
+        let line = match side {
+            0 => -(-rise * at).div_euclid(period),
+            _ => (rise * at).div_euclid(period),
+        };
+        inner.insert(at, line + random.choose(&[beside, beside, 0]));
+    }
+    inner.insert(0, 0);
+    inner.insert(last, rise * periods);
+    let offsets: Vec<u32> = inner.keys().map(|&at| at as u32).collect();
+    let (least, most) = (inner.values().min(), inner.values().max());
+    let lowest = i64::from(i16::MIN) - least.expect("there are two samples");
+    let highest = i64::from(i16::MAX) - most.expect("there are two samples");
+    let level = random.choose(&[lowest, (lowest + highest) / 2, highest]);
+    let trace = Trace {
+        values: inner.values().map(|value| (level + value) as i16).collect(),
+        ticks: begun(&offsets, random),
+    };
+    let parts = link_parts(&trace.ticks, &trace.values, 0, trace.ticks.len() - 1);
+    (trace, parts)
+}
+
+/// Traces with parts on which wrong readings of unequal parts differ from the right one: within half of each
+/// part, within the larger part together, and within the smaller one each there are shorter lists than the
+/// greedy ones; the sample farthest from the line is within its own part. Times any whole number, anywhere,
+/// and turned over with the parts exchanged.
+pub fn exceptional(random: &mut Random) -> (Trace, Parts) {
+    type Case<'a> = (&'a [i64], (i128, i128), (i128, i128));
+    let cases: [Case; 5] = [
+        (&[1, 1, 0, 1], (0, 1), (3, 1)),
+        (&[1, 1, -1], (1, 2), (2, 1)),
+        (&[0, 2, 1, 3], (1, 1), (3, 1)),
+        (&[1, 0, 1, -1], (5, 1), (0, 1)),
+        (&[0, 2, 0, -2, 0], (2, 1), (1, 1)),
+    ];
+    let (values, above, below) = random.choose(&cases);
+    let times = random.choose(&[1, 2, 3, 500, 8_000]);
+    let apart = random.choose(&[1, 2, 9, SPAN / 4]);
+    let offsets: Vec<u32> = (0..values.len() as u32).map(|k| apart * k).collect();
+    let level = random.choose(&[0, 0, -7_000, 7_000]);
+    let turned = random.below(2) == 0;
+    let sign = if turned { -1 } else { 1 };
+    let value = |value: &i64| (level + sign * times * value) as i16;
+    let part = |(p, q): (i128, i128)| Fraction {
+        p: i128::from(times) * p,
+        q,
+    };
+    let parts = Parts {
+        above: part(above).lowest(),
+        below: part(below).lowest(),
+    };
+    let trace = Trace {
+        ticks: begun(&offsets, random),
+        values: values.iter().map(value).collect(),
+    };
+    (trace, if turned { parts.exchanged() } else { parts })
 }
 
 /// A range table that is allowed. It rises by ones, by little, by much, or as the built-in values do; in
@@ -559,7 +768,7 @@ pub fn damaged_table(table: &[i16], random: &mut Random) -> Vec<i16> {
 }
 
 /// The content of a record with so many samples: steps at the limits of short ones and others, up to
-/// exactly the greatest span; ticks as those of a trace; any tolerance.
+/// exactly the greatest span; ticks as those of a trace; any tolerance, with unequal parts in some.
 pub fn content(samples: usize, random: &mut Random) -> Content {
     let (low, high) = (i64::from(i16::MIN), i64::from(i16::MAX));
     let any = random.within(low, high);
@@ -578,13 +787,11 @@ pub fn content(samples: usize, random: &mut Random) -> Content {
         }
         values.push(value as i16);
     }
-    let q = random.choose(&[1, 6, 1_000, DENOMINATOR]);
-    let q = 1 + i128::from(random.below(q as u64));
-    let most = random.choose(&[0, 1, 1_000, TOLERANCE]) * q;
-    let any = i128::from(random.below(most as u64 + 1));
-    let p = random.choose(&[any, most]);
     Content {
-        tolerance: Fraction { p, q }.lowest(),
+        tolerance: match random.below(3) {
+            0 => any_ratio(random).into(),
+            _ => any_parts(random),
+        },
         samples: begun(&offsets, random).into_iter().zip(values).collect(),
     }
 }
@@ -884,7 +1091,8 @@ mod tests {
     use crate::sums::{bound, sum};
     use crate::views::{add, begin};
     use crate::{
-        above_line, link_error, link_valid, list_error, list_obeys, list_refusal, trace_refusal,
+        above_line, held, link_error, link_valid, list_error, list_obeys, list_parts, list_refusal,
+        trace_refusal, Form,
     };
 
     #[test]
@@ -1129,6 +1337,55 @@ mod tests {
         );
     }
 
+    /// Parts that are equal, of which either is 0, with the same numerator or denominator, one unit of both
+    /// fractions apart, and at the limits; written in lowest terms and not.
+    #[test]
+    fn parts_of_every_sort() {
+        let random = &mut Random::new(26);
+        let (mut seen, mut forms) = ([0; 8], [0; 4]);
+        for _ in 0..4_000 {
+            let parts = any_parts(random);
+            let [one, other] = written(parts, random);
+            assert_eq!(held(Form::Parts(one, other)), Some(parts));
+            let Parts { above, below } = parts;
+            let unequal = parts.one().is_none();
+            let greatest = Fraction { p: TOLERANCE, q: 1 };
+            let sorts = [
+                !unequal,
+                unequal && above.p == 0,
+                unequal && below.p == 0,
+                unequal && above.p == below.p,
+                unequal && above.q == below.q,
+                (above.p * below.q - below.p * above.q).abs() == 1,
+                unequal && above == greatest,
+                unequal && below == greatest,
+            ];
+            (0..8).for_each(|sort| seen[sort] += usize::from(sorts[sort]));
+            let lowest = [(one.1, above.q), (other.1, below.q)]
+                .map(|(q, least)| usize::from(i128::from(q) == least));
+            forms[lowest[0] + 2 * lowest[1]] += 1;
+        }
+        let seen = seen.iter().chain(&forms);
+        assert!(seen.clone().min() > Some(&50), "{seen:?}");
+    }
+
+    /// Bad parts are bad above, below, and on either side.
+    #[test]
+    fn bad_parts_of_every_sort() {
+        let random = &mut Random::new(27);
+        let mut seen = [0; 3];
+        for _ in 0..1_000 {
+            let allowed = bad_parts(random).map(|(p, q)| held(Form::Ratio(p, q)).is_some());
+            match allowed {
+                [false, true] => seen[0] += 1,
+                [true, false] => seen[1] += 1,
+                [false, false] => seen[2] += 1,
+                [true, true] => panic!("both parts are allowed"),
+            }
+        }
+        assert!(seen.iter().all(|&count| count > 200), "{seen:?}");
+    }
+
     /// Traces to be added are traces with the same ticks and with kept lists. Sums at either end of the range
     /// come up, and beyond it; lists that are the same, of both ends alone and of every sample; joined lists
     /// with errors above those of the two lists together, and exactly at the bound.
@@ -1157,12 +1414,12 @@ mod tests {
             };
             ends[0] += u32::from(sum.values.contains(&i16::MIN));
             ends[1] += u32::from(sum.values.contains(&i16::MAX));
-            let error = |values: &[i16], list| list_error(&first.trace.ticks, values, list);
-            let [t1, t2] = pair
+            let ticks = &first.trace.ticks;
+            let [one, two] = pair
                 .each_ref()
-                .map(|summand| error(&summand.trace.values, &summand.list));
-            let bound = bound(t1, t2);
-            let joined = error(&sum.values, &sum.list);
+                .map(|summand| list_parts(ticks, &summand.trace.values, &summand.list));
+            let bound = bound(one, two);
+            let joined = list_error(ticks, &sum.values, &sum.list);
             let place = match (joined.at_most(bound.half()), bound.at_most(joined)) {
                 (true, _) => 0,
                 (false, false) => 1,
@@ -1208,6 +1465,38 @@ mod tests {
                 assert_eq!(error.p * below.q - below.p * error.q, 1, "{error:?}");
                 assert!(below.p >= 0 && (1..=DENOMINATOR).contains(&below.q));
             }
+            let above = just_above(error);
+            let greatest = error.p == TOLERANCE * error.q;
+            let apart = above.p * error.q - error.p * above.q;
+            assert_eq!(apart, i128::from(!greatest), "{error:?}");
+            assert!((1..=DENOMINATOR).contains(&above.q) && above.p <= TOLERANCE * above.q);
         }
+    }
+
+    /// Parts as they are, one unit of both fractions above and below, on either side; with denominators
+    /// 1,048,575 and 1,048,574 too.
+    #[test]
+    fn near_parts_of_every_sort() {
+        let random = &mut Random::new(28);
+        let (mut seen, mut greatest) = ([[0; 3]; 2], 0);
+        for _ in 0..3_000 {
+            let parts = any_parts(random);
+            let near = near_parts(parts, random);
+            for (side, (one, other)) in [(parts.above, near.above), (parts.below, near.below)]
+                .iter()
+                .enumerate()
+            {
+                let form = Form::Ratio(other.p as u64, other.q as u64);
+                assert!(held(form).is_some(), "{parts:?} {near:?}");
+                let apart = other.p * one.q - one.p * other.q;
+                if (-1..=1).contains(&apart) {
+                    seen[side][(apart + 1) as usize] += 1;
+                }
+            }
+            let unlike = near.above.q == DENOMINATOR && near.below.q == DENOMINATOR - 1;
+            greatest += usize::from(unlike);
+        }
+        let least = seen.as_flattened().iter().min();
+        assert!(least > Some(&50) && greatest > 5, "{seen:?} {greatest}");
     }
 }

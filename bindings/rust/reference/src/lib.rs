@@ -2,12 +2,14 @@
 //! numbers, clear before fast. It knows nothing of the library that is compared with it.
 //!
 //! - [`Fraction`]: exact fractions, compared by cross multiplication.
+//! - [`Parts`]: the two parts of a tolerance.
 //! - [`Limits`]: what a link is asked to meet.
-//! - [`above_line`], [`deviation`], [`link_error`], [`link_obeys`], [`link_valid`], [`valid_ends`]: links
-//!   of a trace.
+//! - [`above_line`], [`deviation`], [`link_error`], [`link_parts`], [`link_obeys`], [`link_valid`],
+//!   [`valid_ends`]: links of a trace.
 //! - [`Side`], [`Measure`], [`link_measure`]: a link's error, the sample where it occurs, and its side.
-//! - [`list_error`], [`worst_sample`], [`list_obeys`], [`longest_crossed`], [`beside_holes`]: kept lists.
-//! - [`Form`], [`held`]: the three forms of a tolerance.
+//! - [`list_error`], [`list_parts`], [`worst_sample`], [`list_obeys`], [`longest_crossed`],
+//!   [`beside_holes`]: kept lists.
+//! - [`Form`], [`held`]: the four forms of a tolerance.
 //! - [`trace_refusal`], [`list_refusal`]: rows 1 to 3 and row 6 of the table of refusals.
 //! - [`measure`]: the call.
 //! - [`Invalid`], [`judge`]: the call.
@@ -22,8 +24,8 @@
 //! - [`scans`]: the scan of a trace at several tolerances.
 //! - [`views`]: the live view of a trace that grows.
 //! - [`sums`]: two traces with kept lists, added.
-//! - [`generate`]: repeatable random traces, lists, states of views, range tables, contents of records,
-//!   crates, pedestal runs and traces to be added.
+//! - [`generate`]: repeatable random traces, tolerances, lists, states of views, range tables, contents of
+//!   records, crates, pedestal runs and traces to be added.
 
 pub mod generate;
 pub mod pedestals;
@@ -83,9 +85,71 @@ impl Fraction {
             q: self.q / a,
         }
     }
+
+    /// The sum of two fractions.
+    pub fn plus(self, other: Fraction) -> Fraction {
+        Fraction {
+            p: self.p * other.q + other.p * self.q,
+            q: self.q * other.q,
+        }
+    }
 }
 
-/// What a link is asked to meet: a tolerance, in one of its forms or as a fraction, and a gap limit, if
+/// The parts of a tolerance: for the samples above the line, and for those below it.
+#[derive(Clone, Copy, Debug, PartialEq, Eq)]
+pub struct Parts {
+    pub above: Fraction,
+    pub below: Fraction,
+}
+
+impl From<Fraction> for Parts {
+    /// The same part above and below.
+    fn from(both: Fraction) -> Self {
+        Parts {
+            above: both,
+            below: both,
+        }
+    }
+}
+
+impl Parts {
+    /// The fraction that both parts are, if they are equal as numbers.
+    pub fn one(self) -> Option<Fraction> {
+        let Parts { above, below } = self;
+        (above.at_most(below) && below.at_most(above)).then_some(above)
+    }
+
+    /// The smaller part.
+    pub fn smaller(self) -> Fraction {
+        ordered(self.above, self.below).0
+    }
+
+    /// The larger part.
+    pub fn larger(self) -> Fraction {
+        ordered(self.above, self.below).1
+    }
+
+    /// The part above and the part below, together.
+    pub fn sum(self) -> Fraction {
+        self.above.plus(self.below)
+    }
+
+    /// The part below for the samples above the line, and the part above for those below it.
+    pub fn exchanged(self) -> Parts {
+        Parts {
+            above: self.below,
+            below: self.above,
+        }
+    }
+
+    /// Whether a sample that lies so much above the line, below it if that is negative, is within its part.
+    fn allow(self, Fraction { p, q }: Fraction) -> bool {
+        let part = if p < 0 { self.below } else { self.above };
+        Fraction { p: p.abs(), q }.at_most(part)
+    }
+}
+
+/// What a link is asked to meet: a tolerance, in one of its forms or as its parts, and a gap limit, if
 /// there is one.
 #[derive(Clone, Copy, Debug)]
 pub struct Limits<T> {
@@ -103,19 +167,31 @@ impl<T> From<T> for Limits<T> {
     }
 }
 
-impl Limits<Fraction> {
-    /// Half the tolerance under the same gap limit.
-    pub fn half(self) -> Self {
+impl From<Fraction> for Limits<Parts> {
+    /// The same part above and below, and no gap limit.
+    fn from(both: Fraction) -> Self {
+        Parts::from(both).into()
+    }
+}
+
+impl Limits<Parts> {
+    /// So many n-ths of the smaller part above, and the rest of it below, under the same gap limit.
+    pub fn shared(self, above: i128, n: i128) -> Self {
+        let Fraction { p, q } = self.tolerance.smaller();
+        let share = |k: i128| Fraction { p: k * p, q: n * q };
         Limits {
-            tolerance: self.tolerance.half(),
+            tolerance: Parts {
+                above: share(above),
+                below: share(n - above),
+            },
             gap: self.gap,
         }
     }
 }
 
 impl Limits<Form> {
-    /// Row 4 or row 15; or the limits with the tolerance in lowest terms.
-    pub fn held(self) -> Result<Limits<Fraction>, Row> {
+    /// Row 4 or row 15; or the limits with each part of the tolerance in lowest terms.
+    pub fn held(self) -> Result<Limits<Parts>, Row> {
         let tolerance = held(self.tolerance).ok_or((4, 0))?;
         check_gap(self.gap)?;
         Ok(Limits {
@@ -159,6 +235,20 @@ pub fn link_error(ticks: &[u32], values: &[i16], i: usize, j: usize) -> Fraction
         }
     }
     error.lowest()
+}
+
+/// The least parts with which every sample between i and j is within its own: how far those above the line
+/// lie above it at most, and those below it below; 0 where there are none. In lowest terms.
+pub fn link_parts(ticks: &[u32], values: &[i16], i: usize, j: usize) -> Parts {
+    let heights = (i + 1..j).map(|k| above_line(ticks, values, i, j, k).p);
+    let (highest, lowest) = heights.fold((0, 0), |(highest, lowest), height| {
+        (height.max(highest), height.min(lowest))
+    });
+    let q = i128::from(ticks[j]) - i128::from(ticks[i]);
+    Parts {
+        above: Fraction { p: highest, q }.lowest(),
+        below: Fraction { p: -lowest, q }.lowest(),
+    }
 }
 
 /// Where a sample lies beside a link: on its line, above it, below it, or before a hole that alone makes
@@ -216,6 +306,19 @@ pub fn list_error(ticks: &[u32], values: &[i16], list: &[u16]) -> Fraction {
     worst
 }
 
+/// The least parts with which every link of the list is within both, 0 where there is none.
+pub fn list_parts(ticks: &[u32], values: &[i16], list: &[u16]) -> Parts {
+    let mut worst = Parts::from(Fraction { p: 0, q: 1 });
+    for link in list.windows(2) {
+        let parts = link_parts(ticks, values, link[0].into(), link[1].into());
+        worst = Parts {
+            above: ordered(worst.above, parts.above).1,
+            below: ordered(worst.below, parts.below).1,
+        };
+    }
+    worst
+}
+
 /// The sample of the measure of the first link whose error is the list's, 0 where there is no link.
 pub fn worst_sample(ticks: &[u32], values: &[i16], list: &[u16]) -> usize {
     let error = list_error(ticks, values, list);
@@ -263,31 +366,34 @@ pub fn beside_holes(ticks: &[u32], gap: Option<u32>) -> Vec<u16> {
         .collect()
 }
 
-/// Whether the link obeys the gap limit and its error is at most the tolerance: whether each deviation
-/// is.
+/// Whether the link obeys the gap limit, and each sample between its ends that lies above the line is at
+/// most the part above over it, each that lies below at most the part below under it.
 pub fn link_valid(
     ticks: &[u32],
     values: &[i16],
     i: usize,
     j: usize,
-    limits: impl Into<Limits<Fraction>>,
+    limits: impl Into<Limits<Parts>>,
 ) -> bool {
     let Limits { tolerance, gap } = limits.into();
     link_obeys(ticks, i, j, gap)
-        && (i + 1..j).all(|k| deviation(ticks, values, i, j, k).at_most(tolerance))
+        && (i + 1..j).all(|k| tolerance.allow(above_line(ticks, values, i, j, k)))
 }
 
-/// The samples to which a link from i is valid, rising. The line from sample i to sample j passes
-/// sample k within p/q exactly if its slope (vj - vi) / (tj - ti) is at least
-/// (vk - vi - p/q) / (tk - ti) and at most (vk - vi + p/q) / (tk - ti); slopes here are times q. Where
-/// no slope is left, no later link is valid. Across a hole only a link of one step is.
+/// The samples to which a link from i is valid, rising. Sample k is at most U above the line from sample i
+/// to sample j exactly if the slope of that line, (vj - vi) / (tj - ti), is at least
+/// (vk - vi - U) / (tk - ti), and at most D below it exactly if the slope is at most
+/// (vk - vi + D) / (tk - ti); slopes here are times both denominators. Where no slope is left, no later link is
+/// valid. Across a hole only a link of one step is.
 pub fn valid_ends(
     ticks: &[u32],
     values: &[i16],
     i: usize,
-    limits: impl Into<Limits<Fraction>>,
+    limits: impl Into<Limits<Parts>>,
 ) -> Vec<usize> {
     let Limits { tolerance, gap } = limits.into();
+    let Parts { above, below } = tolerance;
+    let (scale, u, d) = (above.q * below.q, above.p * below.q, below.p * above.q);
     let mut ends = Vec::new();
     let mut crossed = false;
     // No slope is below or above these.
@@ -297,7 +403,7 @@ pub fn valid_ends(
         if !least.at_most(greatest) {
             break;
         }
-        let rise = tolerance.q * (i128::from(values[j]) - i128::from(values[i]));
+        let rise = scale * (i128::from(values[j]) - i128::from(values[i]));
         let run = i128::from(ticks[j]) - i128::from(ticks[i]);
         let slope = |rise| Fraction { p: rise, q: run };
         crossed |= is_hole(ticks, j - 1, gap);
@@ -305,7 +411,7 @@ pub fn valid_ends(
         if obeys && least.at_most(slope(rise)) && slope(rise).at_most(greatest) {
             ends.push(j);
         }
-        let (low, high) = (slope(rise - tolerance.p), slope(rise + tolerance.p));
+        let (low, high) = (slope(rise - u), slope(rise + d));
         if least.at_most(low) {
             least = low;
         }
@@ -316,7 +422,7 @@ pub fn valid_ends(
     ends
 }
 
-/// The three forms of a tolerance.
+/// The four forms of a tolerance.
 #[derive(Clone, Copy, Debug)]
 pub enum Form {
     /// p, q.
@@ -325,18 +431,28 @@ pub enum Form {
     Counts(f64),
     /// Noise, multiple.
     Noise(f64, f64),
+    /// p and q of the part above, p and q of the part below.
+    Parts((u64, u64), (u64, u64)),
 }
 
-/// The tolerance in lowest terms, if it is allowed.
-pub fn held(form: Form) -> Option<Fraction> {
+/// p/q in lowest terms, if it is allowed as a tolerance.
+fn held_ratio(p: u64, q: u64) -> Option<Fraction> {
+    let (p, q) = (i128::from(p), i128::from(q));
+    let allowed = (1..=DENOMINATOR).contains(&q) && p <= TOLERANCE * q;
+    allowed.then(|| Fraction { p, q }.lowest())
+}
+
+/// The parts of the tolerance, each in lowest terms, if it is allowed.
+pub fn held(form: Form) -> Option<Parts> {
     let fraction = match form {
-        Form::Ratio(p, q) => {
-            let (p, q) = (i128::from(p), i128::from(q));
-            if !(1..=DENOMINATOR).contains(&q) || p > TOLERANCE * q {
-                return None;
-            }
-            Fraction { p, q }
+        Form::Parts(above, below) => {
+            let [above, below] = [above, below].map(|(p, q)| held_ratio(p, q));
+            return Some(Parts {
+                above: above?,
+                below: below?,
+            });
         }
+        Form::Ratio(p, q) => held_ratio(p, q)?,
         Form::Counts(counts) => Fraction {
             p: steps(counts, 6, TOLERANCE)?,
             q: 64,
@@ -346,7 +462,7 @@ pub fn held(form: Form) -> Option<Fraction> {
             q: 64 * 8,
         },
     };
-    Some(fraction.lowest())
+    Some(fraction.lowest().into())
 }
 
 /// 2^shift times x, if x is from 0 to `most` and that product is whole. Decided by the bits of x.
@@ -429,14 +545,15 @@ pub struct Invalid {
     pub measure: Measure,
 }
 
-/// Where an invalid link strays: its measure, if some sample is not within the tolerance. Otherwise only
-/// the gap limit makes it invalid: its error, and the sample before its first hole.
+/// Where an invalid link strays: its measure, if some sample is not within its part of the tolerance; the
+/// sample of the measure may be within its own. Otherwise only the gap limit makes it invalid: its error, and
+/// the sample before its first hole.
 fn strays(
     ticks: &[u32],
     values: &[i16],
     i: usize,
     j: usize,
-    Limits { tolerance, gap }: Limits<Fraction>,
+    Limits { tolerance, gap }: Limits<Parts>,
 ) -> Measure {
     let measure = link_measure(ticks, values, i, j);
     if !link_valid(ticks, values, i, j, tolerance) {
@@ -711,7 +828,7 @@ fn least_by_table(
 }
 
 /// How many samples the shortest kept list of valid links has. Tries every link.
-pub fn fewest(ticks: &[u32], values: &[i16], limits: impl Into<Limits<Fraction>>) -> usize {
+pub fn fewest(ticks: &[u32], values: &[i16], limits: impl Into<Limits<Parts>>) -> usize {
     let limits = limits.into();
     fewest_of(ticks.len(), |i, j| link_valid(ticks, values, i, j, limits))
 }
@@ -735,12 +852,27 @@ fn fewest_of(samples: usize, link: impl Fn(usize, usize) -> bool) -> usize {
 #[cfg(test)]
 mod tests {
     use super::*;
-    use generate::{any_limited, any_list, any_trace, tied, Random, Trace};
+    use generate::{
+        any_limited, any_list, any_parts, any_trace, exceptional, near_parts, squeezed, tied,
+        Random, Trace,
+    };
 
     const EVEN: [u32; 5] = [0, 1, 2, 3, 4];
 
     fn fraction(p: i128, q: i128) -> Fraction {
         Fraction { p, q }
+    }
+
+    /// The parts U above and D below, each as p and q.
+    fn parts(above: (i128, i128), below: (i128, i128)) -> Parts {
+        let [above, below] = [above, below].map(|(p, q)| fraction(p, q));
+        Parts { above, below }
+    }
+
+    /// The form of these parts.
+    fn form(Parts { above, below }: Parts) -> Form {
+        let ratio = |Fraction { p, q }: Fraction| (p as u64, q as u64);
+        Form::Parts(ratio(above), ratio(below))
     }
 
     #[test]
@@ -868,23 +1000,192 @@ mod tests {
         assert_eq!(judged(&[0, 1, 2, 3, 5], 0, 2), invalid(3, 0, 4, Side::Gap));
     }
 
+    /// Links with a sample above the line and one below, each exactly at its part, one step beyond it, and
+    /// beside a part of 0. Judge names the sample that is farthest from the line, within its own part or not.
+    #[test]
+    fn links_above_and_below() {
+        let values = [0, 4, 0, -3, 0];
+        let (ends, sides) = ([0, 4], |p| parts((4, 1), (p, 1)));
+        assert_eq!(link_parts(&EVEN, &values, 0, 4), sides(3));
+        assert_eq!(
+            list_parts(&EVEN, &values, &[0, 1, 4]),
+            parts((0, 1), (13, 3))
+        );
+        assert_eq!(
+            list_parts(&EVEN, &values, &[0, 1, 2, 3, 4]),
+            parts((0, 1), (0, 1))
+        );
+        let valid = |tolerance: Parts| link_valid(&EVEN, &values, 0, 4, tolerance);
+        assert!(valid(sides(3)) && !valid(sides(3).exchanged()));
+        assert!(!valid(parts((4, 1), (2_999, 1_000))) && valid(parts((4, 1), (3_001, 1_000))));
+        assert!(!valid(parts((3_999, 1_000), (3, 1))) && !valid(parts((65_535, 1), (0, 1))));
+        assert!(!valid(parts((0, 1), (65_535, 1))));
+        let judged = |tolerance: Parts| judge(&EVEN, &values, &ends, form(tolerance)).unwrap();
+        assert_eq!(judged(sides(3)), None);
+        // Sample 1 is within its part in the first three, sample 3 in the last.
+        for tolerance in [
+            sides(2),
+            sides(0),
+            parts((9, 1), (2, 1)),
+            parts((3, 1), (9, 1)),
+        ] {
+            let measure = Measure {
+                error: fraction(4, 1),
+                sample: 1,
+                side: Side::Above,
+            };
+            assert_eq!(judged(tolerance), Some(Invalid { link: 0, measure }));
+        }
+        let (ticks, values) = ([0, 1, 2, 3], [1, 0, 1, -1]);
+        let invalid = judge(&ticks, &values, &[0, 3], Form::Parts((5, 1), (0, 1))).unwrap();
+        let measure = Measure {
+            error: fraction(4, 3),
+            sample: 2,
+            side: Side::Above,
+        };
+        assert_eq!(invalid, Some(Invalid { link: 0, measure }));
+        assert_eq!(link_parts(&ticks, &values, 0, 3), parts((4, 3), (1, 3)));
+    }
+
+    /// A hole alone makes a link invalid exactly if it is within both parts.
+    #[test]
+    fn holes_beside_parts() {
+        let (ticks, values) = ([0, 1, 2, 5, 6], [0, 2, 0, -1, 0]);
+        let judged = |above, below| {
+            let limits = Limits {
+                tolerance: Form::Parts((above, 1), (below, 1)),
+                gap: Some(2),
+            };
+            let invalid = judge(&ticks, &values, &[0, 4], limits).unwrap();
+            let Measure {
+                error,
+                sample,
+                side,
+            } = invalid.unwrap().measure;
+            assert_eq!(error, fraction(2, 1));
+            (sample, side)
+        };
+        assert_eq!(judged(2, 1), (2, Side::Gap));
+        assert_eq!(judged(9, 1), (2, Side::Gap));
+        assert_eq!(judged(2, 0), (1, Side::Above));
+        assert_eq!(judged(1, 2), (1, Side::Above));
+    }
+
     #[test]
     fn reductions() {
         let (zigzag, wave) = ([0, 3, 0, 3, 0], [0, 2, 0, -2, 0]);
         let all: &[u16] = &[0, 1, 2, 3, 4];
-        type Case<'a> = (&'a [i16; 5], u64, &'a [u16], &'a [u16], usize, &'a [u16]);
-        let cases: [Case; 3] = [
-            (&zigzag, 2, all, all, 4, &[0, 3, 4]),
-            (&zigzag, 3, &[0, 4], &[0, 4], 5, &[0, 4]),
-            (&wave, 2, &[0, 2, 4], &[0, 4], 5, &[0, 4]),
+        let (most, turned): (&[u16], &[u16]) = (&[0, 2, 3, 4], &[0, 1, 3, 4]);
+        type Case<'a> = (
+            &'a [i16; 5],
+            (i128, i128),
+            &'a [u16],
+            &'a [u16],
+            usize,
+            &'a [u16],
+        );
+        let cases: [Case; 5] = [
+            (&zigzag, (2, 2), all, all, 4, &[0, 3, 4]),
+            (&zigzag, (3, 3), &[0, 4], &[0, 4], 5, &[0, 4]),
+            (&wave, (2, 2), &[0, 2, 4], &[0, 4], 5, &[0, 4]),
+            (&wave, (2, 1), most, most, 5, most),
+            (&wave, (1, 2), turned, turned, 5, turned),
         ];
-        for (values, p, walk, gallop, probes, minimum) in cases {
-            let reduced = |method| reduce(method, &EVEN, values, Form::Ratio(p, 1), 5).unwrap();
-            assert_eq!(reduced(Method::Walk).list, walk, "{values:?} {p}");
-            assert_eq!(reduced(Method::Gallop).list, gallop, "{values:?} {p}");
-            assert_eq!(reduced(Method::Gallop).probes, probes, "{values:?} {p}");
-            assert_eq!(reduced(Method::Minimum).list, minimum, "{values:?} {p}");
+        for (values, (above, below), walk, gallop, probes, minimum) in cases {
+            let tolerance = form(parts((above, 1), (below, 1)));
+            let reduced = |method| reduce(method, &EVEN, values, tolerance, 5).unwrap();
+            assert_eq!(reduced(Method::Walk).list, walk, "{values:?} {tolerance:?}");
+            assert_eq!(
+                (reduced(Method::Gallop).list, reduced(Method::Gallop).probes),
+                (gallop.to_vec(), probes),
+                "{values:?} {tolerance:?}"
+            );
+            assert_eq!(
+                reduced(Method::Minimum).list,
+                minimum,
+                "{values:?} {tolerance:?}"
+            );
         }
+    }
+
+    /// The size of greedy lists. No kept list whose samples lie at most a above and at most b below its lines,
+    /// where a + b is at most the smaller part, is shorter. This does not hold for half of each part, for
+    /// a + b at most the larger part, nor for each within the smaller part.
+    #[test]
+    fn size_bound() {
+        let walk = |values: &[i16], tolerance: Parts| {
+            let samples = values.len();
+            reduce(
+                Method::Walk,
+                &EVEN[..samples],
+                values,
+                form(tolerance),
+                samples,
+            )
+            .unwrap()
+            .list
+        };
+        let ends = |values: &[i16]| {
+            let last = values.len() - 1;
+            link_parts(&EVEN[..=last], values, 0, last)
+        };
+        let values = [1, 1, 0, 1];
+        assert_eq!(walk(&values, parts((0, 1), (3, 1))), [0, 1, 3]);
+        assert_eq!(ends(&values), parts((0, 1), (1, 1)));
+        let values = [1, 1, -1];
+        assert_eq!(walk(&values, parts((1, 2), (2, 1))), [0, 1, 2]);
+        assert_eq!(ends(&values), parts((1, 1), (0, 1)));
+        let values = [0, 2, 1, 3];
+        assert_eq!(walk(&values, parts((1, 1), (3, 1))), [0, 1, 3]);
+        assert_eq!(ends(&values), parts((1, 1), (1, 1)));
+
+        let random = &mut Random::new(22);
+        // Lists within the smaller part together, of those within both parts.
+        let mut seen = [0; 2];
+        for _ in 0..600 {
+            let samples = random.within(3, 8) as usize;
+            let (trace, gap) = any_limited(samples, random);
+            let Trace { ticks, values } = &trace;
+            let gap = Some(gap);
+            for tolerance in tolerances(&trace, random) {
+                let limits = Limits {
+                    tolerance: form(tolerance),
+                    gap,
+                };
+                let greedy = [Method::Walk, Method::Gallop].map(|method| {
+                    let reduced = reduce(method, ticks, values, limits, samples);
+                    reduced.unwrap().list.len()
+                });
+                for list in kept_lists(samples).filter(|list| list_obeys(ticks, list, gap)) {
+                    let together = list_parts(ticks, values, &list).sum();
+                    let bounded = together.at_most(tolerance.smaller());
+                    let shorter = greedy.iter().any(|&kept| list.len() < kept);
+                    assert!(!bounded || !shorter, "{list:?} {limits:?}\n{trace:?}");
+                    seen[usize::from(bounded)] += 1;
+                }
+            }
+        }
+        assert!(seen.iter().all(|&count| count > 3_000), "{seen:?}");
+    }
+
+    /// The parts a and b of shared limits add up to the smaller part.
+    #[test]
+    fn shares() {
+        let limits = Limits::from(parts((3, 2), (5, 3)));
+        for (above, shared) in [
+            (0, parts((0, 8), (12, 8))),
+            (1, parts((3, 8), (9, 8))),
+            (4, parts((12, 8), (0, 8))),
+        ] {
+            assert_eq!(limits.shared(above, 4).tolerance, shared);
+        }
+        let half = Limits::from(fraction(3, 2)).shared(1, 2).tolerance;
+        assert_eq!(half, fraction(3, 4).into());
+        assert_eq!(parts((3, 2), (5, 3)).smaller(), fraction(3, 2));
+        assert_eq!(parts((5, 3), (3, 2)).smaller(), fraction(3, 2));
+        assert_eq!(parts((3, 2), (5, 3)).sum().lowest(), fraction(19, 6));
+        assert_eq!(parts((2, 2), (1, 1)).one(), Some(fraction(2, 2)));
+        assert_eq!(parts((2, 2), (2, 1)).one(), None);
     }
 
     /// The figures of document 02: six samples, of which the middle two lie 8 ticks apart; and a shorter list
@@ -1005,12 +1306,11 @@ mod tests {
             let under = |gap| least(ticks, values, gap, allowance, samples);
             assert_eq!(under(Some(GAP)), under(None), "{trace:?}");
             for tolerance in tolerances(&trace, random) {
-                let form = Form::Ratio(tolerance.p as u64, tolerance.q as u64);
                 let gap = Some(GAP);
                 for method in METHODS {
                     let under = |gap| {
                         let limits = Limits {
-                            tolerance: form,
+                            tolerance: form(tolerance),
                             gap,
                         };
                         reduce(method, ticks, values, limits, samples)
@@ -1026,22 +1326,110 @@ mod tests {
         }
     }
 
-    /// Fractions at which the links of a trace begin to be valid, and others.
-    fn tolerances(Trace { ticks, values }: &Trace, random: &mut Random) -> Vec<Fraction> {
-        let mut tolerances = vec![fraction(0, 1), fraction(random.within(0, 9).into(), 2)];
+    /// Parts at which the links of a trace begin to be valid, and others.
+    fn tolerances(Trace { ticks, values }: &Trace, random: &mut Random) -> Vec<Parts> {
+        let mut tolerances = vec![fraction(0, 1).into(), any_parts(random)];
         if ticks.len() > 2 {
             let i = random.below(ticks.len() as u64 - 2) as usize;
             let j = random.within(i as i64 + 2, ticks.len() as i64 - 1) as usize;
             let error = link_error(ticks, values, i, j);
-            tolerances.extend([error, error.half()]);
+            let parts = link_parts(ticks, values, i, j);
+            tolerances.extend([error.into(), parts, near_parts(parts, random)]);
         }
         tolerances
+    }
+
+    /// The greatest height above a link's line and the greatest depth below it are its least parts, and the
+    /// greater of them its error.
+    #[test]
+    fn parts_of_links() {
+        let random = &mut Random::new(23);
+        for _ in 0..1_500 {
+            let samples = random.within(2, 12) as usize;
+            let trace = any_trace(samples, random);
+            let Trace { ticks, values } = &trace;
+            for (i, j) in (1..samples).flat_map(|j| (0..j).map(move |i| (i, j))) {
+                let found = link_parts(ticks, values, i, j);
+                let heights: Vec<Fraction> = (i + 1..j)
+                    .map(|k| above_line(ticks, values, i, j, k))
+                    .collect();
+                let most = |sign: i128| {
+                    let of_sign = heights.iter().map(|height| sign * height.p).max();
+                    let p = of_sign.unwrap_or(0).max(0);
+                    fraction(p, (ticks[j] - ticks[i]).into()).lowest()
+                };
+                let expected = Parts {
+                    above: most(1),
+                    below: most(-1),
+                };
+                assert_eq!(found, expected, "{i} {j} {trace:?}");
+                let error = found.larger();
+                assert_eq!(error, link_error(ticks, values, i, j), "{i} {j} {trace:?}");
+            }
+        }
+    }
+
+    /// The link from end to end of a squeezed trace is valid at its parts, and with either of them just below
+    /// it is not: where neither is 0, no other slope is left.
+    #[test]
+    fn squeezed_traces() {
+        let random = &mut Random::new(24);
+        // Parts that are both 0, of which one is, and neither.
+        let mut seen = [0; 3];
+        for _ in 0..2_000 {
+            let samples = random.within(2, 30) as usize;
+            let (trace, least) = squeezed(samples, random);
+            let Trace { ticks, values } = &trace;
+            assert_eq!(trace_refusal(ticks, values), None);
+            assert!(ticks.len() <= samples, "{trace:?}");
+            let last = ticks.len() - 1;
+            let ends = |tolerance: Parts| valid_ends(ticks, values, 0, tolerance);
+            assert!(ends(least).contains(&last), "{least:?} {trace:?}");
+            let Parts { above, below } = least;
+            if above.p > 0 {
+                let above = generate::just_below(above);
+                assert!(!ends(Parts { above, below }).contains(&last));
+            }
+            if below.p > 0 {
+                let below = generate::just_below(below);
+                assert!(!ends(Parts { above, below }).contains(&last));
+            }
+            seen[[above, below].iter().filter(|part| part.p > 0).count()] += 1;
+        }
+        assert!(seen.iter().all(|&count| count > 100), "{seen:?}");
+    }
+
+    /// Exceptional traces, whatever their scale: on many, walk's list is another with the parts exchanged, with
+    /// the smaller part for both, and with the larger; and a sample that judge names is within its own part.
+    #[test]
+    fn exceptional_traces() {
+        let random = &mut Random::new(25);
+        let mut seen = [0; 4];
+        for _ in 0..500 {
+            let (trace, tolerance) = exceptional(random);
+            let Trace { ticks, values } = &trace;
+            assert_eq!(trace_refusal(ticks, values), None);
+            let samples = ticks.len();
+            let walk = |parts| reduce(Method::Walk, ticks, values, form(parts), samples).unwrap();
+            let [smaller, larger] = [tolerance.smaller(), tolerance.larger()];
+            let others = [tolerance.exchanged(), smaller.into(), larger.into()];
+            for (other, seen) in others.into_iter().zip(&mut seen) {
+                *seen += usize::from(walk(other) != walk(tolerance));
+            }
+            let ends = [0, samples as u16 - 1];
+            if let Some(invalid) = judge(ticks, values, &ends, form(tolerance)).unwrap() {
+                let sample = invalid.measure.sample;
+                let height = above_line(ticks, values, 0, samples - 1, sample);
+                seen[3] += usize::from(tolerance.allow(height));
+            }
+        }
+        assert!(seen.iter().all(|&count| count > 50), "{seen:?}");
     }
 
     #[test]
     fn ends_of_valid_links() {
         let random = &mut Random::new(3);
-        for _ in 0..4_000 {
+        for _ in 0..3_000 {
             let samples = random.within(1, 40) as usize;
             let (trace, gap) = any_limited(samples, random);
             let Trace { ticks, values } = &trace;
@@ -1148,18 +1536,27 @@ mod tests {
 
     #[test]
     fn forms() {
-        assert_eq!(held(Form::Ratio(4, 6)), Some(fraction(2, 3)));
-        assert_eq!(held(Form::Ratio(0, 7)), Some(fraction(0, 1)));
-        assert_eq!(held(Form::Counts(0.75)), Some(fraction(3, 4)));
-        assert_eq!(held(Form::Counts(-0.0)), Some(fraction(0, 1)));
-        assert_eq!(held(Form::Counts(65_535.0)), Some(fraction(65_535, 1)));
+        let both = |p, q| Some(Parts::from(fraction(p, q)));
+        assert_eq!(held(Form::Ratio(4, 6)), both(2, 3));
+        assert_eq!(held(Form::Ratio(0, 7)), both(0, 1));
+        assert_eq!(held(Form::Counts(0.75)), both(3, 4));
+        assert_eq!(held(Form::Counts(-0.0)), both(0, 1));
+        assert_eq!(held(Form::Counts(65_535.0)), both(65_535, 1));
         assert_eq!(held(Form::Counts(65_535.015_625)), None);
         assert_eq!(held(Form::Counts(0.007_812_5)), None);
         assert_eq!(held(Form::Counts(-1.0)), None);
         assert_eq!(held(Form::Counts(f64::MAX)), None);
-        assert_eq!(held(Form::Noise(1.5, 2.125)), Some(fraction(51, 16)));
-        assert_eq!(held(Form::Noise(1_023.0, 63.0)), Some(fraction(64_449, 1)));
+        assert_eq!(held(Form::Noise(1.5, 2.125)), both(51, 16));
+        assert_eq!(held(Form::Noise(1_023.0, 63.0)), both(64_449, 1));
         assert_eq!(held(Form::Noise(0.0, f64::NAN)), None);
+        let (good, bad) = ((4, 6), [(1, 0), (0, 1_048_576), (65_536, 1)]);
+        assert_eq!(held(Form::Parts(good, (2, 2))), Some(parts((2, 3), (1, 1))));
+        assert_eq!(held(Form::Parts((2, 2), (1, 1))), both(1, 1));
+        for bad in bad {
+            assert_eq!(held(Form::Parts(good, bad)), None);
+            assert_eq!(held(Form::Parts(bad, good)), None);
+            assert_eq!(held(Form::Parts(bad, bad)), None);
+        }
     }
 
     #[test]

@@ -2,7 +2,7 @@
 
 use crate::generate::{Channels, Trace};
 use crate::report::is_crate;
-use crate::{held, trace_refusal, Form, Fraction, Row};
+use crate::{held, trace_refusal, Form, Fraction, Parts, Row};
 
 /// The greatest noise factor.
 pub const FACTOR: u64 = 16;
@@ -67,7 +67,8 @@ pub fn pedestals(
     if !crates || before.lengths.len() != channels {
         return Err((11, 0));
     }
-    let tolerance = held(form).ok_or((4, 0))?;
+    // Unequal parts are not allowed here.
+    let tolerance = held(form).and_then(Parts::one).ok_or((4, 0))?;
     let (today, before) = (today.traces(), before.traces());
     for channel in 0..channels {
         if let Some(number) = channel_refusal(&today[channel], &before[channel]) {
@@ -131,6 +132,12 @@ mod tests {
         assert_eq!(answer(half, 2, (3, 2)), Err((10, 3)));
         assert_eq!(answer(Form::Ratio(1, 0), 2, (0, 0)), Err((4, 0)));
         assert_eq!(answer(Form::Ratio(1, 0), 0, (0, 0)), Err((14, 0)));
+        // Parts that are equal as numbers, unequal ones, and bad ones.
+        let halves = Form::Parts((1, 2), (2, 4));
+        assert_eq!(answer(halves, 2, (3, 3)), answer(half, 2, (3, 3)));
+        for (above, below) in [((1, 2), (1, 3)), ((1, 2), (1, 0)), ((1, 0), (1, 2))] {
+            assert_eq!(answer(Form::Parts(above, below), 2, (0, 0)), Err((4, 0)));
+        }
         assert_eq!(answer(half, 17, (3, 3)), Err((14, 0)));
         let sums = Sums::of(&today.values[4..8]);
         assert_eq!((sums.n, sums.s, sums.q, sums.spread()), (4, -19, 91, 3));

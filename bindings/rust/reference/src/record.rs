@@ -2,10 +2,10 @@
 //!
 //! - [`code_value`], [`expand`], [`table_fault`], [`expand_with`]: range codes.
 //! - [`Content`], [`encode`], [`decode`]: a record's content, its bytes, and its fault.
-//! - [`tolerance`], [`first`], [`short`], [`long`], [`end`]: the commands.
+//! - [`tolerance`], [`unequal`], [`first`], [`short`], [`long`], [`end`]: the commands.
 //! - [`write()`], [`read`], [`same`]: the calls.
 
-use crate::{held, judge, Form, Fraction, Invalid, Limits, Row, SAMPLES, SPAN};
+use crate::{held, judge, Form, Fraction, Invalid, Limits, Parts, Row, SAMPLES, SPAN};
 
 /// The value of a range code.
 pub fn code_value(code: u8) -> i16 {
@@ -58,7 +58,7 @@ pub fn expand_with(codes: &[u8], table: &[i16], room: usize) -> Result<Vec<i16>,
 /// A record's content.
 #[derive(Clone, Debug, PartialEq, Eq)]
 pub struct Content {
-    pub tolerance: Fraction,
+    pub tolerance: Parts,
     /// Each with its tick and its value.
     pub samples: Vec<(u32, i16)>,
 }
@@ -81,6 +81,12 @@ fn command(byte: u8, operands: &[(i128, usize)]) -> Vec<u8> {
 
 pub fn tolerance(p: u64, q: u64) -> Vec<u8> {
     command(0x54, &[(p.into(), 5), (q.into(), 3)])
+}
+
+/// The tolerance with unequal parts: p and q of the part above, then of the part below.
+pub fn unequal(above: (u64, u64), below: (u64, u64)) -> Vec<u8> {
+    let operands = [above, below].map(|(p, q)| [(p.into(), 5), (q.into(), 3)]);
+    command(0x42, operands.as_flattened())
 }
 
 pub fn first(tick: u32, value: i16) -> Vec<u8> {
@@ -106,9 +112,14 @@ fn is_short(advance: i128, change: i128) -> bool {
 
 /// The record with this content, which obeys the rules.
 pub fn encode(content: &Content) -> Vec<u8> {
-    let Fraction { p, q } = content.tolerance;
+    let ratio = |Fraction { p, q }: Fraction| (p as u64, q as u64);
+    let Parts { above, below } = content.tolerance;
+    let mut record = match content.tolerance.one() {
+        Some(Fraction { p, q }) => tolerance(p as u64, q as u64),
+        None => unequal(ratio(above), ratio(below)),
+    };
     let (tick, value) = content.samples[0];
-    let mut record = [tolerance(p as u64, q as u64), first(tick, value)].concat();
+    record.extend(first(tick, value));
     for step in content.samples.windows(2) {
         let [(from, before), (to, after)] = [step[0], step[1]];
         let (advance, change) = (to - from, i128::from(after) - i128::from(before));
@@ -147,6 +158,7 @@ pub fn decode(record: &[u8]) -> Result<Content, usize> {
         let (&command, operands) = record[at..].split_first().ok_or(at)?;
         let bytes = match command {
             0x54 if tolerance.is_none() => 8,
+            0x42 if tolerance.is_none() => 16,
             0x41 if tolerance.is_some() && samples.is_empty() => 6,
             0x53 if !samples.is_empty() => 2,
             0x4c if !samples.is_empty() => 5,
@@ -156,15 +168,24 @@ pub fn decode(record: &[u8]) -> Result<Content, usize> {
         let operands = operands.get(..bytes).ok_or(at)?;
         let next = at + 1 + bytes;
         match command {
-            0x54 => {
-                let (p, q) = (number(&operands[..5]), number(&operands[5..]));
-                // It is allowed, and lowest terms do not change it.
-                let allowed = held(Form::Ratio(p as u64, q as u64));
-                tolerance = Some(
-                    allowed
-                        .filter(|&held| held == Fraction { p, q })
-                        .ok_or(at)?,
-                );
+            0x54 | 0x42 => {
+                let ratio = |bytes: &[u8]| Fraction {
+                    p: number(&bytes[..5]),
+                    q: number(&bytes[5..]),
+                };
+                // Of 54 the one ratio is both.
+                let parts = Parts {
+                    above: ratio(&operands[..8]),
+                    below: ratio(&operands[bytes - 8..]),
+                };
+                let given = |Fraction { p, q }: Fraction| (p as u64, q as u64);
+                let form = Form::Parts(given(parts.above), given(parts.below));
+                // Each part is allowed, and lowest terms do not change it; those of 42 differ.
+                let reduced = held(form) == Some(parts);
+                if !reduced || (command == 0x42 && parts.one().is_some()) {
+                    return Err(at);
+                }
+                tolerance = Some(parts);
             }
             0x41 => samples.push((number(&operands[..4]) as u32, signed(&operands[4..]) as i16)),
             0x45 => {
@@ -278,7 +299,7 @@ mod tests {
         let written = write(&[0, 1, 3], &[0, 1, 1], &[0, 2], Form::Ratio(4, 6), 22, 0);
         assert_eq!(written.as_deref(), Ok(&record[..]));
         let content = Content {
-            tolerance: Fraction { p: 2, q: 3 },
+            tolerance: Fraction { p: 2, q: 3 }.into(),
             samples: vec![(0, 0), (3, 1)],
         };
         assert_eq!(decode(&record), Ok(content));
@@ -296,6 +317,58 @@ mod tests {
         assert_eq!(under(0, 21), Err((15, 0)));
     }
 
+    /// A record with unequal parts, and every way in which its first command is faulty. Parts that are equal as
+    /// numbers have one ratio.
+    #[test]
+    fn parts() {
+        let record = [
+            0x42, 0, 0, 0, 0, 2, 0, 0, 3, 0, 0, 0, 0, 1, 0, 0, 1, 0x41, 0, 0, 0, 0, 0, 0, 0x53, 3,
+            1, 0x45, 0, 2,
+        ];
+        let (ticks, values) = ([0, 3], [0, 1]);
+        let written = |above, below| {
+            let form = Form::Parts(above, below);
+            write(&ticks, &values, &[0, 1], form, 30, 0).unwrap()
+        };
+        assert_eq!(written((2, 3), (1, 1)), record);
+        assert_eq!(written((4, 6), (2, 2)), record);
+        assert_eq!(written((1, 1), (2, 3))[9..17], record[1..9]);
+        let content = Content {
+            tolerance: Parts {
+                above: Fraction { p: 2, q: 3 },
+                below: Fraction { p: 1, q: 1 },
+            },
+            samples: vec![(0, 0), (3, 1)],
+        };
+        assert_eq!(decode(&record), Ok(content));
+        let equal = [&tolerance(1, 1), &record[17..]].concat();
+        assert_eq!(written((2, 2), (1, 1)), equal);
+        let good = (2, 3);
+        for bad in [(2, 3), (4, 6), (0, 2), (1, 0), (65_536, 1), (1, 1_048_576)] {
+            for command in [unequal(good, bad), unequal(bad, good), unequal(bad, bad)] {
+                assert_eq!(decode(&[&command, &record[17..]].concat()), Err(0));
+            }
+        }
+        for length in 0..17 {
+            assert_eq!(decode(&record[..length]), Err(0));
+        }
+        // Later faults are 8 bytes further on.
+        for length in 9..22 {
+            let Err(fault) = decode(&equal[..length]) else {
+                panic!("{length} bytes are no record")
+            };
+            assert_eq!(decode(&record[..length + 8]), Err(fault + 8));
+        }
+        // One tolerance after another.
+        for (command, fault) in [(tolerance(1, 1), 9), (unequal((1, 2), (1, 3)), 17)] {
+            assert_eq!(decode(&[&command, &record[..]].concat()), Err(fault));
+        }
+        let other = written((2, 3), (2, 1));
+        assert_eq!(same(&record, &record), Ok(true));
+        assert_eq!(same(&record, &other), Ok(false));
+        assert_eq!(same(&record, &equal), Ok(false));
+    }
+
     /// What is encoded is decoded again, and of changed bytes those are accepted that encode what they
     /// say. Up to a fault the record can go on: with the missing commands it has no fault.
     #[test]
@@ -306,6 +379,8 @@ mod tests {
             let samples = random.within(1, 12) as usize;
             let content = content(samples, random);
             let mut record = encode(&content);
+            assert_eq!(record[0] == 0x54, content.tolerance.one().is_some());
+            let head = if record[0] == 0x54 { 9 } else { 17 };
             assert_eq!(decode(&record), Ok(content));
             let at = random.below(record.len() as u64) as usize;
             record[at] = random.bits() as u8;
@@ -317,10 +392,10 @@ mod tests {
                 }
                 Err(fault) => {
                     let mut record = record[..fault].to_vec();
-                    if fault < 9 {
+                    if fault == 0 {
                         record.extend(tolerance(0, 1));
                     }
-                    if fault < 16 {
+                    if fault == 0 || fault == head {
                         record.extend(first(0, 0));
                     }
                     let ended = decode(&record).is_ok();

@@ -59,6 +59,9 @@ mod tests {
         assert_eq!(lists(&[two, three]), [all.clone(), ends.clone()]);
         assert_eq!(lists(&[three, two]), [ends.clone(), all]);
         assert_eq!(lists(&[three]), [ends]);
+        let unequal = |above, below| Form::Parts((above, 1), (below, 1));
+        let parted = lists(&[unequal(3, 0), unequal(0, 3)]);
+        assert_eq!(parted, [&[0, 2, 4][..], &[0, 1, 3, 4]]);
     }
 
     /// Each row before the next.
@@ -75,6 +78,9 @@ mod tests {
         assert_eq!(row(&EVEN, &[bad; 17], Some(0), 0), (19, 0));
         assert_eq!(row(&EVEN, &[bad; 16], Some(0), 0), (4, 0));
         assert_eq!(row(&EVEN, &[good, good, bad, bad], Some(0), 0), (4, 2));
+        for bad in [Form::Parts((1, 0), (1, 1)), Form::Parts((1, 1), (1, 0))] {
+            assert_eq!(row(&EVEN, &[good, bad, bad], Some(0), 0), (4, 1));
+        }
         assert_eq!(row(&EVEN, &[good; 16], Some(0), 0), (15, 0));
         assert_eq!(row(&EVEN, &[good; 16], Some(1), 79), (10, 80));
         assert!(scan(&EVEN, &ZIGZAG, &[good; 16], Some(1), 80).is_ok());

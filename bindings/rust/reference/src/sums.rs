@@ -1,7 +1,7 @@
 //! Two traces with kept lists, added: document 02, "Summed channels".
 
 use crate::generate::Trace;
-use crate::{list_refusal, trace_refusal, Fraction, Row};
+use crate::{list_refusal, trace_refusal, Fraction, Parts, Row};
 use std::collections::BTreeSet;
 
 /// A trace that is added to another, with a kept list of it.
@@ -58,19 +58,16 @@ fn mismatch(one: &[u32], two: &[u32]) -> Option<usize> {
     (0..one.len().max(two.len())).find(|&k| one.get(k) != two.get(k))
 }
 
-/// 2 (T1 + T2).
-pub fn bound(t1: Fraction, t2: Fraction) -> Fraction {
-    Fraction {
-        p: 2 * (t1.p * t2.q + t2.p * t1.q),
-        q: t1.q * t2.q,
-    }
+/// U1 + D1 + U2 + D2: the parts of both lists, together. With equal parts T1 and T2 that is 2 (T1 + T2).
+pub fn bound(first: Parts, second: Parts) -> Fraction {
+    first.sum().plus(second.sum())
 }
 
 #[cfg(test)]
 mod tests {
     use super::*;
     use crate::generate::{summands, Random};
-    use crate::list_error;
+    use crate::{list_error, list_parts};
 
     /// A trace with ticks from 0 on.
     fn even(values: &[i16], list: &[u16]) -> Summand {
@@ -88,33 +85,47 @@ mod tests {
         list_error(&trace.ticks, &trace.values, list)
     }
 
+    fn parts(Summand { trace, list }: &Summand) -> Parts {
+        list_parts(&trace.ticks, &trace.values, list)
+    }
+
     fn fraction(p: i128, q: i128) -> Fraction {
         Fraction { p, q }
     }
 
-    /// A joined list that is not within T1 + T2, and one that is at the bound.
+    /// The errors of the first list, of the second and of the joined one; then 2 (T1 + T2), and the parts of
+    /// both lists together. A joined list that is not within T1 + T2, one that is at both bounds, and one that
+    /// is at the second alone.
     #[test]
     fn figures() {
-        type Case<'a> = (Summand, Summand, &'a [i16], &'a [u16], [Fraction; 4]);
-        let cases: [Case; 2] = [
+        type Case<'a> = (Summand, Summand, &'a [i16], &'a [u16], [Fraction; 5]);
+        let cases: [Case; 3] = [
             (
                 even(&[0, 0, 1, 1], &[0, 3]),
                 even(&[0, -1, 0, 1], &[0, 1, 3]),
                 &[0, -1, 1, 2],
                 &[0, 1, 3],
-                [(1, 3), (0, 1), (1, 2), (2, 3)].map(|(p, q)| fraction(p, q)),
+                [(1, 3), (0, 1), (1, 2), (2, 3), (2, 3)].map(|(p, q)| fraction(p, q)),
             ),
             (
                 even(&[-6, -6, 0, 6, -6], &[0, 1, 3, 4]),
                 even(&[3, 4, 2, 4, 3], &[0, 4]),
                 &[-3, -2, 2, 10, -3],
                 &[0, 1, 3, 4],
-                [(0, 1), (1, 1), (2, 1), (2, 1)].map(|(p, q)| fraction(p, q)),
+                [(0, 1), (1, 1), (2, 1), (2, 1), (2, 1)].map(|(p, q)| fraction(p, q)),
+            ),
+            (
+                even(&[-6, -6, 0, 6, -6], &[0, 1, 3, 4]),
+                even(&[3, 5, 2, 5, 3], &[0, 4]),
+                &[-3, -1, 2, 11, -3],
+                &[0, 1, 3, 4],
+                [(0, 1), (2, 1), (3, 1), (4, 1), (3, 1)].map(|(p, q)| fraction(p, q)),
             ),
         ];
-        for (first, second, values, list, [t1, t2, joined, at_most]) in cases {
+        for (first, second, values, list, [t1, t2, joined, twice, at_most]) in cases {
             assert_eq!([error(&first), error(&second)], [t1, t2]);
-            assert_eq!(bound(t1, t2).lowest(), at_most);
+            assert_eq!(bound(t1.into(), t2.into()).lowest(), twice);
+            assert_eq!(bound(parts(&first), parts(&second)).lowest(), at_most);
             let samples = values.len();
             let found = sum(&first, &second, (samples, samples)).unwrap();
             assert_eq!((&found.values[..], &found.list[..]), (values, list));

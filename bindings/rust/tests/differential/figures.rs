@@ -1,12 +1,13 @@
 use kovrelna::{Tolerance, GAP_MAX};
 use kovrelna_evidence::compare::{
-    expand, expand_with, hold, judge, least, measure, noise, ratio, read, reduce, sum, write,
+    expand, expand_with, hold, judge, least, measure, noise, parts, pedestals, ratio, read, reduce,
+    report, same, scan, sum, write,
 };
-use kovrelna_reference::generate::Trace;
-use kovrelna_reference::record::{end, first, long, short, tolerance, Content};
+use kovrelna_reference::generate::{crate_of, Trace};
+use kovrelna_reference::record::{end, first, long, short, tolerance, unequal, Content};
 use kovrelna_reference::sums::{Sum, Summand};
 use kovrelna_reference::Side::{Above, Below, Gap, On};
-use kovrelna_reference::{list_error, Fraction, Invalid, Method, Reduced, METHODS};
+use kovrelna_reference::{list_error, Fraction, Invalid, Method, Parts, Reduced, METHODS};
 
 use crate::{invalid, measure_of};
 
@@ -186,7 +187,7 @@ fn a_shorter_list_that_does_not_obey() {
 
 #[test]
 fn two_thirds() {
-    assert_eq!(hold(ratio(4, 6)), Ok((2, 3)));
+    assert_eq!(hold(ratio(4, 6)), Ok(Fraction { p: 2, q: 3 }.into()));
     let outside = Some(invalid(0, (2, 3), 1, Above));
     for (tolerance, expected) in [
         (ratio(4, 6), None),
@@ -225,12 +226,14 @@ fn measures() {
 }
 
 /// Document 02, "Summed channels": a joined list that is not within T1 + T2, and one at its bound. Its worst
-/// link is from sample 1 to 3; the traces are within T1 and T2, and no less.
+/// link is from sample 1 to 3; the traces are within T1 and T2, and no less. In the last case the second trace
+/// is within 2 above and 1 below; the error of the joined list is U1 + D1 + U2 + D2, so that it is not within
+/// U1 + U2 above and D1 + D2 below.
 #[test]
 fn sums() {
     type Part<'a> = (&'a [i16], &'a [u16], (u64, u64));
     type Case<'a> = (Part<'a>, Part<'a>, Part<'a>);
-    let cases: [Case; 2] = [
+    let cases: [Case; 3] = [
         (
             (&[0, 0, 1, 1], &[0, 3], (1, 3)),
             (&[0, -1, 0, 1], &[0, 1, 3], (0, 1)),
@@ -241,7 +244,17 @@ fn sums() {
             (&[3, 4, 2, 4, 3], &[0, 4], (1, 1)),
             (&[-3, -2, 2, 10, -3], &[0, 1, 3, 4], (2, 1)),
         ),
+        (
+            (&[-6, -6, 0, 6, -6], &[0, 1, 3, 4], (0, 1)),
+            (&[3, 5, 2, 5, 3], &[0, 4], (2, 1)),
+            (&[-3, -1, 2, 11, -3], &[0, 1, 3, 4], (3, 1)),
+        ),
     ];
+    let two_and_one = parts((2, 1), (1, 1));
+    let [.., (_, (second, list, _), (sums, joined, _))] = cases;
+    assert_eq!(judge(&EVEN, second, list, two_and_one), Ok(None));
+    let outside = judge(&EVEN, sums, joined, two_and_one);
+    assert_eq!(outside, Ok(Some(invalid(1, (3, 1), 2, Below))));
     for (one, two, joined) in cases {
         let ticks = &EVEN[..one.0.len()];
         for (values, list, (p, q)) in [one, two, joined] {
@@ -290,10 +303,167 @@ fn record() {
         assert_eq!(written.as_ref(), Ok(&record));
     }
     let content = Content {
-        tolerance: Fraction { p: 2, q: 3 },
+        tolerance: Fraction { p: 2, q: 3 }.into(),
         samples: vec![(0, 0), (3, 1)],
     };
     assert_eq!(read(&record, 2, 2), Ok(content));
+}
+
+/// Document 02, "Above and below": a record with unequal parts. With equal ones the earlier command is written,
+/// and the other is faulty.
+#[test]
+fn record_with_parts() {
+    let record = vec![
+        0x42, 0x00, 0x00, 0x00, 0x00, 0x02, 0x00, 0x00, 0x03, 0x00, 0x00, 0x00, 0x00, 0x01, 0x00,
+        0x00, 0x01, 0x41, 0x00, 0x00, 0x00, 0x00, 0x00, 0x00, 0x53, 0x03, 0x01, 0x45, 0x00, 0x02,
+    ];
+    let written = |tolerance| write(&[0, 3], &[0, 1], &[0, 1], tolerance, 30, 0);
+    for tolerance in [parts((2, 3), (1, 1)), parts((4, 6), (5, 5))] {
+        assert_eq!(written(tolerance).as_ref(), Ok(&record));
+    }
+    let content = Content {
+        tolerance: Parts {
+            above: Fraction { p: 2, q: 3 },
+            below: Fraction { p: 1, q: 1 },
+        },
+        samples: vec![(0, 0), (3, 1)],
+    };
+    assert_eq!(read(&record, 2, 2), Ok(content));
+    let one = written(ratio(1, 1)).unwrap();
+    assert_eq!(written(parts((2, 2), (1, 1))).as_ref(), Ok(&one));
+    assert_eq!((one.len(), one[0]), (22, 0x54));
+    let equal = [&unequal((1, 1), (1, 1)), &record[17..]].concat();
+    assert_eq!(read(&equal, 2, 2), Err((8, 0)));
+    assert_eq!(same(&equal, &one), Err((8, 0)));
+    assert_eq!(same(&one, &equal), Err((9, 0)));
+    assert_eq!(same(&record, &one), Ok(false));
+    // A missing end, one sample too many, and something after the end.
+    for (bytes, fault) in [
+        (record[..27].to_vec(), 27),
+        ([&record[..27], &end(3)].concat(), 27),
+        ([&record[..], &[0]].concat(), 30),
+    ] {
+        assert_eq!(read(&bytes, 2, 2), Err((8, fault)));
+        let earlier = [&one[..9], &bytes[17..]].concat();
+        assert_eq!(read(&earlier, 2, 2), Err((8, fault - 8)));
+    }
+}
+
+/// The same of the reductions, at U 2 and D 1, and turned over at U 1 and D 2.
+#[test]
+fn reductions_with_parts() {
+    let turned = WAVE.map(|value| -value);
+    let list = vec![0, 2, 3, 4];
+    for (values, tolerance) in [
+        (WAVE, parts((2, 1), (1, 1))),
+        (WAVE, parts((6, 3), (4, 4))),
+        (turned, parts((1, 1), (2, 1))),
+    ] {
+        for method in METHODS {
+            let probes = if method == Method::Gallop { 5 } else { 0 };
+            let reduced = Reduced {
+                list: list.clone(),
+                probes,
+            };
+            let answer = reduce(method, &EVEN, &values, tolerance, 5);
+            assert_eq!(answer, Ok(reduced), "{method:?} {tolerance:?}");
+        }
+        let scanned = scan(&EVEN, &values, &[tolerance], GAP_MAX, 5);
+        assert_eq!(scanned, Ok(vec![list.clone()]));
+        let channels = crate_of(&[Trace {
+            ticks: EVEN.to_vec(),
+            values: values.to_vec(),
+        }]);
+        let row = report(&channels, tolerance, 1).unwrap().channels[0];
+        assert_eq!((row.kept, row.error), (4, Fraction { p: 2, q: 1 }));
+    }
+}
+
+/// The same of judge: the sample that lies farthest from the line is named, also where it is within its own
+/// part and another is not.
+#[test]
+fn a_sample_within_its_part() {
+    let (ticks, values) = ([0, 1, 2, 3], [1, 0, 1, -1]);
+    for (above, below, valid) in [(5, (0, 1), false), (5, (1, 3), true), (1, (1, 3), false)] {
+        let answer = judge(&ticks, &values, &[0, 3], parts((above, 1), below));
+        let outside = invalid(0, (4, 3), 2, Above);
+        assert_eq!(answer, Ok((!valid).then_some(outside)), "{above} {below:?}");
+    }
+}
+
+/// The same of the size of greedy lists: the list of both ends, with the most that a sample lies above and
+/// below its line, is shorter than both where it is within half of each part, where these are together at most
+/// the larger part, and where each is at most the smaller.
+#[test]
+fn tempting_size_bounds() {
+    type Case<'a> = (
+        &'a [i16],
+        [(u64, u64); 2],
+        &'a [u16],
+        [(u64, u64); 2],
+        [(u64, u64); 2],
+    );
+    let cases: [Case; 3] = [
+        // The values, the parts, the greedy lists, the parts of the list of both ends, and what they are within.
+        (
+            &[1, 1, 0, 1],
+            [(0, 1), (3, 1)],
+            &[0, 1, 3],
+            [(0, 1), (1, 1)],
+            [(0, 1), (3, 2)],
+        ),
+        (
+            &[1, 1, -1],
+            [(1, 2), (2, 1)],
+            &[0, 1, 2],
+            [(1, 1), (0, 1)],
+            [(2, 1), (0, 1)],
+        ),
+        (
+            &[0, 2, 1, 3],
+            [(1, 1), (3, 1)],
+            &[0, 1, 3],
+            [(1, 1), (1, 1)],
+            [(1, 1), (1, 1)],
+        ),
+    ];
+    for (values, tolerance, greedy, least, within) in cases {
+        let samples = values.len();
+        let ticks = &EVEN[..samples];
+        let [above, below] = tolerance;
+        for method in [Method::Walk, Method::Gallop] {
+            let reduced = reduce(method, ticks, values, parts(above, below), samples);
+            assert_eq!(reduced.unwrap().list, greedy, "{values:?}");
+        }
+        let ends = [0, samples as u16 - 1];
+        let passes = |[above, below]: [(u64, u64); 2]| {
+            judge(ticks, values, &ends, parts(above, below)) == Ok(None)
+        };
+        assert!(passes(least) && passes(within), "{values:?}");
+        // Just below either part it does not pass.
+        for side in 0..2 {
+            let mut below = least;
+            if below[side].0 > 0 {
+                below[side] = (below[side].0 * 1_000 - 1, below[side].1 * 1_000);
+                assert!(!passes(below), "{values:?}");
+            }
+        }
+    }
+}
+
+/// Pedestals are compared at parts that are equal as numbers, and refused at others.
+#[test]
+fn pedestals_with_parts() {
+    let run = crate_of(&[Trace {
+        ticks: EVEN.to_vec(),
+        values: WAVE.to_vec(),
+    }]);
+    let compared = |below| pedestals(&run, &run, parts((1, 2), below), 1, (1, 1)).is_ok();
+    assert!(compared((1, 2)) && compared((2, 4)));
+    assert_eq!(
+        pedestals(&run, &run, parts((1, 2), (1, 3)), 1, (0, 0)),
+        Err((4, 0))
+    );
 }
 
 #[test]

@@ -1,10 +1,26 @@
+use kovrelna::Tolerance;
 use kovrelna::Tolerance::Counts;
 use kovrelna_evidence::cases::held_tolerances;
-use kovrelna_evidence::compare::{hold, judge, noise, ratio, reduce};
+use kovrelna_evidence::compare::{exactly_parts, hold, judge, noise, parts, ratio, reduce};
 use kovrelna_reference::generate::Random;
-use kovrelna_reference::{Row, METHODS};
+use kovrelna_reference::{Fraction, Row, METHODS};
 
-const REFUSED: Result<(u64, u64), Row> = Err((4, 0));
+/// p and q of a ratio.
+type Ratio = (u64, u64);
+
+const REFUSED: Result<Ratio, Row> = Err((4, 0));
+
+fn ratio_of(Fraction { p, q }: Fraction) -> Ratio {
+    (p as u64, q as u64)
+}
+
+/// The ratio as which a tolerance is held that has the same part above and below.
+fn held(tolerance: Tolerance) -> Result<Ratio, Row> {
+    hold(tolerance).map(|held| {
+        assert_eq!(held.above, held.below, "{tolerance:?}");
+        ratio_of(held.above)
+    })
+}
 
 /// The float one step further from zero, and the one a step nearer.
 fn neighbours(x: f64) -> [f64; 2] {
@@ -73,7 +89,7 @@ fn counts_by_hand() {
         (f64::INFINITY, REFUSED),
         (-f64::INFINITY, REFUSED),
     ] {
-        assert_eq!(hold(Counts(counts)), expected, "{counts}");
+        assert_eq!(held(Counts(counts)), expected, "{counts}");
     }
 }
 
@@ -97,13 +113,13 @@ fn noise_by_hand() {
         (-1.0, -1.0, REFUSED),
         (1_024.0, 64.0, REFUSED),
     ] {
-        assert_eq!(hold(noise(part, multiple)), expected, "{part} {multiple}");
+        assert_eq!(held(noise(part, multiple)), expected, "{part} {multiple}");
     }
 }
 
-#[test]
-fn ratios_by_hand() {
-    for (p, q, expected) in [
+/// Ratios at the limits, and as what they are held.
+fn ratios() -> Vec<(u64, u64, Result<Ratio, Row>)> {
+    vec![
         (0, 1, Ok((0, 1))),
         (0, 1_048_575, Ok((0, 1))),
         (4, 6, Ok((2, 3))),
@@ -123,8 +139,27 @@ fn ratios_by_hand() {
         (u64::MAX, u64::MAX, REFUSED),
         (0, u64::MAX, REFUSED),
         (u64::MAX, 1, REFUSED),
-    ] {
-        assert_eq!(hold(ratio(p, q)), expected, "{p}/{q}");
+    ]
+}
+
+#[test]
+fn ratios_by_hand() {
+    for (p, q, expected) in ratios() {
+        assert_eq!(held(ratio(p, q)), expected, "{p}/{q}");
+    }
+}
+
+/// Every two of these ratios as parts: each is held as by itself, the one above first, and both are refused
+/// exactly if one is.
+#[test]
+fn parts_by_hand() {
+    for (p, q, above) in ratios() {
+        for (below_p, below_q, below) in ratios() {
+            let answer = hold(parts((p, q), (below_p, below_q)));
+            let answer = answer.map(|held| (ratio_of(held.above), ratio_of(held.below)));
+            let expected = above.and_then(|above| Ok((above, below?)));
+            assert_eq!(answer, expected, "{p}/{q} {below_p}/{below_q}");
+        }
     }
 }
 
@@ -141,6 +176,7 @@ fn awkward_floats() {
 
 #[test]
 fn awkward_ratios() {
+    let mut all = Vec::new();
     for q in [
         0,
         1,
@@ -172,6 +208,12 @@ fn awkward_ratios() {
             u64::MAX,
         ] {
             let _ = hold(ratio(p, q));
+            all.push((p, q));
+        }
+    }
+    for &above in &all {
+        for &below in &all {
+            let _ = hold(parts(above, below));
         }
     }
 }
@@ -194,16 +236,27 @@ fn grids() {
 #[test]
 fn random_tolerances() {
     let random = &mut Random::new(4);
-    (0..200_000).for_each(|_| held_tolerances(random));
+    (0..100_000).for_each(|_| held_tolerances(random));
 }
 
-/// A tolerance that is held is its own; one that is refused is refused by every call.
+/// A tolerance that is held is its own, also where it is given as its parts; one that is refused is refused by
+/// every call.
 #[test]
 fn held_again() {
-    for tolerance in awkward().into_iter().map(Counts) {
+    let ratios = ratios().into_iter().map(|(p, q, _)| (p, q));
+    let each = ratios.clone().map(|(p, q)| ratio(p, q));
+    let pairs = ratios
+        .clone()
+        .flat_map(|above| ratios.clone().map(move |below| parts(above, below)));
+    for tolerance in awkward().into_iter().map(Counts).chain(each).chain(pairs) {
         let judged = judge(&[0], &[0], &[0], tolerance);
         match hold(tolerance) {
-            Ok((p, q)) => assert_eq!((hold(ratio(p, q)), judged), (Ok((p, q)), Ok(None))),
+            Ok(held) => {
+                assert_eq!((hold(exactly_parts(held)), judged), (Ok(held), Ok(None)));
+                if let Some(Fraction { p, q }) = held.one() {
+                    assert_eq!(hold(ratio(p as u64, q as u64)), Ok(held));
+                }
+            }
             Err(row) => assert_eq!(judged, Err(row)),
         }
         for method in METHODS {

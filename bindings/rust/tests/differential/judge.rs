@@ -12,19 +12,20 @@ fn random_traces() {
     // Traces of some kinds have no straight part.
     let mut without_error = 0;
     for kind in KINDS {
-        let mut answers = [0; 5];
-        for _ in 0..4_000 {
+        let mut answers = [0; 6];
+        for _ in 0..3_000 {
             let samples = random.within(1, 40) as usize;
             let trace = trace(kind, samples, random);
             let gap = gap_limit(&trace.ticks, random);
             let list = any_list(&trace.ticks, gap, random);
             judge_list(&trace, gap, &list, random, &mut answers);
         }
-        let [yes, tolerance, gap_without_error, gap, both] = answers;
+        let [yes, tolerance, gap_without_error, gap, both, within] = answers;
         assert!(
             [yes, tolerance, gap, both]
                 .iter()
-                .all(|&count| count > 1_000),
+                .all(|&count| count > 1_000)
+                && within > 200,
             "{kind:?} {answers:?}"
         );
         without_error += gap_without_error;
@@ -35,7 +36,7 @@ fn random_traces() {
 #[test]
 fn long_traces() {
     let random = &mut Random::new(6);
-    let mut answers = [0; 5];
+    let mut answers = [0; 6];
     for samples in [1_000, 4_095, 4_096] {
         for kind in KINDS {
             let trace = trace(kind, samples, random);
@@ -48,9 +49,9 @@ fn long_traces() {
             }
         }
     }
-    let [yes, tolerance, _, gap, both] = answers;
+    let [yes, tolerance, _, gap, both, within] = answers;
     assert!(
-        [yes, tolerance, gap, both].iter().all(|&count| count > 100),
+        [yes, tolerance, gap, both].iter().all(|&count| count > 100) && within > 20,
         "{answers:?}"
     );
 }

@@ -11,6 +11,7 @@
 //! - `views`: views of traces that grow.
 //! - `sums`: traces with kept lists, added.
 //! - `gaps`: gap limits, on traces with holes in every place.
+//! - `parts`: tolerances with a part above and a part below.
 //! - `codes`: range codes, with their own values and with those of a table.
 //! - `records`: records written, read, damaged and compared.
 //! - `report`: reports on crates.
@@ -23,6 +24,7 @@ mod hold;
 mod judge;
 mod least;
 mod measure;
+mod parts;
 mod pedestals;
 mod records;
 mod reduce;
@@ -62,6 +64,18 @@ const SMALL_TOLERANCES: [(u64, u64); 8] = [
     (4, 3),
     (2, 1),
     (7, 2),
+];
+
+/// Unequal parts from 0 to 7/2, above and below, for the same tests.
+const SMALL_PARTS: [((u64, u64), (u64, u64)); 8] = [
+    ((0, 1), (1, 1)),
+    ((1, 1), (0, 1)),
+    ((1, 3), (2, 3)),
+    ((2, 3), (1, 2)),
+    ((1, 2), (2, 1)),
+    ((2, 1), (1, 1)),
+    ((4, 3), (7, 2)),
+    ((7, 2), (1, 3)),
 ];
 
 /// Every trace of five samples with values from -1 to 1, and of four with values from -2 to 2, at three

@@ -4,7 +4,7 @@ use crate::SMALL_TOLERANCES;
 use kovrelna::Tolerance;
 use kovrelna_evidence::calls::Call;
 use kovrelna_evidence::cases::pedestal_runs;
-use kovrelna_evidence::compare::{exactly, noise, pedestals, ratio};
+use kovrelna_evidence::compare::{exactly, noise, parts, pedestals, ratio};
 use kovrelna_reference::generate::{crate_of, just_below, runs, Channels, Random, Runs, Trace};
 use kovrelna_reference::pedestals::{Pedestals, FACTOR};
 use kovrelna_reference::report::CHANNELS;
@@ -50,12 +50,38 @@ fn example() {
         ratio(3, 6),
         Tolerance::Counts(0.5),
         noise(0.25, 2.0),
+        parts((1, 2), (1, 2)),
+        parts((4, 8), (3, 6)),
     ] {
         for rooms in [(3, 3), (3, 4), (4, 3), (64, 100)] {
             let answer = pedestals(&today, &before, tolerance, 2, rooms);
             assert_eq!(answer.as_ref(), Ok(&expected));
         }
     }
+}
+
+/// Unequal parts are refused, also where they differ as little as can be.
+#[test]
+fn unequal_parts() {
+    let run = crate_of(&[even(&[0; 4])]);
+    let compared = |above, below| pedestals(&run, &run, parts(above, below), 1, (1, 1));
+    const Q: u64 = 1_048_575;
+    for (above, below) in [
+        ((1, 2), (1, 3)),
+        ((1, 1), (0, 1)),
+        ((0, 1), (1, Q)),
+        ((1, Q - 1), (1, Q)),
+        ((65_535, 1), (65_535 * Q - 1, Q)),
+        ((1, 2), (524_287, Q)),
+    ] {
+        assert_eq!(compared(above, below), Err((4, 0)));
+        assert_eq!(compared(below, above), Err((4, 0)));
+        for (p, q) in [above, below] {
+            assert!(compared((p, q), (p, q)).is_ok());
+        }
+    }
+    assert!(compared((0, 1), (0, Q)).is_ok());
+    assert!(compared((65_535, 1), (65_535 * Q, Q)).is_ok());
 }
 
 #[test]

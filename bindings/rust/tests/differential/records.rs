@@ -1,8 +1,11 @@
 use kovrelna::Tolerance;
 use kovrelna_evidence::cases::{comparison, random_commands, round_trip};
-use kovrelna_evidence::compare::{exactly, read, same, write};
-use kovrelna_reference::generate::{content, gap_limit, trace, Random, KINDS};
-use kovrelna_reference::record::{encode, end, first, long, short, tolerance};
+use kovrelna_evidence::compare::{exactly, exactly_parts, given, parts, read, same, write};
+use kovrelna_reference::generate::{
+    any_parts, content, gap_limit, trace, written, Random, Trace, KINDS,
+};
+use kovrelna_reference::record::{encode, end, first, long, short, tolerance, unequal};
+use kovrelna_reference::{Fraction, Parts};
 
 /// A record's number of samples, or its fault's byte.
 fn samples(record: &[u8]) -> Result<usize, u64> {
@@ -13,61 +16,75 @@ fn samples(record: &[u8]) -> Result<usize, u64> {
     }
 }
 
-/// Records from these commands after the tolerance 2/3 and the sample 5/0, which take 16 bytes.
-fn begun(commands: &[Vec<u8>]) -> Vec<u8> {
-    [tolerance(2, 3), first(5, 0), commands.concat()].concat()
+/// A tolerance with equal parts, and one with unequal ones; how many bytes each has more than 9.
+fn heads() -> [(Vec<u8>, u64); 2] {
+    [(tolerance(2, 3), 0), (unequal((2, 3), (1, 1)), 8)]
 }
 
-#[test]
-fn order() {
-    let (t, f, s, l) = (tolerance(2, 3), first(5, 0), short(3, 1), long(256, 1));
+/// Commands in order and out of it after this tolerance, which has so many bytes more than 9.
+fn order_after(t: &[u8], more: u64) {
+    let (f, s, l) = (first(5, 0), short(3, 1), long(256, 1));
     type Case<'a> = (&'a [&'a [u8]], Result<usize, u64>);
     let cases: [Case; 30] = [
-        (&[&t, &f, &end(1)], Ok(1)),
-        (&[&t, &f, &s, &end(2)], Ok(2)),
-        (&[&t, &f, &l, &s, &end(3)], Ok(3)),
+        (&[t, &f, &end(1)], Ok(1)),
+        (&[t, &f, &s, &end(2)], Ok(2)),
+        (&[t, &f, &l, &s, &end(3)], Ok(3)),
         // A command is missing.
         (&[], Err(0)),
-        (&[&t], Err(9)),
-        (&[&t, &f], Err(16)),
-        (&[&t, &f, &s], Err(19)),
-        (&[&t, &f, &s, &l], Err(25)),
+        (&[t], Err(9)),
+        (&[t, &f], Err(16)),
+        (&[t, &f, &s], Err(19)),
+        (&[t, &f, &s, &l], Err(25)),
         // Out of order, or no command at all.
-        (&[&f, &t, &end(1)], Err(0)),
+        (&[&f, t, &end(1)], Err(0)),
         (&[&s], Err(0)),
         (&[&l], Err(0)),
         (&[&end(0)], Err(0)),
-        (&[&[0x42], &t, &f, &end(1)], Err(0)),
-        (&[&t, &t, &f, &end(1)], Err(9)),
-        (&[&t, &s, &end(1)], Err(9)),
-        (&[&t, &l, &end(1)], Err(9)),
-        (&[&t, &end(0)], Err(9)),
-        (&[&t, &[0xff], &f, &end(1)], Err(9)),
-        (&[&t, &f, &t, &end(1)], Err(16)),
-        (&[&t, &f, &f, &end(2)], Err(16)),
-        (&[&t, &f, &[0], &end(1)], Err(16)),
-        (&[&t, &f, &[0x73, 3, 1], &end(2)], Err(16)),
-        (&[&t, &f, &s, &f, &end(3)], Err(19)),
-        (&[&t, &f, &l, &t, &end(3)], Err(22)),
+        (&[&[0x42], t, &f, &end(1)], Err(0)),
+        (&[t, t, &f, &end(1)], Err(9)),
+        (&[t, &s, &end(1)], Err(9)),
+        (&[t, &l, &end(1)], Err(9)),
+        (&[t, &end(0)], Err(9)),
+        (&[t, &[0xff], &f, &end(1)], Err(9)),
+        (&[t, &f, t, &end(1)], Err(16)),
+        (&[t, &f, &f, &end(2)], Err(16)),
+        (&[t, &f, &[0], &end(1)], Err(16)),
+        (&[t, &f, &[0x73, 3, 1], &end(2)], Err(16)),
+        (&[t, &f, &s, &f, &end(3)], Err(19)),
+        (&[t, &f, &l, t, &end(3)], Err(22)),
         // Something after the end.
-        (&[&t, &f, &end(1), &[0]], Err(19)),
-        (&[&t, &f, &end(1), &end(1)], Err(19)),
-        (&[&t, &f, &end(1), &s, &end(2)], Err(19)),
-        (&[&t, &f, &s, &end(2), &t, &f, &end(1)], Err(22)),
+        (&[t, &f, &end(1), &[0]], Err(19)),
+        (&[t, &f, &end(1), &end(1)], Err(19)),
+        (&[t, &f, &end(1), &s, &end(2)], Err(19)),
+        (&[t, &f, &s, &end(2), t, &f, &end(1)], Err(22)),
         // The first fault counts.
-        (&[&t, &f, &end(2), &[0]], Err(16)),
-        (&[&t, &f, &short(0, 0), &s, &f], Err(16)),
+        (&[t, &f, &end(2), &[0]], Err(16)),
+        (&[t, &f, &short(0, 0), &s, &f], Err(16)),
     ];
     for (commands, expected) in cases {
         let record = commands.concat();
-        assert_eq!(samples(&record), expected, "{record:02x?}");
+        let later = |fault| if fault == 0 { 0 } else { fault + more };
+        assert_eq!(samples(&record), expected.map_err(later), "{record:02x?}");
     }
 }
 
 #[test]
-fn tolerances() {
+fn order() {
+    let [(t, _), (b, _)] = &heads().map(|(head, more)| {
+        order_after(&head, more);
+        (head, more)
+    });
+    // One tolerance after another.
+    for (commands, fault) in [([t, b], 9), ([b, t], 17), ([b, b], 17)] {
+        let record = [&commands[0][..], commands[1], &first(5, 0), &end(1)].concat();
+        assert_eq!(samples(&record), Err(fault), "{record:02x?}");
+    }
+}
+
+/// Ratios, and whether they are allowed in a record.
+fn ratios() -> Vec<(u64, u64, bool)> {
     const Q: u64 = 1_048_575;
-    for (p, q, allowed) in [
+    vec![
         (2, 3, true),
         (0, 1, true),
         (65_535, 1, true),
@@ -88,11 +105,81 @@ fn tolerances() {
         (1, (1 << 24) - 1, false),
         ((1 << 40) - 1, 1, false),
         ((1 << 40) - 1, (1 << 24) - 1, false),
-    ] {
+    ]
+}
+
+#[test]
+fn tolerances() {
+    for (p, q, allowed) in ratios() {
         let record = [tolerance(p, q), first(5, 0), end(1)].concat();
         let expected = if allowed { Ok(1) } else { Err(0) };
         assert_eq!(samples(&record), expected, "{p}/{q}");
     }
+}
+
+/// Every two of these ratios as parts: a record has both if each is allowed and reduced and they differ. Read,
+/// the part above is the first. Cut off, the command is faulty wherever the cut is.
+#[test]
+fn unequal_parts() {
+    let mut seen = [0; 3];
+    for (p, q, above) in ratios() {
+        for (below_p, below_q, below) in ratios() {
+            let differ = (p, q) != (below_p, below_q);
+            let command = unequal((p, q), (below_p, below_q));
+            let record = [&command[..], &first(5, 0), &end(1)].concat();
+            let allowed = above && below && differ;
+            let expected = if allowed { Ok(1) } else { Err(0) };
+            assert_eq!(samples(&record), expected, "{record:02x?}");
+            seen[usize::from(allowed) + 2 * usize::from(above && below && !differ)] += 1;
+            let one = [&tolerance(p, q)[..], &first(5, 0), &end(1)].concat();
+            if allowed {
+                let fraction = |p: u64, q: u64| Fraction {
+                    p: p.into(),
+                    q: q.into(),
+                };
+                let parts = Parts {
+                    above: fraction(p, q),
+                    below: fraction(below_p, below_q),
+                };
+                assert_eq!(read(&record, 1, 1).unwrap().tolerance, parts);
+                assert_eq!(same(&record, &one), Ok(false));
+                assert_eq!(same(&one, &record), Ok(false));
+                for length in 0..17 {
+                    assert_eq!(samples(&record[..length]), Err(0), "{record:02x?} {length}");
+                }
+            } else if above {
+                assert_eq!(same(&one, &record), Err((9, 0)));
+                assert_eq!(same(&record, &one), Err((8, 0)));
+            }
+        }
+    }
+    assert!(seen[0] > 100 && seen[1] == 20 && seen[2] == 5, "{seen:?}");
+}
+
+/// A trace written with parts in lowest terms and not, the same as numbers or not: 54 exactly if they are the
+/// same, and then as with one ratio.
+#[test]
+fn parts_written() {
+    let random = &mut Random::new(29);
+    let mut seen = [0; 2];
+    for _ in 0..4_000 {
+        let samples = random.within(1, 6) as usize;
+        let Trace { ticks, values } = trace(random.choose(&KINDS), samples, random);
+        let list: Vec<u16> = (0..samples as u16).collect();
+        let held = any_parts(random);
+        let size = 21 + 6 * samples;
+        let write = |tolerance| write(&ticks, &values, &list, tolerance, size, 0).unwrap();
+        let record = write(given(written(held, random)));
+        assert_eq!(record, write(exactly_parts(held)));
+        let one = held.one();
+        assert_eq!(record[0], if one.is_some() { 0x54 } else { 0x42 });
+        if let Some(one) = one {
+            assert_eq!(record, write(exactly(one)));
+        }
+        assert_eq!(read(&record, samples, samples).unwrap().tolerance, held);
+        seen[usize::from(one.is_some())] += 1;
+    }
+    assert!(seen.iter().all(|&count| count > 500), "{seen:?}");
 }
 
 /// A first sample and steps, with the number of samples or the fault's byte.
@@ -145,25 +232,30 @@ fn steps() {
         (first(MAX - 1_048_575, 0), vec![long(1_048_575, 0)], Ok(2)),
         (first(MAX, 0), vec![long((1 << 24) - 1, 0)], Err(16)),
     ];
-    for (first, steps, expected) in cases {
-        let end = end(steps.len() as u16 + 1);
-        let record = [tolerance(2, 3), first, steps.concat(), end].concat();
-        assert_eq!(samples(&record), expected, "{record:02x?}");
+    for (head, more) in heads() {
+        for (first, steps, expected) in &cases {
+            let end = end(steps.len() as u16 + 1);
+            let record = [&head[..], first, &steps.concat(), &end].concat();
+            let expected = expected.map_err(|fault| fault + more);
+            assert_eq!(samples(&record), expected, "{record:02x?}");
+        }
     }
 }
 
 #[test]
 fn counts() {
-    for steps in [0u16, 1, 2, 255, 256, 4_095] {
-        let commands = vec![short(1, 0); steps.into()];
-        let right = steps + 1;
-        for count in [0, 1, steps, right, right + 1, right.swap_bytes(), u16::MAX] {
-            let record = [begun(&commands), end(count)].concat();
-            let expected = match count == right {
-                true => Ok(right.into()),
-                false => Err(16 + 3 * u64::from(steps)),
-            };
-            assert_eq!(samples(&record), expected, "{count} after {steps} steps");
+    for (head, more) in heads() {
+        for steps in [0u16, 1, 2, 255, 256, 4_095] {
+            let commands = short(1, 0).repeat(steps.into());
+            let right = steps + 1;
+            for count in [0, 1, steps, right, right + 1, right.swap_bytes(), u16::MAX] {
+                let record = [&head[..], &first(5, 0), &commands, &end(count)].concat();
+                let expected = match count == right {
+                    true => Ok(right.into()),
+                    false => Err(16 + more + 3 * u64::from(steps)),
+                };
+                assert_eq!(samples(&record), expected, "{count} after {steps} steps");
+            }
         }
     }
 }
@@ -178,12 +270,14 @@ fn too_many_samples() {
     ] {
         for steps in [4_094u16, 4_095, 4_096, 4_097] {
             let commands: Vec<Vec<u8>> = pair.iter().cycle().take(steps.into()).cloned().collect();
-            let record = [begun(&commands), end(steps + 1)].concat();
-            let expected = match steps {
-                ..=4_095 => Ok(usize::from(steps) + 1),
-                _ => Err(16 + 4_095 * pair[0].len() as u64),
-            };
-            assert_eq!(samples(&record), expected, "{steps} steps {pair:02x?}");
+            for (head, more) in heads() {
+                let record = [head, first(5, 0), commands.concat(), end(steps + 1)].concat();
+                let expected = match steps {
+                    ..=4_095 => Ok(usize::from(steps) + 1),
+                    _ => Err(16 + more + 4_095 * pair[0].len() as u64),
+                };
+                assert_eq!(samples(&record), expected, "{steps} steps {pair:02x?}");
+            }
         }
     }
 }
@@ -226,7 +320,7 @@ fn long_records_damaged() {
     let mut seen = [0; 3];
     let mut several = |record: &[u8], at: usize| {
         let near = [1, 0x80, 0xff].map(|change| record[at].wrapping_add(change));
-        let commands = *b"TASLE";
+        let commands = *b"TBASLE";
         let values = [near, [0, 1, 0xff]].concat().into_iter().chain(commands);
         damage(record, at, values, &mut seen);
     };
@@ -238,7 +332,18 @@ fn long_records_damaged() {
     }
     for samples in [4_095, 4_096] {
         let record = encode(&content(samples, random));
-        for at in [0, 5, 8, 9, 15, 16, record.len() - 3, record.len() - 1] {
+        for at in [
+            0,
+            5,
+            8,
+            9,
+            15,
+            16,
+            17,
+            24,
+            record.len() - 3,
+            record.len() - 1,
+        ] {
             several(&record, at);
         }
         for _ in 0..10 {
@@ -258,6 +363,7 @@ fn cut_at_every_length() {
         for length in 0..record.len() {
             let bytes = match record[start] {
                 0x54 => 9,
+                0x42 => 17,
                 0x41 => 7,
                 0x4c => 6,
                 _ => 3,
@@ -277,16 +383,22 @@ fn cut_at_every_length() {
     }
 }
 
-/// One list of samples under each two of these tolerances, whose ratios differ in one byte or in more.
+/// One list of samples under each two of these tolerances, whose ratios differ in one byte or in more, and
+/// with each two of these ratios as parts.
 #[test]
 fn tolerances_compared() {
     const PRIME: u64 = 1_048_573;
     let mut tolerances = vec![(0, 1), (1, 1), (2, 1), (65_535, 1), (5, PRIME)];
     tolerances.extend([8, 16, 24, 32].map(|shift| (5 + (1 << shift), PRIME)));
     tolerances.extend([2, 257, 65_537].map(|q| (1, q)));
-    let records: Vec<Vec<u8>> = tolerances
-        .iter()
-        .map(|&(p, q)| [tolerance(p, q), first(5, 0), short(3, 1), end(2)].concat())
+    let pairs = tolerances.iter().flat_map(|&above| {
+        tolerances.iter().map(move |&below| match above == below {
+            true => tolerance(above.0, above.1),
+            false => unequal(above, below),
+        })
+    });
+    let records: Vec<Vec<u8>> = pairs
+        .map(|command| [command, first(5, 0), short(3, 1), end(2)].concat())
         .collect();
     for (i, one) in records.iter().enumerate() {
         for (j, other) in records.iter().enumerate() {
@@ -341,9 +453,9 @@ fn outputs() {
 #[test]
 fn round_trips() {
     let random = &mut Random::new(21);
-    let mut seen = [0; 4];
+    let mut seen = [0; 5];
     for kind in KINDS {
-        for _ in 0..3_000 {
+        for _ in 0..2_500 {
             let trace = trace(kind, random.within(1, 40) as usize, random);
             let gap = gap_limit(&trace.ticks, random);
             let written = round_trip(&trace, gap, random);
@@ -351,6 +463,7 @@ fn round_trips() {
             seen[1] += written.refused;
             seen[2] += written.short_steps;
             seen[3] += written.long_steps;
+            seen[4] += written.unequal;
         }
     }
     assert!(seen.iter().all(|&count| count > 1_000), "{seen:?}");
@@ -365,7 +478,7 @@ fn contents_written() {
         let record = encode(&content);
         let (ticks, values) = content.trace();
         let all: Vec<u16> = (0..samples as u16).collect();
-        let tolerance = exactly(content.tolerance);
+        let tolerance = exactly_parts(content.tolerance);
         let written = write(&ticks, &values, &all, tolerance, record.len() + 2, 1);
         assert_eq!(written.as_ref(), Ok(&record));
         assert_eq!(read(&record, samples, samples), Ok(content));
@@ -373,32 +486,42 @@ fn contents_written() {
     }
 }
 
-/// Buffers of every size, every place in them and past their end.
+/// Buffers of every size, every place in them and past their end, with equal parts and with unequal ones.
 #[test]
 fn every_place() {
     let (ticks, values, list) = ([0, 1, 3], [0, 1, 1], [0, 2]);
-    let tolerance = Tolerance::Ratio { p: 4, q: 6 };
-    for size in 0..60usize {
-        for place in (0..size + 9).chain(usize::MAX - 22..=usize::MAX) {
-            let answer = write(&ticks, &values, &list, tolerance, size, place);
-            let row = (size.saturating_sub(place) < 22).then_some((10, 22));
-            assert_eq!(answer.err(), row, "{place} of {size}");
+    let tolerances = [
+        (Tolerance::Ratio { p: 4, q: 6 }, 22),
+        (parts((4, 6), (2, 3)), 22),
+        (parts((4, 6), (1, 1)), 30),
+    ];
+    for (tolerance, bytes) in tolerances {
+        for size in 0..60usize {
+            for place in (0..size + 9).chain(usize::MAX - 30..=usize::MAX) {
+                let answer = write(&ticks, &values, &list, tolerance, size, place);
+                let enough = size.saturating_sub(place) >= bytes;
+                let row = (!enough).then_some((10, bytes as u64));
+                assert_eq!(answer.err(), row, "{place} of {size}");
+            }
         }
     }
-    // The longest record.
+    // The longest records.
     let ticks: Vec<u32> = (0..4_096).map(|k| 256 * k).collect();
     let (values, list): (Vec<i16>, Vec<u16>) = (0..4_096).map(|k| (k, k as u16)).unzip();
-    for (size, place, enough) in [
-        (24_589, 0, true),
-        (24_588, 0, false),
-        (24_589, 1, false),
-        (30_000, 5_411, true),
-        (30_000, 5_412, false),
-        (30_000, 30_001, false),
-    ] {
-        let answer = write(&ticks, &values, &list, tolerance, size, place);
-        let row = (!enough).then_some((10, 24_589));
-        assert_eq!(answer.err(), row, "{place} of {size}");
+    for (tolerance, bytes) in tolerances {
+        let longest = bytes + 24_567;
+        for (size, place, enough) in [
+            (longest, 0, true),
+            (longest - 1, 0, false),
+            (longest, 1, false),
+            (30_000, 30_000 - longest, true),
+            (30_000, 30_001 - longest, false),
+            (30_000, 30_001, false),
+        ] {
+            let answer = write(&ticks, &values, &list, tolerance, size, place);
+            let row = (!enough).then_some((10, longest as u64));
+            assert_eq!(answer.err(), row, "{place} of {size}");
+        }
     }
 }
 

@@ -1,4 +1,4 @@
-use kovrelna_evidence::compare::{exactly, ratio, reduce};
+use kovrelna_evidence::compare::{exactly, parts, ratio, reduce};
 use kovrelna_evidence::reductions::{
     any_tolerance, greedy, lists, shortest_lists, size_bounds, stop_probes, tolerances,
 };
@@ -210,8 +210,13 @@ fn greatest_numbers() {
             for p in [0u64, 1, 32_767, 32_768, 65_534, 65_535] {
                 for below in [0, 1, 2] {
                     for q in [1, 2, 3, 1_048_574, 1_048_575] {
-                        let tolerance = ratio((p * q).saturating_sub(below), q);
-                        size_bounds(&trace, tolerance, &lists(&trace, tolerance, 16));
+                        let part = |q: u64| ((p * q).saturating_sub(below), q);
+                        let one = ratio(part(q).0, q);
+                        // Nearly the same part below, over another denominator.
+                        let unlike = parts(part(q), part((q + 1).min(1_048_575)));
+                        for tolerance in [one, unlike] {
+                            size_bounds(&trace, tolerance, &lists(&trace, tolerance, 16));
+                        }
                     }
                 }
             }

@@ -6,11 +6,11 @@ use kovrelna_evidence::calls::Call::{self, *};
 use kovrelna_evidence::calls::CALLS;
 use kovrelna_evidence::cases::random_faults;
 use kovrelna_evidence::compare::{
-    expand, expand_with, hold, judge, least, measure, noise, pedestals, ratio, read, reduce,
+    expand, expand_with, hold, judge, least, measure, noise, parts, pedestals, ratio, read, reduce,
     report, same, scan, sum, view_add, view_begin, write,
 };
 use kovrelna_reference::generate::{crate_of, Channels, Random, Trace};
-use kovrelna_reference::record::{end, first, short, tolerance};
+use kovrelna_reference::record::{end, first, short, tolerance, unequal};
 use kovrelna_reference::sums::Summand;
 use kovrelna_reference::views::{self, State, ENTRIES};
 use kovrelna_reference::{Method, Row};
@@ -164,13 +164,15 @@ fn refused(call: Call, input: &Input) -> Option<Row> {
     }
 }
 
-/// The calls that take a trace, one of any number of samples from 1 to 4,096, a tolerance, a gap limit, a
-/// list, codes; those with an output of an entry for each sample, code or channel, and with two of them.
+/// The calls that take a trace, one of any number of samples from 1 to 4,096, a tolerance, one with unequal
+/// parts, a gap limit, a list, codes; those with an output of an entry for each sample, code or channel, and
+/// with two of them.
 const TRACES: &[Call] = &[
     Measure, Judge, Walk, Gallop, Minimum, Least, Scan, ViewAdd, Write,
 ];
 const LONG_TRACES: &[Call] = &[Judge, Walk, Gallop, Minimum, Scan, Write];
 const TOLERANCES: &[Call] = &[Hold, Judge, Walk, Gallop, Minimum, Write, Report, Pedestals];
+const UNEQUAL: &[Call] = &[Hold, Judge, Walk, Gallop, Minimum, Write, Report];
 const GAPS: &[Call] = &[Judge, Walk, Gallop, Minimum, Least, Scan, Write, Report];
 const LISTS: &[Call] = &[Judge, Write];
 const CODES: &[Call] = &[Expand, ExpandWith];
@@ -293,6 +295,59 @@ fn faults(call: Call) -> Vec<(Row, Change)> {
     of_call.map(|&(_, row, fault)| (row, fault)).collect()
 }
 
+/// Tolerances that are not allowed: as one, in the part above, in the part below, and in both.
+fn bad_tolerances() -> [Tolerance; 6] {
+    let (good, none, great) = ((0, 1), (1, 0), (65_536, 1));
+    [
+        Tolerance::Counts(f64::NAN),
+        parts(none, good),
+        parts(great, good),
+        parts(good, none),
+        parts(good, great),
+        parts(none, great),
+    ]
+}
+
+/// The input, and with each tolerance in place of its own that the call treats alike: one that is allowed, with
+/// equal parts or with unequal ones; or one that is not, in either part. Of write the record stays as long.
+fn with_alike(call: Call, input: &Input) -> Vec<Input> {
+    let allowed = |tolerance: Tolerance| kovrelna::hold(tolerance).is_ok();
+    let alike = |tolerance: Tolerance| -> Vec<Tolerance> {
+        match (allowed(tolerance), call) {
+            (true, Write | Pedestals) => vec![parts((0, 1), (0, 7))],
+            (true, _) => vec![
+                parts((0, 1), (0, 7)),
+                parts((0, 1), (1, 3)),
+                parts((1, 3), (0, 1)),
+            ],
+            (false, Pedestals) => {
+                let unequal = [parts((0, 1), (1, 3)), parts((1, 3), (0, 1))];
+                [&bad_tolerances()[..], &unequal].concat()
+            }
+            (false, _) => bad_tolerances().to_vec(),
+        }
+    };
+    let mut inputs = vec![input.clone()];
+    let mut add = |change: &dyn Fn(&mut Input)| {
+        let mut input = input.clone();
+        change(&mut input);
+        inputs.push(input);
+    };
+    if TOLERANCES.contains(&call) {
+        for tolerance in alike(input.tolerance) {
+            add(&|input| input.tolerance = tolerance);
+        }
+    }
+    if call == Scan {
+        for (position, &tolerance) in input.tolerances.iter().enumerate().take(3) {
+            for tolerance in alike(tolerance) {
+                add(&|input| input.tolerances[position] = tolerance);
+            }
+        }
+    }
+    inputs
+}
+
 /// Every row of every call: alone its number and value are answered.
 #[test]
 fn every_row_of_every_call() {
@@ -309,17 +364,21 @@ fn every_row_of_every_call() {
     }
 }
 
-/// Every set of rows of every call: the first row is answered, with its own value.
+/// Every set of rows of every call: the first row is answered, with its own value, also where the tolerance has
+/// parts, of which the one above, the one below or both may be what is not allowed.
 #[test]
 fn the_first_row_is_answered() {
     for call in CALLS {
         let faults = faults(call);
-        for set in 1usize..1 << faults.len() {
+        for set in 0usize..1 << faults.len() {
             let mut input = accepted();
             let chosen = faults.iter().enumerate().filter(|(k, _)| set >> k & 1 == 1);
             chosen.for_each(|(_, (_, fault))| fault(&mut input));
-            let (row, _) = faults[set.trailing_zeros() as usize];
-            assert_eq!(refused(call, &input), Some(row), "{call:?} {input:?}");
+            let first = faults.get(set.trailing_zeros() as usize);
+            let row = first.map(|&(row, _)| row);
+            for input in with_alike(call, &input) {
+                assert_eq!(refused(call, &input), row, "{call:?} {input:?}");
+            }
         }
     }
 }
@@ -725,7 +784,26 @@ fn counts() -> Vec<Entry> {
 }
 
 fn tolerances() -> Vec<Entry> {
+    const Q: u64 = 1_048_575;
+    let ratios = [
+        ((0, 1), true),
+        ((0, Q), true),
+        ((1, Q), true),
+        ((65_535, 1), true),
+        ((65_535 * Q, Q), true),
+        ((65_535 * Q + 1, Q), false),
+        ((65_536, 1), false),
+        ((0, 0), false),
+        ((0, Q + 1), false),
+        ((1 << 40, 1 << 32), false),
+    ];
     let cases = [
+        (parts((65_535, 1), (65_535 * Q, Q)), true),
+        (parts((65_535 * Q + 1, Q), (0, 1)), false),
+        (parts((0, 1), (65_535 * Q + 1, Q)), false),
+        (parts((0, 0), (0, 1)), false),
+        (parts((0, 1), (0, 0)), false),
+        (parts((0, Q + 1), (0, Q + 1)), false),
         (ratio(0, 1), true),
         (ratio(65_535 * 1_048_575, 1_048_575), true),
         (ratio(65_535 * 1_048_575 + 1, 1_048_575), false),
@@ -749,7 +827,23 @@ fn tolerances() -> Vec<Entry> {
         (TOLERANCES, input, (!allowed).then_some((4, 0)))
     };
     let mut entries = cases.map(entry).to_vec();
+    // Each two of these ratios as parts, above and below. Pedestals take them if they are equal.
+    for (above, good) in ratios {
+        for (below, also) in ratios {
+            let input = Input {
+                tolerance: parts(above, below),
+                size: 30,
+                ..accepted()
+            };
+            let row = (!good || !also).then_some((4, 0));
+            entries.push((UNEQUAL, input.clone(), row));
+            let equal = good && also && above.0 * below.1 == below.0 * above.1;
+            entries.push((&[Pedestals], input, (!equal).then_some((4, 0))));
+        }
+    }
     // Every position of a scan; the first of several, with later rows that fail too.
+    let unequal = [parts((0, 1), (65_535 * Q, Q)), parts((65_535, 1), (1, Q))];
+    let cases = cases.into_iter().chain(unequal.map(|parts| (parts, true)));
     for (tolerance, allowed) in cases {
         for position in 0..16 {
             let row = (!allowed).then_some((4, position as u64));
@@ -1259,6 +1353,30 @@ fn links() -> Vec<Entry> {
             entries.push((&[Write], input, row.or(room)));
         }
     }
+    // Samples above the lines and below them in turn: the part of the other side does not matter.
+    for (above, below, link) in [
+        (0, 4, Some(0)),
+        (4, 0, Some(1)),
+        (1, 4, Some(2)),
+        (4, 2, Some(3)),
+        (3, 3, Some(3)),
+        (3, 4, None),
+    ] {
+        let row = link.map(|link| (7, link));
+        let bytes = if above == below { 31 } else { 39 };
+        let short = Some((10, bytes as u64));
+        for (size, room) in [(bytes, None), (bytes - 1, short), (0, short)] {
+            let input = Input {
+                ticks: (0..9).collect(),
+                values: vec![0, 1, 0, -2, 0, 3, 0, -4, 0],
+                list: vec![0, 2, 4, 6, 8],
+                tolerance: parts((above, 1), (below, 1)),
+                size,
+                ..accepted()
+            };
+            entries.push((&[Write], input, row.or(room)));
+        }
+    }
     // Every link crosses a hole, of 2 ticks in the first to 5 in the last.
     for (gap, link) in [
         (1, Some(0)),
@@ -1303,7 +1421,39 @@ fn records() -> Vec<Entry> {
         };
         (&[Same], input, row)
     };
-    cases.map(entry).to_vec()
+    let mut entries = cases.map(entry).to_vec();
+    // Unequal parts take 8 bytes more, in one record or in both. Bad ones, above or below, and equal ones are
+    // faulty at byte 0, as is a record that is cut there.
+    let parted = |above, below| [&unequal(above, below), &whole[9..]].concat();
+    let other = parted((1, 2), (1, 3));
+    let exchanged = parted((1, 3), (1, 2));
+    entries.extend([
+        entry((&other, &other, None)),
+        entry((&other, &exchanged, None)),
+        entry((&other, &whole, None)),
+        entry((&whole, &other, None)),
+        entry((&other[..26], &other, Some((8, 24)))),
+        entry((&other, &other[..26], Some((9, 24)))),
+        entry((&other[..26], &whole[..18], Some((8, 24)))),
+        entry((&whole[..18], &other[..26], Some((8, 16)))),
+        entry((&other[..16], &whole, Some((8, 0)))),
+        entry((&whole, &other[..16], Some((9, 0)))),
+        entry((&other[..17], &whole, Some((8, 17)))),
+    ]);
+    for bad in [(1, 2), (2, 4), (1, 0), (65_536, 1), (1, 1_048_576)] {
+        for record in [parted((1, 2), bad), parted(bad, (1, 2)), parted(bad, bad)] {
+            entries.push(entry((&record, &whole, Some((8, 0)))));
+            entries.push(entry((&whole, &record, Some((9, 0)))));
+            entries.push(entry((&record, &record, Some((8, 0)))));
+            let input = Input {
+                record,
+                rooms: (0, 0),
+                ..accepted()
+            };
+            entries.push((&[Read], input, Some((8, 0))));
+        }
+    }
+    entries
 }
 
 /// The limits of a crate: for report, and those that are refused for pedestals, in either run or in both.

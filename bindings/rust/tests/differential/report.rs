@@ -3,7 +3,7 @@
 use kovrelna::GAP_MAX;
 use kovrelna_evidence::calls::Call;
 use kovrelna_evidence::cases::crates;
-use kovrelna_evidence::compare::{exactly, judge, measure, ratio, reduce, report};
+use kovrelna_evidence::compare::{exactly, hold, judge, measure, parts, ratio, reduce, report};
 use kovrelna_evidence::reductions::any_tolerance;
 use kovrelna_reference::generate::{
     channels, crate_of, gap_limit, just_below, trace, with_holes, Channels, Random, Trace, HOLES,
@@ -62,7 +62,8 @@ fn random_crates() {
 /// Each summary is that of a crate of this channel alone. It has the number with which walk refuses the
 /// trace; or walk's kept number, the least tolerance at which judge passes walk's list, all under the same
 /// gap limit, and the sample that judge names just below it, which is that of the first of the worst links.
-/// The totals are those of the summaries.
+/// That error, whichever side it is on, may be above the part of the other side. The totals are those of the
+/// summaries.
 #[test]
 fn each_channel() {
     let random = &mut Random::new(32);
@@ -71,8 +72,9 @@ fn each_channel() {
     let (mut numbers, mut largest) = ([0; 4], [0; 3]);
     // Reports to which the gap limit matters.
     let mut matters = 0;
-    // Lists without a link; with the error 0; with one worst link, and with several.
-    let mut worst = [0; 4];
+    // Lists without a link; with the error 0; with one worst link, and with several; with an error above the
+    // smaller part.
+    let mut worst = [0; 5];
     for _ in 0..1_000 {
         let count = random.within(1, 6) as usize;
         let channels = channels(count, 30, random);
@@ -104,6 +106,8 @@ fn each_channel() {
                 }
             };
             assert_eq!((channel.samples, channel.kept), (ticks.len(), list.len()));
+            let smaller = hold(limits.tolerance).unwrap().smaller();
+            worst[4] += usize::from(!channel.error.at_most(smaller));
             let judged = |error| {
                 let limits = exactly(error).with_gap(limits.gap);
                 judge(ticks, values, &list, limits).unwrap()
@@ -182,6 +186,28 @@ fn worst_samples() {
         assert_eq!(rows[1..3], [expected; 2], "{trace:?}");
         assert_eq!((rows[0].sample, rows[3].sample), (0, 0));
     }
+}
+
+/// A peak and a trough, with a part for each that is just enough: the worst sample is that of the greatest plain
+/// distance, on either side, and of two equally far ones the first.
+#[test]
+fn worst_sample_on_either_side() {
+    let one = |values: [i16; 5], above: u64, below: u64| {
+        let channels = crate_of(&[Trace {
+            ticks: (0..5).collect(),
+            values: values.to_vec(),
+        }]);
+        let tolerance = parts((above, 1), (below, 1));
+        let row = report(&channels, tolerance, 1).unwrap().channels[0];
+        (row.kept, row.error, row.sample)
+    };
+    // The samples 1 and 3 lie on either side of a level line.
+    assert_eq!(one([0, 2, 0, -9, 0], 2, 12), (3, whole(9), 3));
+    assert_eq!(one([0, 9, 0, -2, 0], 9, 2), (3, whole(9), 1));
+    assert_eq!(one([0, 5, 0, -5, 0], 5, 7), (3, whole(5), 1));
+    assert_eq!(one([0, -5, 0, 5, 0], 5, 7), (2, whole(5), 1));
+    assert_eq!(one([0, 9, 0, -2, 0], 9, 1), (4, whole(9), 1));
+    assert_eq!(one([0, 9, 0, -2, 0], 8, 20), (3, whole(6), 2));
 }
 
 /// A crate of traces with holes in every place, under each of their gap limits.

@@ -5,7 +5,7 @@ use kovrelna::Tolerance::{self, Counts};
 use kovrelna::GAP_MAX;
 use kovrelna_evidence::calls::Call;
 use kovrelna_evidence::cases::traces_scanned;
-use kovrelna_evidence::compare::{noise, ratio, scan};
+use kovrelna_evidence::compare::{noise, parts, ratio, scan};
 use kovrelna_evidence::reductions::{any_tolerance, tolerances};
 use kovrelna_evidence::scans::{after_sample, scanned};
 use kovrelna_reference::generate::{
@@ -14,7 +14,7 @@ use kovrelna_reference::generate::{
 use kovrelna_reference::scans::TOLERANCES;
 use kovrelna_reference::SAMPLES;
 
-use crate::{small_traces, SMALL_TOLERANCES};
+use crate::{small_traces, SMALL_PARTS, SMALL_TOLERANCES};
 
 /// The scan of the trace, with an output of exactly enough room, and what has been kept after every sample.
 fn scan_of(trace: &Trace, tolerances: &[Tolerance], gap: u32) -> Vec<Vec<u16>> {
@@ -43,10 +43,14 @@ fn random_scans() {
     assert!(seen(0) && rows.iter().all(|&row| seen(row)), "{counts:?}");
 }
 
-/// Every small trace at eight tolerances at once, under every gap limit that matters.
+/// Every small trace at eight tolerances at once, of which half have unequal parts, under every gap limit that
+/// matters.
 #[test]
 fn every_small_trace() {
-    let tolerances = SMALL_TOLERANCES.map(|(p, q)| ratio(p, q));
+    let mut tolerances = SMALL_TOLERANCES.map(|(p, q)| ratio(p, q));
+    for k in (1..tolerances.len()).step_by(2) {
+        tolerances[k] = parts(SMALL_PARTS[k].0, SMALL_PARTS[k].1);
+    }
     // All lists the same, and others.
     let mut seen = [0; 2];
     for trace in small_traces() {
@@ -123,7 +127,12 @@ fn every_number_of_tolerances() {
 #[test]
 fn equal_tolerances() {
     let random = &mut Random::new(55);
-    let forms = [ratio(3, 2), ratio(6, 4), Counts(1.5), noise(0.5, 3.0)];
+    let forms = [
+        ratio(3, 2),
+        Counts(1.5),
+        noise(0.5, 3.0),
+        parts((3, 2), (6, 4)),
+    ];
     for _ in 0..200 {
         let samples = random.within(1, 40) as usize;
         let (trace, gap) = any_limited(samples, random);

@@ -3,7 +3,7 @@
 
 use kovrelna_evidence::calls::Call;
 use kovrelna_evidence::cases::traces_summed;
-use kovrelna_evidence::compare::{exactly, hold, judge, ratio, reduce, sum};
+use kovrelna_evidence::compare::{exactly, exactly_parts, hold, judge, ratio, reduce, sum};
 use kovrelna_evidence::reductions::tolerances;
 use kovrelna_evidence::sums::added;
 use kovrelna_reference::generate::{
@@ -11,7 +11,7 @@ use kovrelna_reference::generate::{
 };
 use kovrelna_reference::sums::{bound, Sum, Summand};
 use kovrelna_reference::{
-    kept_lists, list_error, list_obeys, Fraction, METHODS, SAMPLES, TOLERANCE,
+    kept_lists, list_error, list_obeys, list_parts, METHODS, SAMPLES, TOLERANCE,
 };
 
 use crate::small_traces;
@@ -38,16 +38,6 @@ fn sum_of(first: &Summand, second: &Summand) -> Sum {
     added(first, second, (samples, samples)).unwrap()
 }
 
-/// The errors of both lists and of the joined list.
-fn errors(first: &Summand, second: &Summand, sum: &Sum) -> [Fraction; 3] {
-    let error = |values: &[i16], list: &[u16]| list_error(&first.trace.ticks, values, list);
-    [
-        error(&first.trace.values, &first.list),
-        error(&second.trace.values, &second.list),
-        error(&sum.values, &sum.list),
-    ]
-}
-
 #[test]
 fn random_sums() {
     let random = &mut Random::new(46);
@@ -59,14 +49,15 @@ fn random_sums() {
     assert!(seen(0) && rows.iter().all(|&row| seen(row)), "{counts:?}");
 }
 
-/// Every pair of small traces with the same ticks, with lists drawn for each. With T1 and T2 the errors of
-/// the lists, that of the joined list is at most T1 + T2, or above it, or exactly 2 (T1 + T2); and it obeys
-/// each gap limit that both obey, of which those up to the longest step matter.
+/// Every pair of small traces with the same ticks, with lists drawn for each. With U1, D1, U2 and D2 the least
+/// parts of the lists, the error of the joined list is at most half of U1 + D1 + U2 + D2, or above it, or exactly
+/// that sum; and it obeys each gap limit that both obey, of which those up to the longest step matter. There
+/// are joined lists that are not within U1 + U2 above and D1 + D2 below.
 #[test]
 fn every_small_pair() {
     let random = &mut Random::new(47);
     let lists: Vec<Vec<Vec<u16>>> = (0..=5).map(|n| kept_lists(n).collect()).collect();
-    let (mut seen, mut obeyed) = ([0; 3], [0; 2]);
+    let (mut seen, mut obeyed, mut outside) = ([0; 3], [0; 2], 0);
     for same_ticks in small_traces().chunk_by(|one, two| one.ticks == two.ticks) {
         let ticks = &same_ticks[0].ticks;
         let samples = ticks.len();
@@ -77,8 +68,12 @@ fn every_small_pair() {
                     listed(trace, &lists[samples][drawn])
                 });
                 let sum = sum(&first, &second, (samples, samples)).unwrap();
-                let [t1, t2, joined] = errors(&first, &second, &sum);
-                let bound = bound(t1, t2);
+                let [one, two] = [&first, &second]
+                    .map(|summand| list_parts(ticks, &summand.trace.values, &summand.list));
+                let joined = list_error(ticks, &sum.values, &sum.list);
+                let bound = bound(one, two);
+                let above = list_parts(ticks, &sum.values, &sum.list).above;
+                outside += usize::from(!above.at_most(one.above.plus(two.above)));
                 let input = || format!("{joined:?} {sum:?}\n{first:?}\n{second:?}");
                 assert!(joined.at_most(bound), "{}", input());
                 match (joined.at_most(bound.half()), bound.at_most(joined)) {
@@ -97,6 +92,7 @@ fn every_small_pair() {
     }
     assert!(seen[0] > 100_000 && seen[1] > 10_000, "{seen:?}");
     assert!(seen[2] > 0 && obeyed.iter().all(|&count| count > 100_000));
+    assert!(outside > 1_000, "{outside}");
 }
 
 /// Lists of every sort side by side, of traces of one sample, of two, and up to the longest: of the two ends,
@@ -212,8 +208,8 @@ fn holes() {
     assert!(seen.iter().all(|&count| count > 100), "{seen:?}");
 }
 
-/// Two traces reduced by every two methods at tolerances of their own under one gap limit: judge passes the
-/// joined list at 2 (T1 + T2) under it, where that is allowed.
+/// Two traces reduced by every two methods at tolerances of their own, with parts U1 and D1, U2 and D2, under
+/// one gap limit: judge passes the joined list at U1 + D1 + U2 + D2 under it, where that is allowed.
 #[test]
 fn reduced_and_added() {
     let random = &mut Random::new(50);
@@ -227,11 +223,7 @@ fn reduced_and_added() {
         });
         let held = traces.each_ref().map(|trace| {
             let tolerances = tolerances(trace, random);
-            let (p, q) = hold(random.choose(&tolerances)).unwrap();
-            Fraction {
-                p: p.into(),
-                q: q.into(),
-            }
+            hold(random.choose(&tolerances)).unwrap()
         });
         for methods in METHODS
             .iter()
@@ -239,7 +231,7 @@ fn reduced_and_added() {
         {
             let parts = [0, 1].map(|k| {
                 let Trace { ticks, values } = &traces[k];
-                let limits = exactly(held[k]).with_gap(gap);
+                let limits = exactly_parts(held[k]).with_gap(gap);
                 let reduced = reduce(methods[k], ticks, values, limits, samples).unwrap();
                 listed(&traces[k], &reduced.list)
             });

@@ -16,7 +16,7 @@ returned-requires : tie.Need-returned-requires
 returned-requires c κs = search needs
 
 returns : tie.Need-returns
-returns c = rw (c .before .h .given .1)
+returns c = rw (c .before .before .before .h .given .1)
 
 returns-2 : tie.Need-returns-2
 returns-2 c = rw (c .before .before .before .h2 .given .1, c .returned .ensures, c .before .number .ensures)

@@ -16,7 +16,7 @@ returned-requires : tie.Need-returned-requires
 returned-requires c κs = search needs
 
 returns : tie.Need-returns
-returns c = rw (c .before .a .given .1)
+returns c = rw (c .before .before .before .a .given .1)
 
 returns-2 : tie.Need-returns-2
 returns-2 c = rw (c .before .before .before .a2 .given .1, c .returned .ensures, c .before .number .ensures)

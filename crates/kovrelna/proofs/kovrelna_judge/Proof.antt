@@ -1,6 +1,6 @@
 -- `kovrelna::kovrelna_judge` meets its contract: it has the outcome of the public call. Assumes nothing.
 use mathlib.Core.Path.{subst}
-use Rattle.engine.specs.Judge.{JudgeOutcome}
+use Rattle.judging.specs.Judge.{JudgeOutcome}
 use Rattle.limits.specs.declared.Limits.{Limits}
 use borrow.Author.Needs.{needs}
 use Rattle.kovrelna.proofs.kovrelna_judge.Statement.{statement}

@@ -5,7 +5,7 @@ use borrow.Author.Needs.{needs}
 use borrow.Author.Tests.{not-true, not-false}
 use Rattle.trace.specs.Link.{within}
 use Rattle.trace.proofs.Validity.{Passed, passed-none, passed-more, passed-all, failed, within-true, within-false}
-use Rattle.trace.proofs.EdgeLaws.{reach, band-requires, band-test}
+use Rattle.trace.proofs.EdgeLaws.{reach-both, band-requires, band-test}
 use Rattle.links.proofs.all_within.Statement.{statement}
 use Rattle.links.proofs.all_within.Tie as tie
 
@@ -18,10 +18,10 @@ abbrev μ-loop : tie.MeasureT-loop
 start-at-requires : tie.Need-start-at-requires Inv-loop μ-loop
 start-at-requires c κs = search needs
 
-edge-to-requires : tie.Need-edge-to-requires Inv-loop μ-loop
-edge-to-requires c κs =
+aim-at-requires : tie.Need-aim-at-requires Inv-loop μ-loop
+aim-at-requires c κs =
     let pre = c .before .before .pre in
-    reach (c .start-at .ensures) (pre .0 .trace) (search needs) (pre .0 .inside) (pre .1 .q-bound)
+    reach-both (c .start-at .ensures) (pre .0 .trace) (search needs) (pre .0 .inside) (pre .1)
 
 add-k : tie.Need-add-k Inv-loop μ-loop
 add-k c = search needs
@@ -29,17 +29,17 @@ add-k c = search needs
 loop-holds : tie.Need-loop-holds Inv-loop μ-loop
 loop-holds c = passed-none (search needs)
 
-edge-to-requires-2 : tie.Need-edge-to-requires-2 Inv-loop μ-loop
-edge-to-requires-2 c κs =
+aim-at-requires-2 : tie.Need-aim-at-requires-2 Inv-loop μ-loop
+aim-at-requires-2 c κs =
     let s = c .before .before .before in
     let pre = s .before .before .pre in
-    reach (s .start-at .ensures) (pre .0 .trace) (search needs) (search needs) (pre .1 .q-bound)
+    reach-both (s .start-at .ensures) (pre .0 .trace) (search needs) (search needs) (pre .1)
 
 in-band-requires : tie.Need-in-band-requires Inv-loop μ-loop
 in-band-requires c κs =
     let s = c .before .before .before .before in
     let pre = s .before .before .pre in
-    band-requires (pre .0) (pre .1) (search needs) (search needs) (s .start-at .ensures) (c .before .before .before .edge-to .ensures) (c .edge-to2 .ensures)
+    band-requires (pre .0) (pre .1) (search needs) (search needs) (s .start-at .ensures) (c .before .before .before .aim-at .ensures) (c .aim-at2 .ensures)
 
 -- the test of sample k is that of the definition
 tested : (c : tie.After-in-band Inv-loop μ-loop) → let a = c .before .before .before .before .before .before .before .args in
@@ -47,7 +47,7 @@ tested : (c : tie.After-in-band Inv-loop μ-loop) → let a = c .before .before 
 tested c =
     let s = c .before .before .before .before .before in
     let pre = s .before .before .pre in
-    c .in-band .ensures ∙ band-test (pre .0) (pre .1) (search needs) (search needs) (s .start-at .ensures) (c .before .before .before .before .edge-to .ensures) (c .before .edge-to2 .ensures)
+    c .in-band .ensures ∙ band-test (pre .0) (pre .1) (search needs) (search needs) (s .start-at .ensures) (c .before .before .before .before .aim-at .ensures) (c .before .aim-at2 .ensures)
 
 returns : tie.Need-returns Inv-loop μ-loop
 returns c = sym (failed (c .before .before .before .before .loop .inv) (c .before .before .before .loop-test .taken) (within-false _ _ _ _ _ _ (sym (tested (c .before)) ∙ not-true _ (c .if1 .taken))))
@@ -71,10 +71,10 @@ all-within-spec =
     Inv-loop
     μ-loop
     start-at-requires
-    edge-to-requires
+    aim-at-requires
     add-k
     loop-holds
-    edge-to-requires-2
+    aim-at-requires-2
     in-band-requires
     returns
     add-k-2

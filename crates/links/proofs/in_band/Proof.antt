@@ -14,8 +14,8 @@ no-steeper-requires c κs = search needs
 
 returns : tie.Need-returns
 returns c =
-    let a = c .before .before .before .args in
-    band-no (a .e) (a .to) _ (c .before .before .lower-by .ensures .0) (sym (c .before .no-steeper .ensures) ∙ not-true _ (c .if1 .taken))
+    let a = c .before .before .before .before .before .before .before .args in
+    band-no (a .e) (a .to) (a .c) (c .before .before .lower-by .ensures .0) (sym (c .before .no-steeper .ensures) ∙ not-true _ (c .if1 .taken))
 
 raise-by-requires : tie.Need-raise-by-requires
 raise-by-requires c κs = search needs
@@ -25,8 +25,8 @@ no-steeper-requires-2 c κs = search needs
 
 returns-2 : tie.Need-returns-2
 returns-2 c =
-    let a = c .before .before .before .before .before .args in
-    band-yes (a .e) (a .to) _ (c .before .before .before .before .lower-by .ensures .0) (sym (c .before .before .before .no-steeper .ensures) ∙ not-false _ (c .before .before .if1 .left))
+    let a = c .before .before .before .before .before .before .before .before .before .args in
+    band-yes (a .e) (a .to) (a .c) (c .before .before .before .before .lower-by .ensures .0) (sym (c .before .before .before .no-steeper .ensures) ∙ not-false _ (c .before .before .if1 .left))
     (c .before .raise-by .ensures .0) (c .no-steeper2 .ensures)
 
 pub in-band-spec : {M : Type 1} → statement M

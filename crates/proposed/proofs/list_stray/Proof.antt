@@ -39,7 +39,7 @@ loop-again c =
     worst-more (pre .0) (pre .1) _ (e .before .loop-test .taken) (loop .loop .inv) (e .stray-at .ensures .0) (e .stray-at .ensures .1) (c .worse .ensures)
 
 reduce-requires : tie.Need-reduce-requires Inv-loop μ-loop
-reduce-requires c κs = c .before .loop .inv .allowed .positive
+reduce-requires c κs = c .before .loop .inv .allowed .up .positive
 
 returns : tie.Need-returns Inv-loop μ-loop
 returns c =

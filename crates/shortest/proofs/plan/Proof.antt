@@ -14,11 +14,14 @@ use Rattle.shortest.proofs.plan.Statement.{statement}
 use Rattle.shortest.proofs.plan.Tie as tie
 
 abbrev Inv-loop : tie.InvT-loop
-Inv-loop ticks values c links₀ next₀ i₀ run₀ links next i run =
+Inv-loop ticks values c links₀ next₀ x i₀ run₀ links next i run =
     Tabling (valid ticks values c) (length ticks - 1) (length links₀) (length next₀) links next i × (run ≡ first (hole ticks (c .gap)) i (length ticks - 1))
 
 abbrev μ-loop : tie.MeasureT-loop
-μ-loop ticks values c links₀ next₀ i₀ run₀ links next i run = i
+μ-loop ticks values c links₀ next₀ x i₀ run₀ links next i run = i
+
+across-requires : tie.Need-across-requires Inv-loop μ-loop
+across-requires c κs = search needs
 
 sub-i : tie.Need-sub-i Inv-loop μ-loop
 sub-i c = search needs
@@ -31,7 +34,7 @@ slice-write-links c = search needs
 
 loop-holds : tie.Need-loop-holds Inv-loop μ-loop
 loop-holds c = (
-  tabling-none _ _ (c .before .before .before .args .links .now) (c .before .before .before .args .next .now) (search needs) (search needs),
+  tabling-none _ _ (c .before .before .before .before .args .links .now) (c .before .before .before .before .args .next .now) (search needs) (search needs),
   sym (first-none (omega arith) clear-none),
 )
 
@@ -42,31 +45,33 @@ run-from-requires : tie.Need-run-from-requires Inv-loop μ-loop
 run-from-requires c κs =
     let l = c .before in
     let back : l .loop .i - 1 + 1 ≡ l .loop .i = omega (arith, c .loop-test .taken) in
-    (l .before .before .before .before .pre .0 .rising, omega (arith, c .loop-test .taken, l .loop .inv .0), rw back (l .loop .inv .1))
+    (l .before .before .before .before .before .pre .0 .rising, omega (arith, c .loop-test .taken, l .loop .inv .0), rw back (l .loop .inv .1))
 
 end-of-requires : tie.Need-end-of-requires Inv-loop μ-loop
 end-of-requires c κs =
     let l = c .before .before .before in
     let b = run-bounds _ _ _ (omega (arith, c .before .before .loop-test .taken, l .loop .inv .0)) (c .before .run-from .ensures) in
-    (b .0, omega (arith, b .1, l .before .before .before .before .pre .0 .few))
+    (b .0, omega (arith, b .1, l .before .before .before .before .before .pre .0 .few))
 
 next-stop-requires : tie.Need-next-stop-requires Inv-loop μ-loop
 next-stop-requires c κs =
     let l = c .before .before .before .before in
     let t = c .before .before .before .loop-test .taken in
-    let pre = l .before .before .before .before .pre in
-    record {
-      trace = pre .0;
-      bounded = pre .1;
-      inside = omega (arith, t, l .loop .inv .0);
-      counted = counted-after _ _ (steps-valid _ _ _) (l .loop .inv .0) t;
-      limit-is = links-end-is _ _ _ (omega (arith, t, l .loop .inv .0)) (c .before .before .run-from .ensures) (c .end-of .ensures);
-    }
+    let pre = l .before .before .before .before .before .pre in (
+      record {
+        trace = pre .0;
+        bounded = pre .1;
+        inside = omega (arith, t, l .loop .inv .0);
+        counted = counted-after _ _ (steps-valid _ _ _) (l .loop .inv .0) t;
+        limit-is = links-end-is _ _ _ (omega (arith, t, l .loop .inv .0)) (c .before .before .run-from .ensures) (c .end-of .ensures);
+      },
+      l .before .across .ensures,
+    )
 
 -- the chosen stop is in the tables
 inside : (c : tie.After-next-stop Inv-loop μ-loop) →
     let l = c .before .before .before .before .before in
-    let last = length (l .before .before .before .before .args .ticks .now) - 1 in
+    let last = length (l .before .before .before .before .before .args .ticks .now) - 1 in
     (c .next-stop .result ≤ last) × (getD (l .loop .links) (c .next-stop .result) 0 + c .next-stop .result ≤ last)
 inside c =
     let l = c .before .before .before .before .before in
@@ -121,6 +126,7 @@ plan-spec =
     (tie.spec
     Inv-loop
     μ-loop
+    across-requires
     sub-i
     mul-links
     slice-write-links

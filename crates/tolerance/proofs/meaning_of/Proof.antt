@@ -23,6 +23,12 @@ enum-known-t-3 c = search needs
 of-noise-requires : tie.Need-of-noise-requires
 of-noise-requires c κs = search needs
 
+enum-known-t-4 : tie.Need-enum-known-t-4
+enum-known-t-4 c = search needs
+
+of-parts-requires : tie.Need-of-parts-requires
+of-parts-requires c κs = search needs
+
 returns : tie.Need-returns
 returns c = c .of-ratio .ensures ∙ sym (ap meaning (c .before .before .t .given .1))
 
@@ -31,6 +37,9 @@ returns-2 c = c .of-counts .ensures ∙ sym (ap meaning (c .before .before .t2 .
 
 returns-3 : tie.Need-returns-3
 returns-3 c = c .of-noise .ensures ∙ sym (ap meaning (c .before .before .t3 .given .1))
+
+returns-4 : tie.Need-returns-4
+returns-4 c = c .of-parts .ensures ∙ sym (ap meaning (c .before .before .t4 .given .1))
 
 pub meaning-of-spec : {M : Type 1} → statement M
 meaning-of-spec =
@@ -42,6 +51,9 @@ meaning-of-spec =
     of-counts-requires
     enum-known-t-3
     of-noise-requires
+    enum-known-t-4
+    of-parts-requires
     returns
     returns-2
-    returns-3)
+    returns-3
+    returns-4)

@@ -4,6 +4,7 @@ use borrow.Author.Needs.{needs}
 use lib.Dec.{lit<, lit≤}
 use lib.Ieee.Positive.{num, den, den-pos}
 use Rattle.ratio.proofs.Laws.{lowest-same}
+use Rattle.tolerance.specs.Meaning.{alike}
 use Rattle.tolerance.specs.declared.Meaning.the-variants.{Exact}
 use Rattle.tolerance.proofs.Values.{read-whole, read-other}
 use Rattle.tolerance.proofs.of_counts.Statement.{statement}
@@ -18,16 +19,20 @@ enum-known-s c = search needs
 reduce-requires : tie.Need-reduce-requires
 reduce-requires c κs = search needs
 
+alike-requires : tie.Need-alike-requires
+alike-requires c κs = search needs
+
 enum-told : tie.Need-enum-told
 enum-told c = search needs
 
 returns : tie.Need-returns
 returns c =
-    let called = c .before .before .before .before in
+    let reduced = c .before in
+    let called = reduced .before .before .before .before in
     let x = called .before .args .x in
-    let n = c .before .before .s .given .0 .0 in
-    let is = read-whole x 64 65535 n (sym (called .take-steps .ensures) ∙ c .before .before .s .given .1) in
-    simp (is .0) (ap Exact (c .reduce .ensures ∙ lowest-same n 64 (num x) (den x) (lit< tt) (den-pos x) (sym (is .1 .1))))
+    let n = reduced .before .before .s .given .0 .0 in
+    let is = read-whole x 64 65535 n (sym (called .take-steps .ensures) ∙ reduced .before .before .s .given .1) in
+    simp (is .0) (ap Exact (c .alike .ensures ∙ ap alike (reduced .reduce .ensures ∙ lowest-same n 64 (num x) (den x) (lit< tt) (den-pos x) (sym (is .1 .1)))))
 
 returns-2 : tie.Need-returns-2
 returns-2 c =
@@ -35,4 +40,4 @@ returns-2 c =
     simp (read-other (called .before .args .x) 64 65535 (sym (called .take-steps .ensures) ∙ c .enum-told .given .1))
 
 pub of-counts-spec : {M : Type 1} → statement M
-of-counts-spec = tie.close (tie.spec take-steps-requires enum-known-s reduce-requires enum-told returns returns-2)
+of-counts-spec = tie.close (tie.spec take-steps-requires enum-known-s reduce-requires alike-requires enum-told returns returns-2)

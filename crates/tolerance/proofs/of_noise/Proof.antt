@@ -11,7 +11,7 @@ use mathlib.Core.Bool.{true}
 use Rattle.ratio.specs.Gcd.{lowest}
 use Rattle.ratio.proofs.Laws.{lowest-same}
 use Rattle.tolerance.specs.declared.Noise as N
-use Rattle.tolerance.specs.Meaning.{inSteps}
+use Rattle.tolerance.specs.Meaning.{inSteps, alike}
 use Rattle.tolerance.specs.declared.Meaning.the-variants.{Exact}
 use Rattle.tolerance.proofs.Values.{Is, product, mul-is, above, below, whole-part, read-whole, read-other}
 use Rattle.tolerance.proofs.of_noise.Statement.{statement}
@@ -85,6 +85,9 @@ truncating-f64-to-u64-requires c κs =
 reduce-requires : tie.Need-reduce-requires
 reduce-requires c κs = search needs
 
+alike-requires : tie.Need-alike-requires
+alike-requires c κs = search needs
+
 enum-told-3 : tie.Need-enum-told-3
 enum-told-3 c = search needs
 
@@ -93,17 +96,18 @@ enum-told-4 c = search needs
 
 returns : tie.Need-returns
 returns c =
-    let at = c .before .before .before in
+    let reduced = c .before in
+    let at = reduced .before .before .before in
     let x = noise-of (at .before .before) in
     let y = multiple-of at in
     let a = steps-a (at .before .before) in
     let b = steps-b at in
     let hx = first (at .before .before) in
     let hy = second at in
-    let n = c .before .truncating-f64-to-u64 .result in
-    let e : n ≡ a * b = c .before .truncating-f64-to-u64 .ensures ∙ whole-part (mul binary64 (mul binary64 x y) scale) (a * b) (omega (arith, few x y a b (hx .1) (hx .2) (hy .1) (hy .2))) (number x y a b (hx .1) (hx .2) (hy .1) (hy .2)) in
+    let n = reduced .before .truncating-f64-to-u64 .result in
+    let e : n ≡ a * b = reduced .before .truncating-f64-to-u64 .ensures ∙ whole-part (mul binary64 (mul binary64 x y) scale) (a * b) (omega (arith, few x y a b (hx .1) (hx .2) (hy .1) (hy .2))) (number x y a b (hx .1) (hx .2) (hy .1) (hy .2)) in
     simp (hx .0, hy .0)
-    (ap Exact (c .reduce .ensures ∙ ap (λ (z : ℕ). lowest z 512) e ∙ lowest-same (a * b) 512 (num x * num y) (den x * den y) (lit< tt) (mul-pos (den-pos x) (den-pos y)) (same x y a b (hx .1) (hx .2) (hy .1) (hy .2))))
+    (ap Exact (c .alike .ensures ∙ ap alike (reduced .reduce .ensures ∙ ap (λ (z : ℕ). lowest z 512) e ∙ lowest-same (a * b) 512 (num x * num y) (den x * den y) (lit< tt) (mul-pos (den-pos x) (den-pos y)) (same x y a b (hx .1) (hx .2) (hy .1) (hy .2)))))
 
 returns-2 : tie.Need-returns-2
 returns-2 c =
@@ -125,6 +129,7 @@ of-noise-spec =
     enum-told-2
     truncating-f64-to-u64-requires
     reduce-requires
+    alike-requires
     enum-told-3
     enum-told-4
     returns

@@ -8,13 +8,13 @@ use Rattle.tolerances.proofs.hold_each.Statement.{statement}
 use Rattle.tolerances.proofs.hold_each.Tie as tie
 
 abbrev Inv-loop : tie.InvT-loop
-Inv-loop t list ps₀ qs₀ k₀ ps qs k = HoldingTo t k ps qs
+Inv-loop t list parts₀ k₀ parts k = HoldingTo t k parts
 
 abbrev μ-loop : tie.MeasureT-loop
-μ-loop t list ps₀ qs₀ k₀ ps qs k = t .count - k
+μ-loop t list parts₀ k₀ parts k = t .count - k
 
 loop-holds : tie.Need-loop-holds Inv-loop μ-loop
-loop-holds c = holding-none _ _ _ refl refl
+loop-holds c = holding-none _ _ refl
 
 mul-entry : tie.Need-mul-entry Inv-loop μ-loop
 mul-entry c = search needs
@@ -28,17 +28,8 @@ meaning-of-requires c κs = search needs
 enum-known-m : tie.Need-enum-known-m Inv-loop μ-loop
 enum-known-m c = search needs
 
-mul-ps : tie.Need-mul-ps Inv-loop μ-loop
-mul-ps c = search needs
-
-array-write-ps : tie.Need-array-write-ps Inv-loop μ-loop
-array-write-ps c = search needs
-
-mul-qs : tie.Need-mul-qs Inv-loop μ-loop
-mul-qs c = search needs
-
-array-write-qs : tie.Need-array-write-qs Inv-loop μ-loop
-array-write-qs c = search needs
+put-parts-requires : tie.Need-put-parts-requires Inv-loop μ-loop
+put-parts-requires c κs = omega (arith, c .before .before .before .before .before .before .if1 .taken, c .before .before .before .before .before .before .before .before .before .before .pre)
 
 enum-told : tie.Need-enum-told Inv-loop μ-loop
 enum-told c = search needs
@@ -53,7 +44,7 @@ loop-less : tie.Need-loop-less Inv-loop μ-loop
 loop-less c = search needs
 
 loop-again : tie.Need-loop-again Inv-loop μ-loop
-loop-again c = holding-more (c .before .before .before .before .before .before .before .loop .inv) (c .before .before .before .before .before .before .before .before .before .pre) (c .before .before .before .before .before .if1 .taken) (sym (c .before .before .before .meaning-of .ensures) ∙ c .before .m .given .1)
+loop-again c = holding-more (c .before .before .before .before .before .before .before .before .before .loop .inv) (c .before .before .before .before .before .before .before .before .before .before .before .pre) (c .before .before .before .before .before .before .before .if1 .taken) (sym (c .before .before .before .before .before .meaning-of .ensures) ∙ c .before .before .before .m .given .1) (c .put-parts .ensures)
 
 returns-2 : tie.Need-returns-2 Inv-loop μ-loop
 returns-2 c = holding-all (c .before .before .loop .inv) (omega (arith, c .if1 .left))
@@ -69,10 +60,7 @@ hold-each-spec =
     array-copy-out-entry
     meaning-of-requires
     enum-known-m
-    mul-ps
-    array-write-ps
-    mul-qs
-    array-write-qs
+    put-parts-requires
     enum-told
     returns
     add-k

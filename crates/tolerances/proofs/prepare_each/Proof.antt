@@ -10,7 +10,7 @@ check-held-requires : tie.Need-check-held-requires
 check-held-requires c κs = (fine-few _ (c .before .pre .0), c .before .pre .1)
 
 returns : tie.Need-returns
-returns c = several-prepared _ _ _ _ (c .before .before .before .before .pre .0) (c .before .before .before .hold-each .ensures) (c .before .before .check-held .ensures)
+returns c = several-prepared _ _ _ _ (c .before .before .before .pre .0) (c .before .before .hold-each .ensures) (c .before .check-held .ensures)
 
 pub prepare-each-spec : {M : Type 1} → statement M
 prepare-each-spec = tie.close (tie.spec hold-each-requires check-held-requires returns)

@@ -8,29 +8,45 @@ use Rattle.turns.proofs.turn.Tie as tie
 goes-on-requires : tie.Need-goes-on-requires
 goes-on-requires c κs = search needs
 
-mul-edge-from : tie.Need-mul-edge-from
-mul-edge-from c = search needs
+mul-aim-from : tie.Need-mul-aim-from
+mul-aim-from c = search needs
 
-element-copy-out-edge-from : tie.Need-element-copy-out-edge-from
-element-copy-out-edge-from c = search needs
+element-copy-out-aim-from : tie.Need-element-copy-out-aim-from
+element-copy-out-aim-from c = search needs
 
-mul-edge-from-2 : tie.Need-mul-edge-from-2
-mul-edge-from-2 c = search needs
+mul-aim-from-2 : tie.Need-mul-aim-from-2
+mul-aim-from-2 c = search needs
 
-element-copy-out-edge-from-2 : tie.Need-element-copy-out-edge-from-2
-element-copy-out-edge-from-2 c = search needs
+element-copy-out-aim-from-2 : tie.Need-element-copy-out-aim-from-2
+element-copy-out-aim-from-2 c = search needs
 
-edge-from-requires : tie.Need-edge-from-requires
-edge-from-requires c κs = let pre = c .before .before .before .before .before .before .before .before .before .before .before .pre in pre .steps .goes .ahead (uncut pre (sym (c .before .before .before .goes-on .ensures) ∙ c .before .before .if1 .taken))
+aim-from-requires : tie.Need-aim-from-requires
+aim-from-requires c κs =
+    let then = c .before .before in
+    let pre = then .before .before .before .before .before .before .before .before .before .pre in
+    (pre .steps .bounded, pre .steps .goes .ahead (uncut pre (sym (then .before .goes-on .ensures) ∙ then .if1 .taken)))
 
 raise-low-requires : tie.Need-raise-low-requires
-raise-low-requires c κs = let pre = c .before .before .before .before .before .before .before .before .before .before .before .before .before .before .pre in let q = uncut pre (sym (c .before .before .before .before .before .before .goes-on .ensures) ∙ c .before .before .before .before .before .if1 .taken) in (pre .few, pre .steps .goes .fits q .low-fits, tilt-as (c .before .before .edge-from .ensures) (turn-tilt pre q))
+raise-low-requires c κs =
+    let aim = c .before .before .before .before in
+    let then = aim .before .before .before in
+    let pre = then .before .before .before .before .before .before .before .before .before .pre in
+    let q = uncut pre (sym (then .before .goes-on .ensures) ∙ then .if1 .taken) in
+    (pre .few, pre .steps .goes .fits q .low-fits, tilt-as (aim .aim-from .ensures) (turn-tilt pre q) .up)
 
 lower-high-requires : tie.Need-lower-high-requires
-lower-high-requires c κs = let pre = c .before .before .before .before .before .before .before .before .before .before .before .before .before .before .before .before .before .pre in let q = uncut pre (sym (c .before .before .before .before .before .before .before .before .before .goes-on .ensures) ∙ c .before .before .before .before .before .before .before .before .if1 .taken) in (pre .few, pre .steps .goes .fits q .high-fits, tilt-as (c .before .before .before .before .before .edge-from .ensures) (turn-tilt pre q))
+lower-high-requires c κs =
+    let aim = c .before .before .before .before .before .before .before in
+    let then = aim .before .before .before in
+    let pre = then .before .before .before .before .before .before .before .before .before .pre in
+    let q = uncut pre (sym (then .before .goes-on .ensures) ∙ then .if1 .taken) in
+    (pre .few, pre .steps .goes .fits q .high-fits, tilt-as (aim .aim-from .ensures) (turn-tilt pre q) .down)
 
 returns : tie.Need-returns
-returns c = turned-further (c .before .before .before .before .before .before .before .before .before .before .before .before .before .before .before .before .before .before .pre) (sym (c .before .before .before .before .before .before .before .before .before .before .goes-on .ensures) ∙ c .before .before .before .before .before .before .before .before .before .if1 .taken) (c .before .before .before .before .before .before .edge-from .ensures) (c .before .before .before .raise-low .ensures) (c .lower-high .ensures)
+returns c =
+    let aim = c .before .before .before .before .before .before .before .before in
+    let then = aim .before .before .before in
+    turned-further (then .before .before .before .before .before .before .before .before .before .pre) (sym (then .before .goes-on .ensures) ∙ then .if1 .taken) (aim .aim-from .ensures) (c .before .before .before .raise-low .ensures) (c .lower-high .ensures)
 
 restart-requires : tie.Need-restart-requires
 restart-requires c κs = search needs
@@ -42,18 +58,20 @@ same-length : tie.Need-same-length
 same-length c = search needs
 
 returns-2 : tie.Need-returns-2
-returns-2 c = turned-anew (c .before .before .before .before .before .before .before .before .before .before .before .before .before .before .before .before .before .before .before .before .before .pre) (sym (c .before .before .before .before .before .before .before .before .before .before .before .before .before .goes-on .ensures) ∙ c .before .before .before .before .before .before .before .before .before .before .before .before .if1 .left) (c .before .before .before .before .before .restart .ensures) (c .before .before .keep .ensures)
+returns-2 c =
+    let left = c .before .before .before .before .before .before .before .before .before .before .before .before in
+    turned-anew (left .before .before .before .before .before .before .before .before .before .pre) (sym (left .before .goes-on .ensures) ∙ left .if1 .left) (c .before .before .before .before .before .restart .ensures) (c .before .before .keep .ensures)
 
 pub turn-spec : {M : Type 1} → statement M
 turn-spec =
     tie.close
     (tie.spec
     goes-on-requires
-    mul-edge-from
-    element-copy-out-edge-from
-    mul-edge-from-2
-    element-copy-out-edge-from-2
-    edge-from-requires
+    mul-aim-from
+    element-copy-out-aim-from
+    mul-aim-from-2
+    element-copy-out-aim-from-2
+    aim-from-requires
     raise-low-requires
     lower-high-requires
     returns

@@ -1,61 +1,55 @@
--- `writer::put_record` meets its contract: the rest is written over the part after the start. Assumes nothing.
-use mathlib.Core.Path.{_≡_, sym, ap, _∙_}
-use mathlib.Core.List.{List, _++_}
+-- `writer::put_record` meets its contract: the samples are written over the part after the tolerance. Assumes nothing.
+use mathlib.Core.Path.{refl, sym, ap, _∙_}
+use mathlib.Core.List.{List, []}
 use Prim.Native.Nat.{ℕ, _+_, _≤_}
 use native.Mathlib.Omega.{arith}
 use lib.ListN.{length}
+use borrow.Author.Needs.{needs}
 use Rattle.lists.specs.Overwrite.{overwrite}
 use Rattle.lists.proofs.PartLaws.{part-length, written-part}
-use Rattle.format.specs.Format.{encode}
-use Rattle.writer.specs.Writing.{keptTicks, keptValues, selected, startOf, restOf}
-use Rattle.writer.proofs.SelectedLaws.{list-some, sample-ok}
-use Rattle.writer.proofs.WritingLaws.{start-length, record-parts, record-length}
-use borrow.Author.Needs.{needs}
+use Rattle.format.specs.Command.{commandOnto}
+use Rattle.format.specs.Format.{toleranceCommand}
+use Rattle.format.proofs.CommandLaws.{command-length}
+use Rattle.writer.specs.Writing.{keptSamples}
+use Rattle.writer.proofs.WritingLaws.{record-parts, record-length, whole-length}
 use Rattle.writer.proofs.put_record.Statement.{statement}
 use Rattle.writer.proofs.put_record.Tie as tie
 
--- the record and its parts
-module _ (c : tie.After-sample-at) where
+-- the tolerance is written
+module _ (c : tie.After-put-tolerance) where
   abbrev s : tie.Start
-  s = c .before .before .before .before
+  s = c .before .before .before .before .before
 
-  abbrev rest : List ℕ
-  rest = restOf (keptTicks (s .args .ticks .now) (s .args .list .now)) (keptValues (s .args .values .now) (s .args .list .now)) 0
+  abbrev samples : List ℕ
+  samples = keptSamples (s .args .ticks .now) (s .args .values .now) (s .args .list .now)
 
-  parts : encode (selected (s .args .held) (s .args .ticks .now) (s .args .values .now) (s .args .list .now)) ≡ startOf (s .args .held) (c .sample-at .result) ++ rest
-  parts = record-parts (s .pre .0) (s .args .held) (c .sample-at .ensures)
+  room : c .put-tolerance .result + length samples ≤ length (c .put-tolerance .last .0)
+  room = omega (arith, record-length (s .args .held) (s .args .ticks .now) (s .args .values .now) (s .args .list .now), c .put-tolerance .ensures .1, c .put-tolerance .kept .0, s .pre .1)
 
-  room : 16 + length rest ≤ length (s .args .part .now)
-  room = omega (arith, record-length (s .pre .0) (s .args .held) (c .sample-at .ensures), s .pre .2)
+put-tolerance-requires : tie.Need-put-tolerance-requires
+put-tolerance-requires c κs =
+    let s = c .before .before .before .before in
+    omega (arith, record-length (s .args .held) (s .args .ticks .now) (s .args .values .now) (s .args .list .now), s .pre .1)
 
-sample-at-requires : tie.Need-sample-at-requires
-sample-at-requires c κs = let k = c .before .before .before .pre .0 in (k, list-some k)
+sub-put-samples : tie.Need-sub-put-samples
+sub-put-samples c = omega (arith, room (c .before .before))
 
-put-start-requires : tie.Need-put-start-requires
-put-start-requires c κs =
-    let a = c .before in
-    (omega (arith, room a), s a .pre .1, sample-ok (s a .pre .0) (λ k. omega (arith, a .before .before .shared-slice-known .given k)) (a .sample-at .ensures))
+part-put-samples-start : tie.Need-part-put-samples-start
+part-put-samples-start c = omega (arith, room (c .before .before))
 
-sub-put-steps : tie.Need-sub-put-steps
-sub-put-steps c = let p = c .before .before in omega (arith, room (p .before .before), p .put-start .kept .0)
+part-put-samples-end : tie.Need-part-put-samples-end
+part-put-samples-end c = search needs
 
-part-put-steps-start : tie.Need-part-put-steps-start
-part-put-steps-start c = let p = c .before .before in omega (arith, room (p .before .before), p .put-start .kept .0)
-
-part-put-steps-end : tie.Need-part-put-steps-end
-part-put-steps-end c = search needs
-
-put-steps-requires : tie.Need-put-steps-requires
-put-steps-requires c κs =
+put-samples-requires : tie.Need-put-samples-requires
+put-samples-requires c κs =
     let p = c .before .before .before in
-    let a = p .before .before in
-    (s a .pre .0, a .sample-at .ensures, rw (part-length (p .put-start .last .0) 16) (omega (arith, room a, p .put-start .kept .0)))
+    (s p .pre .0, rw (part-length (p .put-tolerance .last .0) (p .put-tolerance .result)) (omega (arith, room p)))
 
 add-result : tie.Need-add-result
 add-result c =
     let q = c .before .before in
-    let s = q .before .before .before .before .before .before .before .before .before .before in
-    omega (arith, q .put-steps .ensures .1 .is (s .args .held), s .pre .2, s .good .0 .0)
+    let p = q .before .before .before .before in
+    omega (arith, q .put-samples .ensures .1 .is, room p, p .put-tolerance .kept .0, s p .good .0 .0)
 
 same-length : tie.Need-same-length
 same-length c = search needs
@@ -64,23 +58,24 @@ returns : tie.Need-returns
 returns c =
     let q = c .before .before in
     let p = q .before .before .before .before in
-    let a = p .before .before in
-    let o = s a .args .part .now in (
-      written-part (p .put-start .last .0) o (startOf (s a .args .held) (a .sample-at .result)) (rest a) (q .put-steps .last .0) 16 (p .put-start .ensures) (start-length (s a .args .held) (a .sample-at .result)) (q .put-steps .ensures .0)
-          ∙ ap (λ (x : List ℕ). overwrite x o) (sym (parts a)),
-      q .put-steps .ensures .1,
+    let a = s p .args in
+    let o = a .part .now in
+    let m = toleranceCommand (a .held) in
+    let n = command-length m [] in (
+      written-part (p .put-tolerance .last .0) o (commandOnto m []) (samples p) (q .put-samples .last .0) (p .put-tolerance .result) (p .put-tolerance .ensures .0) (omega (arith, n, p .put-tolerance .ensures .1)) (q .put-samples .ensures .0)
+          ∙ ap (λ (x : List ℕ). overwrite x o) (sym (record-parts (a .held) (a .ticks .now) (a .values .now) (a .list .now))),
+      whole-length (a .held) (p .put-tolerance .ensures .1) (q .put-samples .ensures .1) refl,
     )
 
 pub put-record-spec : {M : Type 1} → statement M
 put-record-spec =
     tie.close
     (tie.spec
-    sample-at-requires
-    put-start-requires
-    sub-put-steps
-    part-put-steps-start
-    part-put-steps-end
-    put-steps-requires
+    put-tolerance-requires
+    sub-put-samples
+    part-put-samples-start
+    part-put-samples-end
+    put-samples-requires
     add-result
     same-length
     returns)

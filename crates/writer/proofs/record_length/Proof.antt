@@ -1,73 +1,22 @@
--- `writer::record_length` meets its contract: at each turn the bytes up to a kept sample are counted. Assumes nothing.
-use Prim.Native.Nat.{_-_}
-use native.Mathlib.Omega.{arith}
+-- `writer::record_length` meets its contract: it is that of the tolerance and of the samples. Assumes nothing.
+use mathlib.Core.Path.{refl}
+use Rattle.writer.proofs.WritingLaws.{whole-length}
 use borrow.Author.Needs.{needs}
-use Rattle.writer.proofs.SelectedLaws.{list-some, list-few}
-use Rattle.writer.proofs.WritingLaws.{Counted, count-begins, counts, count-ends}
 use Rattle.writer.proofs.record_length.Statement.{statement}
 use Rattle.writer.proofs.record_length.Tie as tie
 
-abbrev Inv-loop : tie.InvT-loop
-Inv-loop ticks values list n s₀ total₀ i₀ s total i = Counted ticks values list s total i
+tolerance-size-requires : tie.Need-tolerance-size-requires
+tolerance-size-requires c κs = search needs
 
-abbrev μ-loop : tie.MeasureT-loop
-μ-loop ticks values list n s₀ total₀ i₀ s total i = n - i
+samples-length-requires : tie.Need-samples-length-requires
+samples-length-requires c κs = search needs
 
-sample-at-requires : tie.Need-sample-at-requires Inv-loop μ-loop
-sample-at-requires c κs = let k = c .before .before .pre in (k, list-some k)
+add-result : tie.Need-add-result
+add-result c = search needs
 
-loop-holds : tie.Need-loop-holds Inv-loop μ-loop
-loop-holds c = count-begins (c .before .before .before .pre) (c .sample-at .ensures)
-
-add-loop : tie.Need-add-loop Inv-loop μ-loop
-add-loop c = omega (arith, c .loop .inv .within, list-few (c .before .before .before .before .pre))
-
-move-to-requires : tie.Need-move-to-requires Inv-loop μ-loop
-move-to-requires c κs = (c .before .before .before .before .before .pre, c .loop-test .taken, c .before .loop .inv .sample)
-
-size-requires : tie.Need-size-requires Inv-loop μ-loop
-size-requires c κs = search needs
-
-add-total : tie.Need-add-total Inv-loop μ-loop
-add-total c =
-    let l = c .before .before .before in
-    omega (arith, l .loop .inv .small, l .loop .inv .within, list-few (l .before .before .before .before .pre), c .size .ensures .1)
-
-add-i : tie.Need-add-i Inv-loop μ-loop
-add-i c =
-    let l = c .before .before .before .before in
-    omega (arith, l .loop .inv .within, list-few (l .before .before .before .before .pre))
-
-loop-less : tie.Need-loop-less Inv-loop μ-loop
-loop-less c = omega (arith, c .before .before .before .loop-test .taken)
-
-loop-again : tie.Need-loop-again Inv-loop μ-loop
-loop-again c =
-    let l = c .before .before .before .before in
-    counts (l .before .before .before .before .pre) (l .loop .inv) (c .before .before .before .loop-test .taken) (c .before .before .move-to .ensures) (c .before .size .ensures .0) (c .before .size .ensures .1)
-
-add-result : tie.Need-add-result Inv-loop μ-loop
-add-result c =
-    let l = c .before in
-    omega (arith, l .loop .inv .small, l .loop .inv .within, list-few (l .before .before .before .before .pre))
-
-returns : tie.Need-returns Inv-loop μ-loop
-returns c = count-ends (c .before .before .before .before .before .pre) (c .before .loop .inv) (c .loop-test .left)
+returns : tie.Need-returns
+returns c = whole-length (c .before .before .before .before .args .held) (c .before .tolerance-size .ensures .0) (c .samples-length .ensures .0) refl
 
 pub record-length-spec : {M : Type 1} → statement M
 record-length-spec =
-    tie.close
-    (tie.spec
-    Inv-loop
-    μ-loop
-    sample-at-requires
-    loop-holds
-    add-loop
-    move-to-requires
-    size-requires
-    add-total
-    add-i
-    loop-less
-    loop-again
-    add-result
-    returns)
+    tie.close (tie.spec tolerance-size-requires samples-length-requires add-result returns)

@@ -22,7 +22,7 @@ module _ (c : tie.After-record-length) where
   x = selected (s .args .held) (s .args .ticks .now) (s .args .values .now) (s .args .list .now)
 
   long : c .record-length .result ≡ length (encode x)
-  long = c .record-length .ensures .is (s .args .held)
+  long = c .record-length .ensures .is
 
   legal : Legal x
   legal = selected-legal (s .pre .0) (s .args .held) (s .pre .1) (λ k. omega (arith, c .before .before .before .shared-slice-known .given k)) (c .record-length .ensures .range)
@@ -51,7 +51,7 @@ part-put-record-end c = search needs
 put-record-requires : tie.Need-put-record-requires
 put-record-requires c κs =
     let a = c .before .before .before in
-    (s a .pre .0, s a .pre .1, simp part-length (omega (arith, long a, c .before .if2 .left)))
+    (s a .pre .0, simp part-length (omega (arith, long a, c .before .if2 .left)))
 
 same-length : tie.Need-same-length
 same-length c = search needs

@@ -4,7 +4,7 @@ use super::{done, fails, folder, path, run, shipped, told, WAVE};
 use std::fs;
 
 /// For the tolerance 8.
-const EIGHT: &str = "\
+pub const EIGHT: &str = "\
 greatest tolerance 8
 From the first kept sample to the last, at every tick, whole or fractional, \
 the straight lines between the samples kept at tolerance 8 differ by at most 8 ADC counts \

@@ -1,6 +1,7 @@
 //! Whether a record may stand for a trace, beside the slow reference.
 
 use super::measure::lies;
+use super::parts::form;
 use super::{done, fails, folder, path, run, shipped, told, WAVE};
 use kovrelna_reference::record::decode;
 use kovrelna_reference::{judge, Form, Invalid};
@@ -141,10 +142,18 @@ fn changed_traces() {
 #[test]
 fn damaged_records() {
     let folder = folder("check_damaged_records");
-    let (file, csv) = (folder.join("record"), shipped("examples/pulse.csv"));
-    let (file, trace) = (path(&file), pulse());
+    for tolerance in [&["-t8"][..], &["--above=4", "--below=16"]] {
+        damage(path(&folder.join("record")), tolerance);
+    }
+}
+
+/// The same of the record at this tolerance, in this file.
+fn damage(file: &str, tolerance: &[&str]) {
+    let csv = shipped("examples/pulse.csv");
+    let trace = pulse();
     let (ticks, values): (Vec<u32>, Vec<i16>) = trace.iter().copied().unzip();
-    recorded(file, &["-t8", "-mminimum", path(&csv)], "");
+    let options = ["-mminimum", path(&csv)];
+    recorded(file, &[tolerance, &options].concat(), "");
     let whole = fs::read(file).unwrap();
     let flipped = (0..8 * whole.len()).map(|bit| {
         let mut record = whole.clone();
@@ -175,7 +184,7 @@ fn damaged_records() {
             .iter()
             .map(|sample| Some(trace.iter().position(|other| other == sample)? as u16))
             .collect();
-        let form = Form::Ratio(content.tolerance.p as u64, content.tolerance.q as u64);
+        let form = form(content.tolerance);
         let passes = list.is_some_and(|list| judge(&ticks, &values, &list, form) == Ok(None));
         let expected = if passes { (0, "yes\n") } else { (1, "no: ") };
         assert_eq!((status, &printed[..4]), expected, "{printed}");

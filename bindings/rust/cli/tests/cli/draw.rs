@@ -8,7 +8,7 @@ use kovrelna_reference::{Form, Fraction, Limits, Method};
 use std::fs;
 
 /// The picture that the tool draws.
-fn drawn(arguments: &[&str], input: impl AsRef<[u8]>) -> String {
+pub fn drawn(arguments: &[&str], input: impl AsRef<[u8]>) -> String {
     String::from_utf8(done(arguments, input)).unwrap()
 }
 

@@ -8,6 +8,7 @@
 //! - `measure`: how far a link strays, and where.
 //! - `names`: names of files that are not UTF-8.
 //! - `near`: how near lists are to the shortest.
+//! - `parts`: tolerances with a part above and a part below.
 //! - `pedestals`: two runs of a crate.
 //! - `probes`: gallop's probes.
 //! - `report`: the sheet of a crate.
@@ -25,6 +26,7 @@ mod gap;
 mod measure;
 mod names;
 mod near;
+mod parts;
 mod pedestals;
 mod probes;
 mod report;

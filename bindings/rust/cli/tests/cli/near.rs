@@ -12,7 +12,7 @@ fn as_the_reference() {
             let reduced = reduce(method, ticks, values, limits, ticks.len());
             reduced.unwrap().list.len()
         };
-        let half = fewest(ticks, values, limits.held().unwrap().half());
+        let half = fewest(ticks, values, limits.held().unwrap().shared(1, 2));
         let [walk, gallop, minimum] = METHODS.map(kept);
         vec![ticks.len(), walk, gallop, minimum, half]
     });

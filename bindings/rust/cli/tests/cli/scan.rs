@@ -78,7 +78,7 @@ fn as_records() {
 }
 
 /// The fields of CSV, but for the file.
-fn fields(csv: &str) -> Vec<Vec<String>> {
+pub fn fields(csv: &str) -> Vec<Vec<String>> {
     let lines = csv.lines().skip(1);
     let fields = lines.map(|line| line.split(',').map(String::from).collect());
     fields.collect()
@@ -130,7 +130,7 @@ fn as_the_reference() {
                 gap: Some(gap),
             };
             let kept = reduce(Method::Walk, ticks, values, limits, samples).unwrap();
-            let bound = fewest(ticks, values, limits.held().unwrap().half());
+            let bound = fewest(ticks, values, limits.held().unwrap().shared(1, 2));
             let expected = [samples, kept.list.len(), bound].map(|number| number.to_string());
             let found = [&row[2], &row[3], &row[5]];
             assert_eq!(found, expected.each_ref(), "{p}/{q} {gap} {trace:?}");

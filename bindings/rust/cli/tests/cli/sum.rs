@@ -12,7 +12,7 @@ use std::path::Path;
 use std::process::Command;
 
 /// The trace with these values and ticks from 0 on.
-fn even(values: &[i16]) -> String {
+pub fn even(values: &[i16]) -> String {
     let samples = values.iter().enumerate();
     samples
         .map(|(tick, value)| format!("{tick},{value}\n"))
@@ -20,7 +20,7 @@ fn even(values: &[i16]) -> String {
 }
 
 /// What the tool prints of traces `a` and `b` in this folder. It says nothing else.
-fn summed(folder: &Path, options: &[&str]) -> String {
+pub fn summed(folder: &Path, options: &[&str]) -> String {
     let output = run_in(folder, &[&["sum"], options, &["a", "b"]].concat());
     let (status, printed, error) = told(&output);
     assert_eq!((status, &error[..]), (0, ""), "{options:?}");
@@ -37,7 +37,7 @@ fn fails_in(folder: &Path, options: &[&str], message: &str) {
 }
 
 /// What it prints.
-fn lines(samples: usize, kept: [usize; 3], tolerance: &str, error: &str) -> String {
+pub fn lines(samples: usize, kept: [usize; 3], tolerance: &str, error: &str) -> String {
     let [kept, one, other] = kept;
     format!(
         "samples {samples}\nkept {kept}, joined from {one} and {other}\n\
@@ -46,7 +46,7 @@ fn lines(samples: usize, kept: [usize; 3], tolerance: &str, error: &str) -> Stri
 }
 
 /// What a record's text is.
-fn shown(folder: &Path, record: &str) -> String {
+pub fn shown(folder: &Path, record: &str) -> String {
     let output = run_in(folder, &["show", record]);
     assert_eq!(told(&output).0, 0);
     told(&output).1
@@ -665,7 +665,7 @@ fn as_the_reference() {
         let expected = lines(samples, kept, &printed(bound), &printed(error));
         assert_eq!(summed(&folder, &options), expected, "{options:?}");
         let record = decode(&fs::read(folder.join("record")).unwrap()).unwrap();
-        assert_eq!(record.tolerance, bound);
+        assert_eq!(record.tolerance, bound.into());
         let sample = |&k: &u16| (ticks[usize::from(k)], values[usize::from(k)]);
         assert_eq!(record.samples, list.iter().map(sample).collect::<Vec<_>>());
         let ticks = ticks.clone();

@@ -1,6 +1,7 @@
 -- `closest::search::approach` meets its contract: the loop has an interval below `from`. Assumes nothing.
 use Prim.Native.Nat.{_-_}
 use native.Mathlib.Omega.{arith}
+use Rattle.trace.proofs.Errors.{both-bounded}
 use Rattle.closest.specs.Closest.{Narrowed}
 use Rattle.closest.proofs.ClosestLaws.{narrowed-none, narrowed-more}
 use borrow.Author.Needs.{needs}
@@ -14,7 +15,7 @@ abbrev μ-loop : tie.MeasureT-loop
 μ-loop ticks values gap m low₀ high₀ turn₀ low high turn = 24 - turn
 
 loop-holds : tie.Need-loop-holds Inv-loop μ-loop
-loop-holds c = narrowed-none (record { positive = omega arith; q-bound = omega arith; p-bound = omega arith }) (c .before .pre .1)
+loop-holds c = narrowed-none (both-bounded (record { positive = omega arith; q-bound = omega arith; p-bound = omega arith })) (c .before .pre .1)
 
 narrow-requires : tie.Need-narrow-requires Inv-loop μ-loop
 narrow-requires c κs = let n = c .before .loop .inv in (n .low, n .reached .allowed)

@@ -1,10 +1,9 @@
 -- `engine::scan::scan` meets its contract. Assumes nothing.
 use mathlib.Core.Path.{_≡_, refl, sym, _∙_}
-use native.Mathlib.Omega.{arith}
 use lib.ListN.{length}
 use Rattle.refusal.specs.declared.Checked.the-variants.{Fine}
 use Rattle.tolerances.specs.Tolerances.{scanRows, ScanReady}
-use Rattle.engine.proofs.ScanLaws.{firsts, scan-given, scan-kept}
+use Rattle.engine.proofs.ScanLaws.{scan-given, scan-kept}
 use Rattle.scans.proofs.PassLaws.{zeros}
 use borrow.Author.Needs.{needs}
 use Rattle.engine.proofs.scan.scan.Statement.{statement}
@@ -21,23 +20,11 @@ rows : (c : tie.After-enum-told) → let a = c .before .before .before .before .
 rows c = sym (c .before .before .prepare .ensures .is) ∙ c .enum-told .given .1
 
 ready : (c : tie.After-enum-told) → let a = c .before .before .before .before .before .args in
-    ScanReady (a .ticks .now) (a .values .now) (a .t) (a .gap) (length (a .out .now)) (c .before .before .prepare .result .ps) (c .before .before .prepare .result .qs)
+    ScanReady (a .ticks .now) (a .values .now) (a .t) (a .gap) (length (a .out .now)) (c .before .before .prepare .result .parts)
 ready c = c .before .before .prepare .ensures .ready (rows c)
 
-array-share-prefix-ps : tie.Need-array-share-prefix-ps
-array-share-prefix-ps c = let r = ready (c .before .before) .several in omega (arith, r .few, r .each .ps-size)
-
-slice-aggregate-scan : tie.Need-slice-aggregate-scan
-slice-aggregate-scan c = let k = c .before .before .before in let r = ready k in firsts (k .before .before .before .before .before .args .out .now) r (k .before .before .prepare .result .ps) (r .several .each .ps-size)
-
-array-share-prefix-qs : tie.Need-array-share-prefix-qs
-array-share-prefix-qs c = let r = ready (c .before .before .before) .several in omega (arith, r .few, r .each .qs-size)
-
-slice-aggregate-scan-2 : tie.Need-slice-aggregate-scan-2
-slice-aggregate-scan-2 c = let k = c .before .before .before .before in let r = ready k in firsts (k .before .before .before .before .before .args .out .now) r (k .before .before .prepare .result .qs) (r .several .each .qs-size)
-
 scan-requires : tie.Need-scan-requires
-scan-requires c κs = scan-given _ (ready (c .before .before .before .before .before))
+scan-requires c κs = scan-given _ (ready (c .before .before .before))
 
 enum-known-checked : tie.Need-enum-known-checked
 enum-known-checked c = search needs
@@ -46,23 +33,13 @@ same-length : tie.Need-same-length
 same-length c = search needs
 
 returns : tie.Need-returns
-returns c = let k = c .before .before .before .before .before .before .before .before .before in scan-kept _ (ready k) (rows k) (c .before .before .before .scan .ensures)
+returns c =
+    let n = c .before .before .before in
+    let k = n .before .before .before .before in
+    scan-kept _ (ready k) (rows k) (n .scan .ensures)
 
 returns-2 : tie.Need-returns-2
 returns-2 c = (sym (c .before .before .before .prepare .ensures .is) ∙ c .before .checked .given .1, zeros 16, refl)
 
 pub scan-spec : {M : Type 1} → statement M
-scan-spec =
-    tie.close
-    (tie.spec
-    prepare-requires
-    enum-told
-    array-share-prefix-ps
-    slice-aggregate-scan
-    array-share-prefix-qs
-    slice-aggregate-scan-2
-    scan-requires
-    enum-known-checked
-    same-length
-    returns
-    returns-2)
+scan-spec = tie.close (tie.spec prepare-requires enum-told scan-requires enum-known-checked same-length returns returns-2)

@@ -4,8 +4,8 @@ use native.Mathlib.Omega.{arith}
 use Rattle.writer.specs.declared.Answer as W
 use Rattle.writer.specs.Writing.{selected}
 use Rattle.writer.specs.Writing as Writing
-use Rattle.trace.specs.Link.{ratioOf}
-use Rattle.engine.proofs.JudgeLaws.{invalid-bound}
+use Rattle.limits.specs.Prepare.{partsOf}
+use Rattle.judging.proofs.JudgeLaws.{invalid-bound}
 use Rattle.engine.proofs.WriteLaws.{kept-at, link-declines, recorded, declined}
 use borrow.Author.Needs.{needs}
 use Rattle.engine.proofs.write.write_list.Statement.{statement}
@@ -25,7 +25,7 @@ returns c =
     (link-declines (s .pre) (s .args .buffer .now) (s .args .place) (c .before .first-invalid .ensures) (omega (arith, c .if1 .taken)), refl)
 
 write-requires : tie.Need-write-requires
-write-requires c κs = kept-at (c .before .before .before .before .before .before .pre)
+write-requires c κs = kept-at (c .before .before .before .before .before .before .before .before .pre)
 
 enum-known-a : tie.Need-enum-known-a
 enum-known-a c = search needs
@@ -39,10 +39,10 @@ same-length c = search needs
 returns-2 : tie.Need-returns-2
 returns-2 c =
     let w = c .before .before .before .before .before in
-    let e = w .before .before in
+    let e = w .before .before .before .before in
     let s = e .before .before .before .before .before in
     recorded (s .pre) (s .args .buffer .now) (s .args .place) (e .before .first-invalid .ensures) (omega (arith, e .if1 .left))
-    (subst (λ (y : W.Answer). Writing.ContentWritten (selected (ratioOf (s .args .c)) (s .args .ticks .now) (s .args .values .now) (s .args .list .now)) (s .args .buffer .now) (s .args .place) y (w .write .last .1 .1 .1 .1 .0))
+    (subst (λ (y : W.Answer). Writing.ContentWritten (selected (partsOf (s .args .c)) (s .args .ticks .now) (s .args .values .now) (s .args .list .now)) (s .args .buffer .now) (s .args .place) y (w .write .last .1 .1 .1 .1 .0))
     (c .before .a .given .1) (w .write .ensures))
 
 same-length-2 : tie.Need-same-length-2
@@ -51,10 +51,10 @@ same-length-2 c = search needs
 returns-3 : tie.Need-returns-3
 returns-3 c =
     let w = c .before .before .before .before .before in
-    let e = w .before .before in
+    let e = w .before .before .before .before in
     let s = e .before .before .before .before .before in
     declined (s .pre) (s .args .buffer .now) (s .args .place) (e .before .first-invalid .ensures) (omega (arith, e .if1 .left))
-    (subst (λ (y : W.Answer). Writing.ContentWritten (selected (ratioOf (s .args .c)) (s .args .ticks .now) (s .args .values .now) (s .args .list .now)) (s .args .buffer .now) (s .args .place) y (w .write .last .1 .1 .1 .1 .0))
+    (subst (λ (y : W.Answer). Writing.ContentWritten (selected (partsOf (s .args .c)) (s .args .ticks .now) (s .args .values .now) (s .args .list .now)) (s .args .buffer .now) (s .args .place) y (w .write .last .1 .1 .1 .1 .0))
     (c .before .a2 .given .1) (w .write .ensures))
 
 pub write-list-spec : {M : Type 1} → statement M

@@ -11,24 +11,24 @@ use Rattle.scans.proofs.passes.scan.Statement.{statement}
 use Rattle.scans.proofs.passes.scan.Tie as tie
 
 abbrev Inv-loop : tie.InvT-loop
-Inv-loop ticks values ps qs gap out₀ n last starts₀ bases₀ lows₀ lowruns₀ highs₀ highruns₀ places₀ here₀ hole₀ at₀ out starts bases lows lowruns highs highruns places here hole at =
-    Scanning ticks values ps qs gap out₀ at here hole (numbers starts bases lows lowruns highs highruns places) out
+Inv-loop ticks values m parts gap out₀ n last starts₀ levels₀ lows₀ lowruns₀ highs₀ highruns₀ places₀ here₀ hole₀ at₀ out starts levels lows lowruns highs highruns places here hole at =
+    Scanning ticks values m parts gap out₀ at here hole (numbers starts levels lows lowruns highs highruns places) out
 
 abbrev μ-loop : tie.MeasureT-loop
-μ-loop ticks values ps qs gap out₀ n last starts₀ bases₀ lows₀ lowruns₀ highs₀ highruns₀ places₀ here₀ hole₀ at₀ out starts bases lows lowruns highs highruns places here hole at =
+μ-loop ticks values m parts gap out₀ n last starts₀ levels₀ lows₀ lowruns₀ highs₀ highruns₀ places₀ here₀ hole₀ at₀ out starts levels lows lowruns highs highruns places here hole at =
     last - at
 
 sub-last : tie.Need-sub-last Inv-loop μ-loop
 sub-last c = search needs
 
 part-starts-requires : tie.Need-part-starts-requires Inv-loop μ-loop
-part-starts-requires c κs = (c .before .before .before .before .pre .ratios .few, c .before .before .before .before .pre .trace .few)
+part-starts-requires c κs = (c .before .before .pre .ratios .few, c .before .before .pre .trace .few)
 
 sample-at-requires : tie.Need-sample-at-requires Inv-loop μ-loop
-sample-at-requires c κs = let t = c .before .before .before .before .before .before .pre .trace in (omega (arith, t .some), omega (arith, t .some, t .same))
+sample-at-requires c κs = let t = c .before .before .before .before .pre .trace in (omega (arith, t .some), omega (arith, t .some, t .same))
 
 loop-holds : tie.Need-loop-holds Inv-loop μ-loop
-loop-holds c = let k = c .before .before .part-starts .ensures in scan-first (c .before .before .before .before .before .before .before .pre) (c .sample-at .ensures) (record { starts = refl; bases = refl; low-climbs = refl; low-runs = refl; high-climbs = refl; high-runs = refl; places = k .sized }) k
+loop-holds c = let k = c .before .before .part-starts .ensures in scan-first (c .before .before .before .before .before .pre) (c .sample-at .ensures) (record { starts = refl; levels = refl; low-climbs = refl; low-runs = refl; high-climbs = refl; high-runs = refl; places = k .sized }) k
 
 add-next : tie.Need-add-next Inv-loop μ-loop
 add-next c = search needs

@@ -21,12 +21,12 @@ start-at-requires : tie.Need-start-at-requires
 start-at-requires c κs =
     let s = c .before .before .before .before in
     let h = entry-inside (s .pre .0) (s .args .i) (s .pre .1) in
-    (omega (arith, c .wide .ensures), omega (arith, c .wide .ensures, s .pre .0 .trace .same), omega arith)
+    (omega (arith, c .wide .ensures), omega (arith, c .wide .ensures, s .pre .0 .trace .same))
 
 returns : tie.Need-returns
 returns c =
     let s = c .before .before .before .before .before in
-    sample-is (s .pre .0) (s .args .i) (s .pre .1) (subst (λ (k : ℕ). StartAt (s .args .ticks .now) (s .args .values .now) 1 k (c .start-at .result)) (c .before .wide .ensures) (c .start-at .ensures))
+    sample-is (s .pre .0) (s .args .i) (s .pre .1) (subst (λ (k : ℕ). StartAt (s .args .ticks .now) (s .args .values .now) k (c .start-at .result)) (c .before .wide .ensures) (c .start-at .ensures))
 
 pub sample-at-spec : {M : Type 1} → statement M
 sample-at-spec =

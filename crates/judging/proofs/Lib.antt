@@ -1,0 +1,3 @@
+-- The laws of the crate `judging`.
+pub mod MeasureLaws
+pub mod JudgeLaws

@@ -1,0 +1,3 @@
+-- The definitions of the crate `judging`.
+pub mod Measure
+pub mod Judge
