@@ -1,1 +1,1 @@
-// The figures of document 01 as theorems over the definitions: proofs/Figures.antt holds them all, and there is no code.
+// The figures of documents 01 and 02 as theorems over the definitions: they are in proofs/, and there is no code.
