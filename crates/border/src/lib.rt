@@ -1,6 +1,6 @@
 // The border of the C interface: its structs, and the converters between them and the enums of `engine` and of the products above it.
 ghost use mathlib.Core.Path.{_≡_};
-ghost use Rattle.border.specs.Border.{toleranceOf, limitsOf, entryOf, tolerancesOf, heldOf, sideNumber, measuredOf, judgedOf, keptOf, checkedOf, begunOf, steppedOf, scannedOf, gallopedOf, closestOf, writtenOf, readOf, comparedOf, reportOf, listedOf};
+ghost use Rattle.border.specs.Border.{toleranceOf, limitsOf, entryOf, tolerancesOf, heldOf, sideNumber, measuredOf, judgedOf, judgedGreedyOf, keptOf, checkedOf, begunOf, steppedOf, scannedOf, gallopedOf, closestOf, writtenOf, readOf, comparedOf, reportOf, listedOf};
 use live::View;
 use live::Viewed;
 use sheet::Sheet;
@@ -64,6 +64,16 @@ pub struct Judged {
     pub q: u64,
     pub sample: u64,
     pub side: u32,
+}
+
+// A verdict of judge's second question under the number 0, with the first position at fault and the fault's number if the list is not passed; or
+// a refusal's number and value.
+#[repr(C)]
+pub struct JudgedGreedy {
+    pub number: u32,
+    pub passed: u32,
+    pub value: u64,
+    pub fault: u32,
 }
 
 // A verdict on two records under the number 0, or a refusal's number and value.
@@ -318,6 +328,37 @@ pub fn judged_of(v: judging::Verdict) -> Judged
             q: 0,
             sample: 0,
             side: 0,
+        },
+    }
+}
+
+pub fn judged_greedy_of(v: greedy::GreedyVerdict) -> JudgedGreedy
+    ensures { λ r. ⌜ r ≡ judgedGreedyOf v ⌝ }
+{
+    match v {
+        greedy::GreedyVerdict::Yes => JudgedGreedy {
+            number: 0,
+            passed: 1,
+            value: 0,
+            fault: 0,
+        },
+        greedy::GreedyVerdict::Link(k) => JudgedGreedy {
+            number: 0,
+            passed: 0,
+            value: k as u64,
+            fault: 1,
+        },
+        greedy::GreedyVerdict::Stop(k) => JudgedGreedy {
+            number: 0,
+            passed: 0,
+            value: k as u64,
+            fault: 2,
+        },
+        greedy::GreedyVerdict::Refused(x) => JudgedGreedy {
+            number: refusal::number(x),
+            passed: 0,
+            value: refusal::returned(x) as u64,
+            fault: 0,
         },
     }
 }

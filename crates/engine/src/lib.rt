@@ -47,6 +47,7 @@ pub mod expand_with;
 pub mod gallop;
 pub mod hold;
 pub mod judge;
+pub mod judge_greedy;
 pub mod least;
 pub mod measure;
 pub mod minimum;

@@ -1,12 +1,12 @@
--- `probing::taken_to` meets its contract. The loop's invariant: every sample before k has been taken in. Assumes nothing.
+-- `outgoing::taken_to` meets its contract. The loop's invariant: every sample before k has been taken in. Assumes nothing.
 use Prim.Native.Nat.{_-_, _≤_}
 use mathlib.Core.Path.{_≡_}
 use native.Mathlib.Omega.{arith}
 use borrow.Author.Needs.{needs}
 use Rattle.outgoing.specs.Outgoing.{TakenIn}
 use Rattle.outgoing.proofs.OutgoingLaws.{next-at, taken-at}
-use Rattle.probing.proofs.taken_to.Statement.{statement}
-use Rattle.probing.proofs.taken_to.Tie as tie
+use Rattle.outgoing.proofs.taken_to.Statement.{statement}
+use Rattle.outgoing.proofs.taken_to.Tie as tie
 
 abbrev Inv-loop : tie.InvT-loop
 Inv-loop ticks values c a b l₀ k₀ l k = TakenIn ticks values c (l₀ .from .sample) k l × (a ≤ k) × (k ≤ b)

@@ -1,0 +1,136 @@
+// Judge's second question (document 02, "Lists from other labs"): whether a proposed list is greedy, each of its links valid and each stop but
+// the last sample followed by an invalid link from the same start to the next sample. One pass over the trace: the cone of each link tests its
+// end and the sample after it.
+ghost use mathlib.Core.Path.{_≡_};
+ghost use Prim.Native.Nat.{_+_, _-_, _<_};
+ghost use lib.ListN.{length};
+ghost use Rattle.kept.specs.Kept.{KeptList};
+ghost use Rattle.trace.specs.Trace.{Trace};
+ghost use Rattle.trace.specs.Link.{Linked, Bounded, linksEnd};
+ghost use Rattle.outgoing.specs.Outgoing.{TakenIn};
+ghost use Rattle.greedy.specs.Greedy.{further, testOf, listGreedy, greedyAt, JudgeGreedyOutcome};
+use limits::Limits;
+use limits::Ready;
+use limits::prepare;
+use outgoing::Links;
+use outgoing::links_past;
+use outgoing::reaches;
+use outgoing::taken;
+use outgoing::taken_to;
+use proposed::ends_at;
+use refusal::Checked;
+use refusal::Refusal;
+use trace::Criterion;
+use trace::gaps::links_end;
+
+// What `judge_greedy` answers: the list is greedy; or not, with the first position at fault, where the link is invalid, or where the link is
+// valid and its stop is followed by a valid link; or a refusal.
+pub enum GreedyVerdict {
+    Yes,
+    Link(usize),
+    Stop(usize),
+    Refused(Refusal),
+}
+
+// What the cone of a link says: the link is valid; and so is the one from the same start to the sample after its end.
+pub struct Tested {
+    pub valid: bool,
+    pub further: bool,
+}
+
+// Whether the link to the sample after j is valid, with the samples up to j taken in.
+fn reaches_further(ticks: &[u32], values: &[i16], c: Criterion, links: Links, j: usize) -> bool
+    requires { ⌜ Linked (now ticks) (now values) (links .from .sample) j × Bounded c × TakenIn (now ticks) (now values) c (links .from .sample) (j + 1) links ⌝ }
+    ensures { λ r. ⌜ r ≡ further (now (ticks .entry)) (now (values .entry)) c (links .from .sample) j ⌝ }
+{
+    if links.limit <= j {
+        return false;
+    }
+    reaches(ticks, values, c, links, j + 1)
+}
+
+// The test of the link i to j and of the one to the sample after j. Links past `limit` do not obey the gap limit.
+fn test(ticks: &[u32], values: &[i16], c: Criterion, i: usize, j: usize, limit: usize) -> Tested
+    requires { ⌜ Linked (now ticks) (now values) i j × Bounded c × (limit ≡ linksEnd (now ticks) (c .gap) i) ⌝ }
+    ensures { λ r. ⌜ r ≡ testOf (now (ticks .entry)) (now (values .entry)) c i j ⌝ }
+{
+    let invalid = Tested {
+        valid: false,
+        further: false,
+    };
+    if limit < j {
+        return invalid;
+    }
+    let next = links_past(ticks, values, c, i, limit);
+    if j == i + 1 {
+        return Tested {
+            valid: true,
+            further: reaches_further(ticks, values, c, next, j),
+        };
+    }
+    let links = taken_to(ticks, values, c, next, i + 2, j);
+    if !reaches(ticks, values, c, links, j) {
+        return invalid;
+    }
+    let through = taken(ticks, values, c, links, j);
+    Tested {
+        valid: true,
+        further: reaches_further(ticks, values, c, through, j),
+    }
+}
+
+// The last sample to which links from sample i obey the gap limit; `limit` is that already if it lies beyond i.
+fn limit_from(ticks: &[u32], values: &[i16], gap: u32, i: usize, limit: usize) -> usize
+    requires { ⌜ Trace (now ticks) (now values) × (i + 1 < length (now ticks)) × (i < limit → limit ≡ linksEnd (now ticks) gap i) ⌝ }
+    ensures { λ r. ⌜ r ≡ linksEnd (now (ticks .entry)) gap i ⌝ }
+{
+    if i < limit {
+        return limit;
+    }
+    links_end(ticks, values, gap, i)
+}
+
+// The verdict on a kept list.
+fn verdict(ticks: &[u32], values: &[i16], list: &[u16], c: Criterion) -> GreedyVerdict
+    requires { ⌜ Trace (now ticks) (now values) × Bounded c × KeptList (length (now ticks) - 1) (now list) ⌝ }
+    ensures { λ r. ⌜ r ≡ listGreedy (now (ticks .entry)) (now (values .entry)) (now (list .entry)) c ⌝ }
+{
+    let mut limit = 0;
+    let mut k = 0;
+    while k + 1 < list.len() {
+        let link = ends_at(list, k);
+        limit = limit_from(ticks, values, c.gap, link.from, limit);
+        let tested = test(ticks, values, c, link.from, link.to, limit);
+        if !tested.valid {
+            return GreedyVerdict::Link(k);
+        }
+        if tested.further {
+            return GreedyVerdict::Stop(k);
+        }
+        k += 1;
+    }
+    GreedyVerdict::Yes
+}
+
+// The answer where the checks 1 to 4 and 15 pass.
+fn judge_at(ticks: &[u32], values: &[i16], list: &[u16], c: Criterion) -> GreedyVerdict
+    requires { ⌜ Trace (now ticks) (now values) × Bounded c ⌝ }
+    ensures { λ r. ⌜ r ≡ greedyAt (now (ticks .entry)) (now (values .entry)) (now (list .entry)) c ⌝ }
+{
+    let checked = proposed::check(list, ticks.len());
+    match checked {
+        Checked::Fine => verdict(ticks, values, list, c),
+        Checked::Refused(x) => GreedyVerdict::Refused(x),
+    }
+}
+
+// Whether the list is greedy; if not, the first position at fault, and which fault.
+pub fn judge_greedy(ticks: &[u32], values: &[i16], list: &[u16], t: Limits) -> GreedyVerdict
+    ensures { λ r. ⌜ JudgeGreedyOutcome (now (ticks .entry)) (now (values .entry)) (now (list .entry)) t r ⌝ }
+{
+    let ready = prepare(ticks, values, t);
+    match ready {
+        Ready::At(c) => judge_at(ticks, values, list, c),
+        Ready::Refused(x) => GreedyVerdict::Refused(x),
+    }
+}
