@@ -3,7 +3,7 @@
 -- Assumes nothing.
 use mathlib.Core.Path.{_≡_, refl, sym, subst, ap, _∙_}
 use mathlib.Core.Logic.{_↔_}
-use mathlib.Core.Bool.{Bool, true, false, not, _||_}
+use mathlib.Core.Bool.{Bool, true, false, not}
 use mathlib.Core.List.{List}
 use Prim.Native.Nat.{ℕ, suc, _+_, _-_, _≤_, _<_}
 use native.Mathlib.Decide.{decLe, decLt}
@@ -12,13 +12,13 @@ use lib.Dec.{ltb}
 use lib.IntN.{ℤ}
 use lib.ListN.{length}
 use borrow.Author.Tests.{le-leb, lt-leb, lt-ltb, le-ltb, ltb-true, not-false}
-use Rattle.lists.proofs.Tests.{by-test, and-first, and-second, or-first, or-second, or-false, is-false, true-false}
+use Rattle.lists.proofs.Tests.{by-test, and-first, and-second, or-false}
 use Rattle.lists.proofs.FirstLaws.{Searching, searching-more, searched-at, searched-none, first-found, first-none}
 use Rattle.refusal.specs.declared.Refusal.{Refusal}
 use Rattle.refusal.specs.declared.Checked.{Checked}
 use Rattle.refusal.specs.declared.Checked.the-variants.{Fine, Refused}
 use Rattle.refusal.proofs.TableLaws.{then-fine}
-use Rattle.kept.specs.Kept.{KeptList, EachLink, Greedy, GreedyStop}
+use Rattle.kept.specs.Kept.{KeptList, Greedy}
 use Rattle.kept.proofs.KeptLaws.{links-at, links-of, kept-links}
 use Rattle.limits.specs.declared.Limits.{Limits}
 use Rattle.limits.specs.Prepare.{commonRows, criterionOf}
@@ -230,7 +230,7 @@ module _ (ts : List ℕ) (vs : List ℤ) (l : List ℕ) where
 
   module _ (t : Limits) where
     -- the verdict behind an answer that is no refusal
-    answered : {w : GreedyVerdict} → judgeGreedyOf ts vs l t ≡ w → ((r : Refusal) → w ≡ Declined r → ⊥) → (judgeRows ts vs l t ≡ Fine) × (listGreedy ts vs l (criterionOf t) ≡ w)
+    pub answered : {w : GreedyVerdict} → judgeGreedyOf ts vs l t ≡ w → ((r : Refusal) → w ≡ Declined r → ⊥) → (judgeRows ts vs l t ≡ Fine) × (listGreedy ts vs l (criterionOf t) ≡ w)
     unfolding judgeGreedyOf
     answered e given = decline-only (judgeRows ts vs l t) e given
 

@@ -5,7 +5,6 @@ ghost use lib.ListN.{length};
 ghost use Rattle.kept.specs.Gallop.{found, doubling, bisection, gallopSearch};
 ghost use Rattle.trace.specs.Trace.{Trace};
 ghost use Rattle.trace.specs.Link.{Bounded, valid, linksEnd};
-ghost use Rattle.outgoing.specs.Outgoing.{TakenIn, Next};
 ghost use Rattle.probing.specs.Probing.{probeAt, Yes, Probes, AfterProbe};
 use kept::Search;
 use outgoing::Links;

@@ -1,7 +1,7 @@
 -- `greedy::verdict` meets its contract. The loop's invariant: no link before position k is at fault, and `limit` is where links from that position's sample
 -- end, if it lies beyond. Assumes nothing.
-use mathlib.Core.Path.{_≡_, sym, _∙_}
-use Prim.Native.Nat.{suc, _+_, _-_, _<_}
+use mathlib.Core.Path.{_≡_, _∙_}
+use Prim.Native.Nat.{suc, _-_, _<_}
 use native.Mathlib.Numerals.{add-one}
 use native.Mathlib.Omega.{arith}
 use lib.ListN.{length}
