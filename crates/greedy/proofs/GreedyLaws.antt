@@ -7,6 +7,7 @@ use mathlib.Core.Bool.{Bool, true, false, not}
 use mathlib.Core.List.{List}
 use Prim.Native.Nat.{ℕ, suc, _+_, _-_, _≤_, _<_}
 use native.Mathlib.Decide.{decLe, decLt}
+use native.Mathlib.Numerals.{add-one}
 use native.Mathlib.Omega.{arith}
 use lib.Dec.{ltb}
 use lib.IntN.{ℤ}
@@ -25,12 +26,13 @@ use Rattle.limits.specs.Prepare.{commonRows, criterionOf}
 use Rattle.limits.proofs.PrepareLaws.{common-trace}
 use Rattle.trace.specs.declared.Criterion.{Criterion}
 use Rattle.trace.specs.Trace.{Trace}
-use Rattle.trace.specs.Link.{Linked, Bounded, valid, linksEnd, NoLonger}
-use Rattle.trace.proofs.Holes.{links-end-inside, obeys-past}
-use Rattle.trace.proofs.Validity.{hole-invalid}
+use Rattle.trace.specs.Link.{Linked, Bounded, allWithin, valid, linksEnd, NoLonger}
+use Rattle.trace.proofs.Holes.{links-end-inside, obeys-to, obeys-past}
+use Rattle.trace.proofs.Validity.{hole-invalid, obeying-valid}
 use Rattle.trace.proofs.Half.{greedy-short}
 use Rattle.outgoing.specs.declared.Links.{Links}
-use Rattle.outgoing.specs.Outgoing.{TakenIn}
+use Rattle.outgoing.specs.Outgoing.{TakenIn, Next}
+use Rattle.outgoing.proofs.OutgoingLaws.{next-at}
 use Rattle.proposed.specs.Proposed.{entry, listRow}
 use Rattle.judging.specs.Judge.{judgeRows}
 use Rattle.judging.proofs.JudgeLaws.{rows-kept}
@@ -42,36 +44,44 @@ use Rattle.greedy.specs.Greedy.{further, testOf, faultyAt, firstFaulty, 
 -- ---- the test of a link and of the next
 
 module _ {ts : List ℕ} {vs : List ℤ} (c : Criterion) {i j : ℕ} (link : Linked ts vs i j) where
-  -- links past the limit are invalid
+  start-inside : i + 1 < length ts
+  start-inside = omega (arith, link .forward, link .inside)
+
+  -- a link past the limit is invalid, and one to the limit is valid if its samples are within the parts
   pub past-invalid : linksEnd ts (c .gap) i < j → valid ts vs c i j ≡ false
-  past-invalid h = hole-invalid ts vs c i j (obeys-past ts (c .gap) i (omega (arith, link .forward, link .inside)) j h (link .inside))
+  past-invalid h = hole-invalid ts vs c i j (obeys-past ts (c .gap) i start-inside j h (link .inside))
 
-  pub end-inside : linksEnd ts (c .gap) i < length ts
-  end-inside = links-end-inside ts (c .gap) i (omega (arith, link .forward, link .inside))
+  pub limit-valid : j ≤ linksEnd ts (c .gap) i → valid ts vs c i j ≡ allWithin ts vs c i j
+  limit-valid h = obeying-valid ts vs c i j (obeys-to ts (c .gap) i start-inside j h)
 
-  -- so a stop at the limit goes no further
-  pub no-further : linksEnd ts (c .gap) i ≤ j → further ts vs c i j ≡ false
+  -- no link goes further than the limit
+  no-further : linksEnd ts (c .gap) i ≤ j → further ts vs c i j ≡ false
   no-further h = elim (decLt j (length ts - 1)) [
-    | yes lt ↦ rw (lt-ltb j (length ts - 1) lt) (hole-invalid ts vs c i (suc j) (obeys-past ts (c .gap) i (omega (arith, link .forward, link .inside)) (suc j) (omega arith) (omega arith)))
+    | yes lt ↦ rw (lt-ltb j (length ts - 1) lt) (hole-invalid ts vs c i (suc j) (obeys-past ts (c .gap) i start-inside (suc j) (omega arith) (omega arith)))
     | no end ↦ rw (le-ltb j (length ts - 1) (omega arith))
   ]
 
-  pub further-valid : j < linksEnd ts (c .gap) i → further ts vs c i j ≡ valid ts vs c i (suc j)
-  further-valid h = rw (lt-ltb j (length ts - 1) (omega (arith, end-inside)))
+  pub test-at-limit : {b : Bool} → linksEnd ts (c .gap) i ≤ j → b ≡ valid ts vs c i j → record { valid = b; further = false } ≡ testOf ts vs c i j
+  test-at-limit h e = rw (e, no-further h) (by-test (valid ts vs c i j) (λ v. rw v) (λ v. rw v))
 
   pub test-invalid : valid ts vs c i j ≡ false → record { valid = false; further = false } ≡ testOf ts vs c i j
   test-invalid h = rw h
 
-  pub test-valid : {b : Bool} → valid ts vs c i j ≡ true → b ≡ further ts vs c i j → record { valid = true; further = b } ≡ testOf ts vs c i j
-  test-valid h e = rw (h, e)
+  -- before the limit there is a next sample
+  module _ (before : j < linksEnd ts (c .gap) i) where
+    next-inside : j + 1 < length ts
+    next-inside = omega (arith, links-end-inside ts (c .gap) i start-inside)
 
-  -- links whose start is sample i, with the samples up to j taken in
-  module _ {l : Links} (h : TakenIn ts vs c i (j + 1) l) where
-    pub further-ready : Bounded c → Linked ts vs (l .from .sample) j × Bounded c × TakenIn ts vs c (l .from .sample) (j + 1) l
-    further-ready b = let e = sym (h .start .sample) in (subst (λ (n : ℕ). Linked ts vs n j) e link, b, subst (λ (n : ℕ). TakenIn ts vs c n (j + 1) l) e h)
+    -- links that are ready for the end, and for the sample after it
+    module _ {l : Links} (b : Bounded c) where
+      pub end-ready : TakenIn ts vs c i j l → Next ts vs c l j
+      end-ready h = next-at h (link .trace) b (link .forward) (omega arith) (link .inside)
 
-    pub further-at : {b : Bool} → b ≡ further ts vs c (l .from .sample) j → b ≡ further ts vs c i j
-    further-at {b} e = subst (λ (n : ℕ). b ≡ further ts vs c n j) (h .start .sample) e
+      pub next-ready : TakenIn ts vs c i (j + 1) l → Next ts vs c l (j + 1)
+      next-ready h = next-at h (link .trace) b (omega (arith, link .forward)) (omega arith) next-inside
+
+    pub test-valid : {b : Bool} → valid ts vs c i j ≡ true → b ≡ valid ts vs c i (j + 1) → record { valid = true; further = b } ≡ testOf ts vs c i j
+    test-valid h e = rw (h, lt-ltb j (length ts - 1) (omega (arith, next-inside)), e, add-one j)
 
 -- ---- the first fault
 

@@ -2,17 +2,16 @@
 // the last sample followed by an invalid link from the same start to the next sample. One pass over the trace: the cone of each link tests its
 // end and the sample after it.
 ghost use mathlib.Core.Path.{_≡_};
-ghost use Prim.Native.Nat.{_+_, _-_, _<_};
+ghost use Prim.Native.Nat.{_+_, _-_, _≤_, _<_};
 ghost use lib.ListN.{length};
 ghost use Rattle.kept.specs.Kept.{KeptList};
 ghost use Rattle.trace.specs.Trace.{Trace};
-ghost use Rattle.trace.specs.Link.{Linked, Bounded, linksEnd};
-ghost use Rattle.outgoing.specs.Outgoing.{TakenIn};
-ghost use Rattle.greedy.specs.Greedy.{further, testOf, listGreedy, greedyAt, JudgeGreedyOutcome};
+ghost use Rattle.trace.specs.Link.{Linked, Bounded, valid, linksEnd};
+ghost use Rattle.greedy.specs.Greedy.{testOf, listGreedy, greedyAt, JudgeGreedyOutcome};
 use limits::Limits;
 use limits::Ready;
 use limits::prepare;
-use outgoing::Links;
+use links::all_within;
 use outgoing::links_past;
 use outgoing::reaches;
 use outgoing::taken;
@@ -38,15 +37,22 @@ pub struct Tested {
     pub further: bool,
 }
 
-// Whether the link to the sample after j is valid, with the samples up to j taken in.
-fn reaches_further(ticks: &[u32], values: &[i16], c: Criterion, links: Links, j: usize) -> bool
-    requires { ⌜ Linked (now ticks) (now values) (links .from .sample) j × Bounded c × TakenIn (now ticks) (now values) c (links .from .sample) (j + 1) links ⌝ }
-    ensures { λ r. ⌜ r ≡ further (now (ticks .entry)) (now (values .entry)) c (links .from .sample) j ⌝ }
+// Whether the link i to j is valid, where no longer one from i obeys the gap limit.
+fn reaches_limit(
+    ticks: &[u32],
+    values: &[i16],
+    c: Criterion,
+    i: usize,
+    j: usize,
+    limit: usize,
+) -> bool
+    requires { ⌜ Linked (now ticks) (now values) i j × Bounded c × (limit ≡ linksEnd (now ticks) (c .gap) i) × (limit ≤ j) ⌝ }
+    ensures { λ r. ⌜ r ≡ valid (now (ticks .entry)) (now (values .entry)) c i j ⌝ }
 {
-    if links.limit <= j {
+    if limit < j {
         return false;
     }
-    reaches(ticks, values, c, links, j + 1)
+    all_within(ticks, values, c, i, j)
 }
 
 // The test of the link i to j and of the one to the sample after j. Links past `limit` do not obey the gap limit.
@@ -54,28 +60,30 @@ fn test(ticks: &[u32], values: &[i16], c: Criterion, i: usize, j: usize, limit: 
     requires { ⌜ Linked (now ticks) (now values) i j × Bounded c × (limit ≡ linksEnd (now ticks) (c .gap) i) ⌝ }
     ensures { λ r. ⌜ r ≡ testOf (now (ticks .entry)) (now (values .entry)) c i j ⌝ }
 {
-    let invalid = Tested {
-        valid: false,
-        further: false,
-    };
-    if limit < j {
-        return invalid;
+    if limit <= j {
+        return Tested {
+            valid: reaches_limit(ticks, values, c, i, j, limit),
+            further: false,
+        };
     }
     let next = links_past(ticks, values, c, i, limit);
     if j == i + 1 {
         return Tested {
             valid: true,
-            further: reaches_further(ticks, values, c, next, j),
+            further: reaches(ticks, values, c, next, j + 1),
         };
     }
     let links = taken_to(ticks, values, c, next, i + 2, j);
     if !reaches(ticks, values, c, links, j) {
-        return invalid;
+        return Tested {
+            valid: false,
+            further: false,
+        };
     }
     let through = taken(ticks, values, c, links, j);
     Tested {
         valid: true,
-        further: reaches_further(ticks, values, c, through, j),
+        further: reaches(ticks, values, c, through, j + 1),
     }
 }
 
