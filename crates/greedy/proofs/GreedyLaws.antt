@@ -1,7 +1,7 @@
 -- Laws of `judge_greedy`: what the cone of a link says of it and of the next; a list is passed exactly if it is greedy, so the size bound holds of it;
 -- a no names the first fault.
 -- Assumes nothing.
-use mathlib.Core.Path.{_≡_, refl, sym, subst, ap, _∙_}
+use mathlib.Core.Path.{_≡_, refl, sym, ap, _∙_}
 use mathlib.Core.Logic.{_↔_}
 use mathlib.Core.Bool.{Bool, true, false, not}
 use mathlib.Core.List.{List}
