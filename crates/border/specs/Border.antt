@@ -35,8 +35,8 @@ use Rattle.engine.specs.declared.Probed.{Probed}
 use Rattle.engine.specs.declared.Probed.the-variants.{Kept as IsGalloped, Refused as NotGalloped}
 use Rattle.engine.specs.declared.Closest as C
 use Rattle.engine.specs.declared.Closest.the-variants.{Kept as IsClosest, Refused as NotClosest}
-use Rattle.engine.specs.declared.Written.{Written}
-use Rattle.engine.specs.declared.Written.the-variants.{Count, Refused as NotWritten}
+use Rattle.refusal.specs.declared.Written.{Written}
+use Rattle.refusal.specs.declared.Written.the-variants.{Count, Refused as NotWritten}
 use Rattle.reader.specs.declared.Answer as R
 use Rattle.reader.specs.declared.Answer.the-variants.{Samples, Refused as NotRead}
 use Rattle.reader.specs.declared.Comparison.{Comparison}

@@ -432,15 +432,15 @@ pub fn closest_of(a: engine::Closest) -> Closest
     }
 }
 
-pub fn written_of(a: engine::Written) -> Answer
+pub fn written_of(a: refusal::Written) -> Answer
     ensures { λ r. ⌜ r ≡ writtenOf a ⌝ }
 {
     match a {
-        engine::Written::Count(n) => Answer {
+        refusal::Written::Count(n) => Answer {
             number: 0,
             value: n as u64,
         },
-        engine::Written::Refused(x) => Answer {
+        refusal::Written::Refused(x) => Answer {
             number: refusal::number(x),
             value: refusal::returned(x) as u64,
         },

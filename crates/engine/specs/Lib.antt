@@ -2,9 +2,7 @@
 pub mod Checks
 pub mod Hold
 pub mod Reduce
-pub mod Report
 pub mod Minimum
-pub mod Expand
 pub mod Write
 pub mod Least
 pub mod Sum

@@ -29,12 +29,6 @@ pub enum Closest {
     Refused(Refusal),
 }
 
-// What a call that writes entries or bytes answers: how many, or a refusal.
-pub enum Written {
-    Count(usize),
-    Refused(Refusal),
-}
-
 // What `scan` answers: how many samples the list at each tolerance keeps, 0 behind the last; or a refusal, and zeros.
 pub struct Scanned {
     pub checked: Checked,

@@ -1,10 +1,10 @@
--- `engine::expand::expand` meets its contract. Assumes nothing.
+-- `expanding::expand::expand` meets its contract. Assumes nothing.
 use mathlib.Core.Path.{refl}
 use lib.ListN.{length}
-use Rattle.engine.proofs.ExpandLaws.{codes-none, codes-many, codes-room, codes-fine, codes-count}
+use Rattle.expanding.proofs.ExpandLaws.{codes-none, codes-many, codes-room, codes-fine, codes-count}
 use borrow.Author.Needs.{needs}
-use Rattle.engine.proofs.expand.expand.Statement.{statement}
-use Rattle.engine.proofs.expand.expand.Tie as tie
+use Rattle.expanding.proofs.expand.expand.Statement.{statement}
+use Rattle.expanding.proofs.expand.expand.Tie as tie
 
 returns : tie.Need-returns
 returns c =

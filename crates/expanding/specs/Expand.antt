@@ -18,8 +18,8 @@ use Rattle.refusal.specs.declared.Checked.the-variants.{Fine, Refused}
 use Rattle.refusal.specs.Table.{row, roomRow, _thenCheck_}
 use Rattle.codes.specs.RangeTable.{valuesIn, expandWithRows}
 use Rattle.codes.specs.Code.{codeValues}
-use Rattle.engine.specs.declared.Written.{Written}
-use Rattle.engine.specs.declared.Written.the-variants.{Count, Refused as Declined}
+use Rattle.refusal.specs.declared.Written.{Written}
+use Rattle.refusal.specs.declared.Written.the-variants.{Count, Refused as Declined}
 
 unfoldable pub expandRows : List ℕ → ℕ → Checked
 expandRows codes room = row (leb 1 (length codes) && leb (length codes) 4096) Length thenCheck roomRow (length codes) room

@@ -1,12 +1,12 @@
--- `engine::expand_with::expand_with` meets its contract. Assumes nothing.
+-- `expanding::expand_with::expand_with` meets its contract. Assumes nothing.
 use mathlib.Core.Path.{refl, sym, _∙_}
 use lib.IntN.{pos}
 use borrow.Author.Needs.{needs}
 use Rattle.lists.proofs.SelectLaws.{select-length}
 use Rattle.codes.proofs.RangeTableLaws.{fine-rises}
 use Rattle.codes.proofs.RowLaws.{fine-with}
-use Rattle.engine.proofs.expand_with.expand_with.Statement.{statement}
-use Rattle.engine.proofs.expand_with.expand_with.Tie as tie
+use Rattle.expanding.proofs.expand_with.expand_with.Statement.{statement}
+use Rattle.expanding.proofs.expand_with.expand_with.Tie as tie
 
 check-requires : tie.Need-check-requires
 check-requires c κs = search needs

@@ -1,11 +1,11 @@
--- `engine::report::allowed_sheet` meets its contract. Assumes nothing.
+-- `reporting::allowed_sheet` meets its contract. Assumes nothing.
 use mathlib.Core.Path.{subst}
 use Rattle.channels.proofs.ChannelLaws.{crate-divided}
 use Rattle.limits.specs.Prepare.{Sets, Allowed}
-use Rattle.engine.proofs.ReportLaws.{sheet-refused, limits-refused, room-refused, sheet-counted}
+use Rattle.reporting.proofs.ReportLaws.{sheet-refused, limits-refused, room-refused, sheet-counted}
 use borrow.Author.Needs.{needs}
-use Rattle.engine.proofs.report.allowed_sheet.Statement.{statement}
-use Rattle.engine.proofs.report.allowed_sheet.Tie as tie
+use Rattle.reporting.proofs.allowed_sheet.Statement.{statement}
+use Rattle.reporting.proofs.allowed_sheet.Tie as tie
 
 criterion-requires : tie.Need-criterion-requires
 criterion-requires c κs = search needs

@@ -1,9 +1,9 @@
--- `engine::report::sheet_of` meets its contract. Assumes nothing.
+-- `reporting::sheet_of` meets its contract. Assumes nothing.
 use mathlib.Core.Path.{sym, _∙_}
-use Rattle.engine.proofs.ReportLaws.{sheet-refused, crate-refused}
+use Rattle.reporting.proofs.ReportLaws.{sheet-refused, crate-refused}
 use borrow.Author.Needs.{needs}
-use Rattle.engine.proofs.report.sheet_of.Statement.{statement}
-use Rattle.engine.proofs.report.sheet_of.Tie as tie
+use Rattle.reporting.proofs.sheet_of.Statement.{statement}
+use Rattle.reporting.proofs.sheet_of.Tie as tie
 
 check-requires : tie.Need-check-requires
 check-requires c κs = search needs

@@ -8,7 +8,7 @@ use borrow.Author.Tests.{le-leb, lt-leb}
 use Rattle.refusal.specs.declared.Refusal.the-variants.{Length, Room}
 use Rattle.refusal.specs.declared.Checked.the-variants.{Fine, Refused}
 use Rattle.codes.specs.Code.{codeValues}
-use Rattle.engine.specs.Expand.{expandRows}
+use Rattle.expanding.specs.Expand.{expandRows}
 
 module _ (codes : List ℕ) (room : ℕ) where
   pub codes-none : length codes < 1 → expandRows codes room ≡ Refused Length

@@ -20,7 +20,7 @@ use Rattle.channels.specs.Channels.{crateRow}
 use Rattle.channels.proofs.ChannelLaws.{crate-divided}
 use Rattle.sheet.specs.Report.{rowsFrom, totalsOf, Rows, Declined, filled}
 use Rattle.limits.specs.Prepare.{limitRows, Sets}
-use Rattle.engine.specs.Report.{crateRows, ReportOutcome, Surveyed}
+use Rattle.reporting.specs.Report.{crateRows, ReportOutcome, Surveyed}
 
 module _ (ts : List ℕ) (vs : List ℤ) (ls : List ℕ) (t : Limits) (room : ℕ) where
   -- a sheet that refuses with the first row that applies
