@@ -19,8 +19,8 @@ use Rattle.tolerance.specs.declared.Tolerance.the-variants.{Ratio, Counts, Nois
 use Rattle.limits.specs.declared.Limits as L
 use Rattle.tolerances.specs.declared.Entry.{Entry}
 use Rattle.tolerances.specs.declared.Tolerances as S
-use Rattle.engine.specs.declared.Holding.{Holding}
-use Rattle.engine.specs.declared.Holding.the-variants.{Held as IsHeld, Refused as HoldRefused}
+use Rattle.checking.specs.declared.Holding.{Holding}
+use Rattle.checking.specs.declared.Holding.the-variants.{Held as IsHeld, Refused as HoldRefused}
 use Rattle.trace.specs.declared.Side.{Side}
 use Rattle.trace.specs.declared.Side.the-variants.{On, Above, Below, Gap}
 use Rattle.judging.specs.declared.Measured as M

@@ -218,11 +218,11 @@ pub fn tolerances_of(t: Tolerances) -> tolerances::Tolerances
     }
 }
 
-pub fn held_of(h: engine::Holding) -> Held
+pub fn held_of(h: checking::Holding) -> Held
     ensures { λ r. ⌜ r ≡ heldOf h ⌝ }
 {
     match h {
-        engine::Holding::Held(x) => {
+        checking::Holding::Held(x) => {
             let up = x.up;
             let down = x.down;
             Held {
@@ -234,7 +234,7 @@ pub fn held_of(h: engine::Holding) -> Held
                 dq: down.q,
             }
         }
-        engine::Holding::Refused(x) => Held {
+        checking::Holding::Refused(x) => Held {
             number: refusal::number(x),
             value: refusal::returned(x) as u64,
             p: 0,

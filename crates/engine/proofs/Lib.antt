@@ -1,5 +1,4 @@
 -- The laws of the public calls' definitions.
-pub mod HoldLaws
 pub mod ReduceLaws
 pub mod WriteLaws
 pub mod LeastLaws

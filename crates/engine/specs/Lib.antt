@@ -1,6 +1,4 @@
 -- The outcomes of the public calls.
-pub mod Checks
-pub mod Hold
 pub mod Reduce
 pub mod Minimum
 pub mod Write

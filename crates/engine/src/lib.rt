@@ -3,13 +3,6 @@ use closest::Found;
 use reduction::Galloped;
 use refusal::Checked;
 use refusal::Refusal;
-use tolerance::Parts;
-
-// What `hold` answers: the parts of the tolerance in lowest terms, or a refusal.
-pub enum Holding {
-    Held(Parts),
-    Refused(Refusal),
-}
 
 // What `walk`, `minimum` and `sum` answer: how many samples the list keeps, or a refusal.
 pub enum Reduced {

@@ -9,7 +9,7 @@ use lib.IntN.{ℤ}
 use Rattle.refusal.specs.declared.Checked.{Checked}
 use Rattle.live.specs.declared.View.{View}
 use Rattle.live.specs.Live.{begunOf as begunBy, AddOutcome}
-use Rattle.engine.specs.declared.Holding.{Holding}
+use Rattle.checking.specs.declared.Holding.{Holding}
 use Rattle.judging.specs.declared.Measured as M
 use Rattle.judging.specs.declared.Verdict as E
 use Rattle.engine.specs.declared.Reduced.{Reduced}
@@ -17,7 +17,7 @@ use Rattle.engine.specs.declared.Scanned as N
 use Rattle.engine.specs.declared.Probed.{Probed}
 use Rattle.engine.specs.declared.Closest as C
 use Rattle.refusal.specs.declared.Written.{Written}
-use Rattle.engine.specs.Hold.{HoldOutcome}
+use Rattle.checking.specs.Hold.{HoldOutcome}
 use Rattle.judging.specs.Measure.{MeasureOutcome}
 use Rattle.judging.specs.Judge.{JudgeOutcome}
 use Rattle.expanding.specs.Expand.{ExpandOutcome, ExpandWithOutcome}

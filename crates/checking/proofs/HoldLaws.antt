@@ -9,9 +9,9 @@ use Rattle.tolerance.specs.declared.Meaning.{Meaning}
 use Rattle.tolerance.specs.declared.Meaning.the-variants.{Exact, NotAllowed}
 use Rattle.tolerance.specs.Meaning.{meaning}
 use Rattle.tolerance.proofs.Meanings.{exact-held}
-use Rattle.engine.specs.declared.Holding.{Holding}
-use Rattle.engine.specs.declared.Holding.the-variants.{Held}
-use Rattle.engine.specs.Hold.{holdingOf, HoldOutcome}
+use Rattle.checking.specs.declared.Holding.{Holding}
+use Rattle.checking.specs.declared.Holding.the-variants.{Held}
+use Rattle.checking.specs.Hold.{holdingOf, HoldOutcome}
 
 held-meaning : (m : Meaning) (x : Parts) → holdingOf m ≡ Held x → m ≡ Exact x
 held-meaning (Exact y) x e = cc

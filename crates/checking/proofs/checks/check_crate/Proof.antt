@@ -1,9 +1,9 @@
--- `engine::checks::check_crate` meets its contract. Assumes nothing.
+-- `checking::checks::check_crate` meets its contract. Assumes nothing.
 use mathlib.Core.Path.{sym, _∙_}
 use Rattle.channels.proofs.ChannelLaws.{crate-divided}
 use borrow.Author.Needs.{needs}
-use Rattle.engine.proofs.checks.check_crate.Statement.{statement}
-use Rattle.engine.proofs.checks.check_crate.Tie as tie
+use Rattle.checking.proofs.checks.check_crate.Statement.{statement}
+use Rattle.checking.proofs.checks.check_crate.Tie as tie
 
 check-requires : tie.Need-check-requires
 check-requires c κs = search needs

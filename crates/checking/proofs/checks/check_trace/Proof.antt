@@ -1,10 +1,10 @@
--- `engine::checks::check_trace` meets its contract. Assumes nothing.
+-- `checking::checks::check_trace` meets its contract. Assumes nothing.
 use mathlib.Core.Path.{sym, _∙_}
 use native.Mathlib.Omega.{arith}
 use Rattle.trace.proofs.TraceLaws.{rows-trace}
 use borrow.Author.Needs.{needs}
-use Rattle.engine.proofs.checks.check_trace.Statement.{statement}
-use Rattle.engine.proofs.checks.check_trace.Tie as tie
+use Rattle.checking.proofs.checks.check_trace.Statement.{statement}
+use Rattle.checking.proofs.checks.check_trace.Tie as tie
 
 check-requires : tie.Need-check-requires
 check-requires c κs = search needs

@@ -1,9 +1,9 @@
--- `engine::hold::hold` meets its contract. Assumes nothing.
+-- `checking::hold::hold` meets its contract. Assumes nothing.
 use mathlib.Core.Path.{refl, sym, _∙_}
-use Rattle.engine.proofs.HoldLaws.{hold-outcome}
+use Rattle.checking.proofs.HoldLaws.{hold-outcome}
 use borrow.Author.Needs.{needs}
-use Rattle.engine.proofs.hold.hold.Statement.{statement}
-use Rattle.engine.proofs.hold.hold.Tie as tie
+use Rattle.checking.proofs.hold.hold.Statement.{statement}
+use Rattle.checking.proofs.hold.hold.Tie as tie
 
 meaning-of-requires : tie.Need-meaning-of-requires
 meaning-of-requires c κs = search needs
