@@ -19,8 +19,8 @@ use Rattle.tolerance.specs.declared.Tolerance.the-variants.{Ratio, Counts, Nois
 use Rattle.limits.specs.declared.Limits as L
 use Rattle.tolerances.specs.declared.Entry.{Entry}
 use Rattle.tolerances.specs.declared.Tolerances as S
-use Rattle.engine.specs.declared.Holding.{Holding}
-use Rattle.engine.specs.declared.Holding.the-variants.{Held as IsHeld, Refused as HoldRefused}
+use Rattle.checking.specs.declared.Holding.{Holding}
+use Rattle.checking.specs.declared.Holding.the-variants.{Held as IsHeld, Refused as HoldRefused}
 use Rattle.trace.specs.declared.Side.{Side}
 use Rattle.trace.specs.declared.Side.the-variants.{On, Above, Below, Gap}
 use Rattle.judging.specs.declared.Measured as M
@@ -37,8 +37,8 @@ use Rattle.engine.specs.declared.Probed.{Probed}
 use Rattle.engine.specs.declared.Probed.the-variants.{Kept as IsGalloped, Refused as NotGalloped}
 use Rattle.engine.specs.declared.Closest as C
 use Rattle.engine.specs.declared.Closest.the-variants.{Kept as IsClosest, Refused as NotClosest}
-use Rattle.engine.specs.declared.Written.{Written}
-use Rattle.engine.specs.declared.Written.the-variants.{Count, Refused as NotWritten}
+use Rattle.refusal.specs.declared.Written.{Written}
+use Rattle.refusal.specs.declared.Written.the-variants.{Count, Refused as NotWritten}
 use Rattle.reader.specs.declared.Answer as R
 use Rattle.reader.specs.declared.Answer.the-variants.{Samples, Refused as NotRead}
 use Rattle.reader.specs.declared.Comparison.{Comparison}

@@ -228,11 +228,11 @@ pub fn tolerances_of(t: Tolerances) -> tolerances::Tolerances
     }
 }
 
-pub fn held_of(h: engine::Holding) -> Held
+pub fn held_of(h: checking::Holding) -> Held
     ensures { λ r. ⌜ r ≡ heldOf h ⌝ }
 {
     match h {
-        engine::Holding::Held(x) => {
+        checking::Holding::Held(x) => {
             let up = x.up;
             let down = x.down;
             Held {
@@ -244,7 +244,7 @@ pub fn held_of(h: engine::Holding) -> Held
                 dq: down.q,
             }
         }
-        engine::Holding::Refused(x) => Held {
+        checking::Holding::Refused(x) => Held {
             number: refusal::number(x),
             value: refusal::returned(x) as u64,
             p: 0,
@@ -473,15 +473,15 @@ pub fn closest_of(a: engine::Closest) -> Closest
     }
 }
 
-pub fn written_of(a: engine::Written) -> Answer
+pub fn written_of(a: refusal::Written) -> Answer
     ensures { λ r. ⌜ r ≡ writtenOf a ⌝ }
 {
     match a {
-        engine::Written::Count(n) => Answer {
+        refusal::Written::Count(n) => Answer {
             number: 0,
             value: n as u64,
         },
-        engine::Written::Refused(x) => Answer {
+        refusal::Written::Refused(x) => Answer {
             number: refusal::number(x),
             value: refusal::returned(x) as u64,
         },

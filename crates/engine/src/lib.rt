@@ -3,13 +3,6 @@ use closest::Found;
 use reduction::Galloped;
 use refusal::Checked;
 use refusal::Refusal;
-use tolerance::Parts;
-
-// What `hold` answers: the parts of the tolerance in lowest terms, or a refusal.
-pub enum Holding {
-    Held(Parts),
-    Refused(Refusal),
-}
 
 // What `walk`, `minimum` and `sum` answer: how many samples the list keeps, or a refusal.
 pub enum Reduced {
@@ -26,12 +19,6 @@ pub enum Probed {
 // What `least` answers: how many samples it kept and their error, or a refusal.
 pub enum Closest {
     Kept(Found),
-    Refused(Refusal),
-}
-
-// What a call that writes entries or bytes answers: how many, or a refusal.
-pub enum Written {
-    Count(usize),
     Refused(Refusal),
 }
 

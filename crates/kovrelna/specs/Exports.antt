@@ -9,20 +9,20 @@ use lib.IntN.{ℤ}
 use Rattle.refusal.specs.declared.Checked.{Checked}
 use Rattle.live.specs.declared.View.{View}
 use Rattle.live.specs.Live.{begunOf as begunBy, AddOutcome}
-use Rattle.engine.specs.declared.Holding.{Holding}
+use Rattle.checking.specs.declared.Holding.{Holding}
 use Rattle.judging.specs.declared.Measured as M
 use Rattle.judging.specs.declared.Verdict as E
 use Rattle.engine.specs.declared.Reduced.{Reduced}
 use Rattle.engine.specs.declared.Scanned as N
 use Rattle.engine.specs.declared.Probed.{Probed}
 use Rattle.engine.specs.declared.Closest as C
-use Rattle.engine.specs.declared.Written.{Written}
-use Rattle.engine.specs.Hold.{HoldOutcome}
+use Rattle.refusal.specs.declared.Written.{Written}
+use Rattle.checking.specs.Hold.{HoldOutcome}
 use Rattle.judging.specs.Measure.{MeasureOutcome}
 use Rattle.judging.specs.Judge.{JudgeOutcome}
 use Rattle.greedy.specs.declared.GreedyVerdict.{GreedyVerdict}
 use Rattle.greedy.specs.Greedy.{JudgeGreedyOutcome}
-use Rattle.engine.specs.Expand.{ExpandOutcome, ExpandWithOutcome}
+use Rattle.expanding.specs.Expand.{ExpandOutcome, ExpandWithOutcome}
 use Rattle.engine.specs.Write.{WriteOutcome}
 use Rattle.reader.specs.declared.Answer as R
 use Rattle.reader.specs.declared.Comparison.{Comparison}
@@ -34,7 +34,7 @@ use Rattle.engine.specs.Scan.{ScanOutcome}
 use Rattle.engine.specs.Minimum.{MinimumOutcome}
 use Rattle.engine.specs.Least.{LeastOutcome}
 use Rattle.engine.specs.Sum.{SumOutcome}
-use Rattle.engine.specs.Report.{ReportOutcome}
+use Rattle.reporting.specs.Report.{ReportOutcome}
 use Rattle.pedestals.specs.declared.Compared as P
 use Rattle.pedestals.specs.Compare.{Run, CompareOutcome}
 use Rattle.border.specs.declared.Tolerance.{Tolerance}

@@ -1,5 +1,5 @@
 // The C interface: each export is a public call of `engine` or of a product above it, with the numbers and structs of `border` for its enums.
-ghost use Rattle.engine.specs.Report.{Surveyed};
+ghost use Rattle.reporting.specs.Report.{Surveyed};
 ghost use Rattle.border.specs.Border.{limitsOf};
 ghost use Rattle.kovrelna.specs.Exports.{HoldExport, MeasureExport, JudgeExport, JudgeGreedyExport, WalkExport, ScanExport, GallopExport, MinimumExport, LeastExport, ViewBeginExport, ViewAddExport, SumExport, ExpandExport, ExpandWithExport, WriteExport, ReadExport, SameExport, ReportExport, PedestalsExport};
 ghost use Rattle.pedestals.specs.Compare.{runOf};
