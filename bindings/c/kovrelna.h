@@ -383,9 +383,9 @@ typedef struct kovrelna_judged_greedy {
 
 /* Whether every link of the proposed list is valid on this trace, and each stop but the last sample is
  * followed by an invalid link from the same start: where a link goes from sample i to sample j, and j
- * is not the last sample, the link from i to j+1 is invalid, kept or not as j+1 may be. If not, of the
- * first link at fault: KOVRELNA_FAULT_LINK if it is invalid itself, whatever the link to the next
- * sample is; otherwise KOVRELNA_FAULT_STOP. A no carries no measure: kovrelna_judge and
+ * is not the last sample, the link from i to j+1 is invalid. Sample j+1 need not be kept. If not, the
+ * first link at fault: with KOVRELNA_FAULT_LINK if it is invalid itself, whatever the link to the next
+ * sample is, otherwise with KOVRELNA_FAULT_STOP. A no carries no measure: kovrelna_judge and
  * kovrelna_measure give that of an invalid link.
  *
  * A list that passes, however it was made, has at most as many samples as any kept list of the trace

@@ -3061,7 +3061,7 @@ static void longest(void) {
   const uint16_t ends[] = {0, SAMPLES - 1};
   static uint32_t ticks[SAMPLES];
   static int16_t values[SAMPLES];
-  static uint16_t all[SAMPLES];
+  static uint16_t all[SAMPLES], but_one[SAMPLES - 1];
   static uint8_t record[BYTES], longer[MOST];
   static const uint8_t two_parts[17] = {0x42, 0, 0, 0, 0, 0, 0, 0, 1, 0, 0, 0, 0, 1, 0, 0, 1};
   kovrelna_limits zero = within_ratio(0, 1), unequal = within_parts(0, 1, 1, 1);
@@ -3072,6 +3072,8 @@ static void longest(void) {
     values[k] = (int16_t)(k % 2 * 10000);
     all[k] = (uint16_t)k;
   }
+  memcpy(but_one, all, sizeof(but_one));
+  but_one[SAMPLES - 2] = SAMPLES - 1;
   /* As far above the line at sample 1 as below it at the last but one. */
   MEASURE(ticks, values, 0, SAMPLES - 1, 8188000, 819, 1, KOVRELNA_SIDE_ABOVE);
   MEASURE(ticks, values, 1, SAMPLES - 2, 40920000, 4093, 2, KOVRELNA_SIDE_BELOW);
@@ -3081,6 +3083,7 @@ static void longest(void) {
   JUDGE(ticks, values, all, zero, 0, 1, 0);
   AT_FAULT(ticks, values, ends, within_ratio(9997, 1), 0, KOVRELNA_FAULT_LINK);
   AT_FAULT(ticks, values, all, within_ratio(10000, 1), 0, KOVRELNA_FAULT_STOP);
+  AT_FAULT(ticks, values, but_one, zero, SAMPLES - 3, KOVRELNA_FAULT_LINK);
   GREEDY(ticks, values, ends, within_ratio(10000, 1));
   REDUCE(WALK, ticks, values, zero, SAMPLES, 0, all);
   REDUCE(GALLOP, ticks, values, zero, SAMPLES, SAMPLES - 1, all);

@@ -1802,6 +1802,7 @@ class Longest(Case):
         for kept, tolerance, link, fault in [
             (range(4096), 0, None, None),
             (range(4096), 10000, 0, "stop"),
+            ([*range(4094), 4095], 0, 4093, "link"),
             ([0, 4095], 9997, 0, "link"),
             ([0, 4095], 10000, None, None),
         ]:

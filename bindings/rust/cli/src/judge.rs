@@ -78,17 +78,16 @@ fn greedy(text: &Text, list: &[u16], limits: Limits) -> Result<(Status, String),
 fn at_fault(ticks: &[u32], (i, j): (usize, usize), fault: Fault) -> String {
     let sample = |k: usize| format!("sample {k} at tick {}", ticks[k]);
     let link = format!("from {} to {}", sample(i), sample(j));
-    match fault {
+    let fault = match fault {
         Fault::Link => {
-            format!(
-                "{link}: the link is invalid; kovrelna judge without --greedy says where it strays"
-            )
+            "the link is invalid; kovrelna judge without --greedy says where it strays".to_string()
         }
-        Fault::Stop => format!(
-            "{link}: the stop is at fault, as the link from sample {i} to {} is valid too",
-            sample(j + 1)
-        ),
-    }
+        Fault::Stop => {
+            let next = sample(j + 1);
+            format!("the stop is at fault, as the link from sample {i} to {next} is valid too")
+        }
+    };
+    format!("{link}: {fault}")
 }
 
 /// What may be said of a list of so many samples that passes. It is proved of every such list:
@@ -98,18 +97,17 @@ fn size_bound(kept: usize, samples: usize, Limits { held, gap }: Limits) -> Stri
         1 => format!("1 {what}"),
         _ => format!("{count} {what}s"),
     };
-    let (under, obeys, obeying) = match gap {
-        None => (String::new(), "", ""),
+    let (under, obeys) = match gap {
+        None => (String::new(), ""),
         Some(gap) => (
             format!(" under a gap limit of {}", counted(gap as usize, "tick")),
             " and obeys this gap limit",
-            " obeys it and",
         ),
     };
     let (tolerance, sum) = (budget::words(held), budget::ratio(smaller(held)));
     let half = held.one().map_or(String::new(), |_| {
         let half = budget::ratio(half(held));
-        format!(" This is said of every list that{obeying} is within {half}, half the tolerance.")
+        format!(" In particular no such list within {half}, half the tolerance, has fewer.")
     });
     format!(
         "Every link of this list of {kept} of {} is valid at tolerance {tolerance}{under}, \
