@@ -802,6 +802,40 @@ judged judge_c(const uint32_t *ticks, const int16_t *values, size_t n, const uin
   return answer;
 }
 
+/* The fault of the link from i to j, where links from i obey the gap limit before sample `past`. */
+FOR_PARTS unsigned fault_of(const uint32_t *ticks, const int16_t *values, size_t i, size_t j,
+                            size_t past, ratio up, ratio down) {
+  if (j >= past || !is_within_band(ticks, values, i, j, up, down)) return FAULT_LINK;
+  if (j + 1 < past && is_within_band(ticks, values, i, j + 1, up, down)) return FAULT_STOP;
+  return FAULT_NONE;
+}
+
+FOR_PARTS judged_greedy judge_greedy_band(const uint32_t *ticks, const int16_t *values, size_t n,
+                                          const uint16_t *list, size_t kept, ratio up, ratio down,
+                                          uint32_t gap) {
+  judged_greedy answer = {0, 0, FAULT_NONE};
+  size_t hole = first_hole(ticks, 0, n - 1, gap), k;
+  for (k = 1; k < kept; k++) {
+    size_t i = list[k - 1];
+    if (i > hole) hole = first_hole(ticks, i, n - 1, gap);
+    answer.fault = fault_of(ticks, values, i, list[k], past_links(i, hole), up, down);
+    if (answer.fault != FAULT_NONE) {
+      answer.link = k - 1;
+      return answer;
+    }
+  }
+  answer.passed = 1;
+  return answer;
+}
+
+judged_greedy judge_greedy_c(const uint32_t *ticks, const int16_t *values, size_t n,
+                             const uint16_t *list, size_t kept, parts t, uint32_t gap) {
+  judged_greedy none = {0, 0, FAULT_NONE};
+  if (!is_trace(ticks, n) || !is_list(list, kept, n)) return none;
+  if (is_one(t)) return judge_greedy_band(ticks, values, n, list, kept, t.above, t.above, gap);
+  return judge_greedy_band(ticks, values, n, list, kept, t.above, t.below, gap);
+}
+
 static int16_t code_value(unsigned c) { return (int16_t)(((c % 32 + 32) << (c / 32)) - 32); }
 
 size_t expand_c(const uint8_t *codes, size_t n, int16_t *restrict values, size_t room) {
