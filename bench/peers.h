@@ -178,8 +178,7 @@ typedef struct judged_greedy {
   unsigned fault;
 } judged_greedy;
 
-/* Judge's second question: tests each link, and the one from its start to the sample after its end, up
- * to the first sample that is not within its part. A cone that takes in the samples once is slower. */
+/* Judge's second question in one pass: the cone of each link tests its end and the sample after it. */
 judged_greedy judge_greedy_c(const uint32_t *ticks, const int16_t *values, size_t n,
                              const uint16_t *list, size_t kept, parts t, uint32_t gap);
 
