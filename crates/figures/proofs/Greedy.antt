@@ -32,33 +32,33 @@ use Rattle.greedy.specs.Greedy.{firstFaulty, listGreedy, judgeGreedyOf}
 abbrev fiveTicks : List ℕ
 fiveTicks = 0 ∷ 1 ∷ 2 ∷ 3 ∷ 4 ∷ []
 
-abbrev two : Limits
-two = unlimited (Ratio 2 1)
+abbrev atTwo : Limits
+atTwo = unlimited (Ratio 2 1)
 
 -- ---- values 0 3 0 3 0, tolerance 2: all five samples, 0 3 4 and 0 1 4 pass
 
 abbrev peaks : List ℤ
 peaks = pos 0 ∷ pos 3 ∷ pos 0 ∷ pos 3 ∷ pos 0 ∷ []
 
-peaks-all : judgeGreedyOf fiveTicks peaks (0 ∷ 1 ∷ 2 ∷ 3 ∷ 4 ∷ []) two ≡ Yes
+peaks-all : judgeGreedyOf fiveTicks peaks (0 ∷ 1 ∷ 2 ∷ 3 ∷ 4 ∷ []) atTwo ≡ Yes
 unfolding judgeGreedyOf judgeRows commonRows traceRows listRow badAt listGreedy firstFaulty first firstOf criterionOf valid obeys hole allWithin allFrom within above below deviation gcd euclid
 peaks-all = refl
 
-peaks-later : judgeGreedyOf fiveTicks peaks (0 ∷ 3 ∷ 4 ∷ []) two ≡ Yes
+peaks-later : judgeGreedyOf fiveTicks peaks (0 ∷ 3 ∷ 4 ∷ []) atTwo ≡ Yes
 unfolding judgeGreedyOf judgeRows commonRows traceRows listRow badAt listGreedy firstFaulty first firstOf criterionOf valid obeys hole allWithin allFrom within above below deviation gcd euclid
 peaks-later = refl
 
-peaks-earlier : judgeGreedyOf fiveTicks peaks (0 ∷ 1 ∷ 4 ∷ []) two ≡ Yes
+peaks-earlier : judgeGreedyOf fiveTicks peaks (0 ∷ 1 ∷ 4 ∷ []) atTwo ≡ Yes
 unfolding judgeGreedyOf judgeRows commonRows traceRows listRow badAt listGreedy firstFaulty first firstOf criterionOf valid obeys hole allWithin allFrom within above below deviation gcd euclid
 peaks-earlier = refl
 
 -- 0 4 is at fault at 0, the link
-peaks-ends : judgeGreedyOf fiveTicks peaks (0 ∷ 4 ∷ []) two ≡ Link 0
+peaks-ends : judgeGreedyOf fiveTicks peaks (0 ∷ 4 ∷ []) atTwo ≡ Link 0
 unfolding judgeGreedyOf judgeRows commonRows traceRows listRow badAt listGreedy firstFaulty first firstOf criterionOf valid obeys hole allWithin allFrom within above below deviation gcd euclid
 peaks-ends = refl
 
 -- 0 to 2 is invalid and 0 to 3 is valid: where both faults share a position the link is named
-peaks-both : judgeGreedyOf fiveTicks peaks (0 ∷ 2 ∷ 3 ∷ 4 ∷ []) two ≡ Link 0
+peaks-both : judgeGreedyOf fiveTicks peaks (0 ∷ 2 ∷ 3 ∷ 4 ∷ []) atTwo ≡ Link 0
 unfolding judgeGreedyOf judgeRows commonRows traceRows listRow badAt listGreedy firstFaulty first firstOf criterionOf valid obeys hole allWithin allFrom within above below deviation gcd euclid
 peaks-both = refl
 
@@ -67,25 +67,25 @@ peaks-both = refl
 abbrev swing : List ℤ
 swing = pos 0 ∷ pos 2 ∷ pos 0 ∷ negsuc 1 ∷ pos 0 ∷ []
 
-swing-walk : judgeGreedyOf fiveTicks swing (0 ∷ 2 ∷ 4 ∷ []) two ≡ Yes
+swing-two-links : judgeGreedyOf fiveTicks swing (0 ∷ 2 ∷ 4 ∷ []) atTwo ≡ Yes
 unfolding judgeGreedyOf judgeRows commonRows traceRows listRow badAt listGreedy firstFaulty first firstOf criterionOf valid obeys hole allWithin allFrom within above below deviation gcd euclid
-swing-walk = refl
+swing-two-links = refl
 
-swing-gallop : judgeGreedyOf fiveTicks swing (0 ∷ 4 ∷ []) two ≡ Yes
+swing-one-link : judgeGreedyOf fiveTicks swing (0 ∷ 4 ∷ []) atTwo ≡ Yes
 unfolding judgeGreedyOf judgeRows commonRows traceRows listRow badAt listGreedy firstFaulty first firstOf criterionOf valid obeys hole allWithin allFrom within above below deviation gcd euclid
-swing-gallop = refl
+swing-one-link = refl
 
 -- from 0 the link to 2 is valid too: a stop at 1 is at fault
-swing-stop : judgeGreedyOf fiveTicks swing (0 ∷ 1 ∷ 4 ∷ []) two ≡ Stop 0
+swing-stop : judgeGreedyOf fiveTicks swing (0 ∷ 1 ∷ 4 ∷ []) atTwo ≡ Stop 0
 unfolding judgeGreedyOf judgeRows commonRows traceRows listRow badAt listGreedy firstFaulty first firstOf criterionOf valid obeys hole allWithin allFrom within above below deviation gcd euclid
 swing-stop = refl
 
-swing-link : judgeGreedyOf fiveTicks swing (0 ∷ 3 ∷ 4 ∷ []) two ≡ Link 0
+swing-link : judgeGreedyOf fiveTicks swing (0 ∷ 3 ∷ 4 ∷ []) atTwo ≡ Link 0
 unfolding judgeGreedyOf judgeRows commonRows traceRows listRow badAt listGreedy firstFaulty first firstOf criterionOf valid obeys hole allWithin allFrom within above below deviation gcd euclid
 swing-link = refl
 
 -- a stop has the position of the link that ends there
-swing-second : judgeGreedyOf fiveTicks swing (0 ∷ 2 ∷ 3 ∷ 4 ∷ []) two ≡ Stop 1
+swing-second : judgeGreedyOf fiveTicks swing (0 ∷ 2 ∷ 3 ∷ 4 ∷ []) atTwo ≡ Stop 1
 unfolding judgeGreedyOf judgeRows commonRows traceRows listRow badAt listGreedy firstFaulty first firstOf criterionOf valid obeys hole allWithin allFrom within above below deviation gcd euclid
 swing-second = refl
 
@@ -104,7 +104,7 @@ swing-parts-link = refl
 
 -- ---- one sample
 
-one-sample : judgeGreedyOf (9 ∷ []) (pos 7 ∷ []) (0 ∷ []) two ≡ Yes
+one-sample : judgeGreedyOf (9 ∷ []) (pos 7 ∷ []) (0 ∷ []) atTwo ≡ Yes
 unfolding judgeGreedyOf judgeRows commonRows traceRows listRow badAt listGreedy firstFaulty first firstOf criterionOf valid obeys hole allWithin allFrom within above below deviation gcd euclid
 one-sample = refl
 
@@ -116,22 +116,22 @@ sevenTicks = 0 ∷ 1 ∷ 2 ∷ 3 ∷ 4 ∷ 5 ∷ 6 ∷ []
 abbrev rough : List ℤ
 rough = pos 2 ∷ negsuc 1 ∷ negsuc 0 ∷ pos 0 ∷ negsuc 1 ∷ pos 2 ∷ negsuc 0 ∷ []
 
-abbrev three : Limits
-three = unlimited (Ratio 3 1)
+abbrev atThree : Limits
+atThree = unlimited (Ratio 3 1)
 
-rough-walk : walkList sevenTicks rough (criterionOf three) ≡ 0 ∷ 2 ∷ 6 ∷ []
+rough-walk : walkList sevenTicks rough (criterionOf atThree) ≡ 0 ∷ 2 ∷ 6 ∷ []
 unfolding walkOf walkFrom stops criterionOf valid obeys hole allWithin allFrom within above below deviation gcd euclid
 rough-walk = refl
 
-rough-gallop : gallopList sevenTicks rough (criterionOf three) ≡ 0 ∷ 4 ∷ 5 ∷ 6 ∷ []
+rough-gallop : gallopList sevenTicks rough (criterionOf atThree) ≡ 0 ∷ 4 ∷ 5 ∷ 6 ∷ []
 unfolding gallopOf gallopSearch probeOf searchBy doubling bisection stops criterionOf valid obeys hole allWithin allFrom within above below deviation gcd euclid
 rough-gallop = refl
 
-rough-walk-passes : judgeGreedyOf sevenTicks rough (0 ∷ 2 ∷ 6 ∷ []) three ≡ Yes
+rough-walk-passes : judgeGreedyOf sevenTicks rough (0 ∷ 2 ∷ 6 ∷ []) atThree ≡ Yes
 unfolding judgeGreedyOf judgeRows commonRows traceRows listRow badAt listGreedy firstFaulty first firstOf criterionOf valid obeys hole allWithin allFrom within above below deviation gcd euclid
 rough-walk-passes = refl
 
-rough-gallop-passes : judgeGreedyOf sevenTicks rough (0 ∷ 4 ∷ 5 ∷ 6 ∷ []) three ≡ Yes
+rough-gallop-passes : judgeGreedyOf sevenTicks rough (0 ∷ 4 ∷ 5 ∷ 6 ∷ []) atThree ≡ Yes
 unfolding judgeGreedyOf judgeRows commonRows traceRows listRow badAt listGreedy firstFaulty first firstOf criterionOf valid obeys hole allWithin allFrom within above below deviation gcd euclid
 rough-gallop-passes = refl
 
