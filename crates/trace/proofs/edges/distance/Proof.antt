@@ -1,9 +1,9 @@
--- `measures::distance` meets its contract: the difference fits, and is the definition's. Assumes nothing.
+-- `trace::edges::distance` meets its contract: the difference fits, and is the definition's. Assumes nothing.
 use mathlib.Core.Path.{_∙_}
 use borrow.Author.Needs.{needs}
 use Rattle.trace.proofs.Climbs.{turned, apart-fits, apart-natural, apart-is, distance-turned}
-use Rattle.measures.proofs.distance.Statement.{statement}
-use Rattle.measures.proofs.distance.Tie as tie
+use Rattle.trace.proofs.edges.distance.Statement.{statement}
+use Rattle.trace.proofs.edges.distance.Tie as tie
 
 climb-over-requires : tie.Need-climb-over-requires
 climb-over-requires c κs = search needs
