@@ -31,7 +31,7 @@ pub enum GreedyVerdict {
     Refused(Refusal),
 }
 
-// What the cone of a link says: the link is valid; and so is the one from the same start to the sample after its end.
+// What the test of a link says: it is valid; and so is the one from the same start to the sample after its end.
 pub struct Tested {
     pub valid: bool,
     pub further: bool,
