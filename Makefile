@@ -6,7 +6,8 @@ ARCHIVE = target/staticlib/libkovrelna.a
 REDUCE = target/bin/reduce
 SONAME = libkovrelna.so.$(firstword $(subst ., ,$(VERSION)))
 SHARED = target/shared/libkovrelna.so.$(VERSION)
-CARGO = cargo --quiet
+# Without make's own flags: cargo has jobs of its own.
+CARGO = env -u MAKEFLAGS -u MFLAGS cargo --quiet
 CARGO_FLAGS = --offline --locked --manifest-path bindings/rust/Cargo.toml
 C_FLAGS = -O2 -Wall -Wextra -Wpedantic -Werror -Ibindings/c
 SANITIZE = -g -fsanitize=address,undefined -fno-sanitize-recover=all
@@ -103,11 +104,13 @@ evidence: lib
 example: $(REDUCE)
 	@$(REDUCE) <examples/wave.record
 
-# Prove everything from nothing, try the edits that must fail, and run every test. The last line is rt ci's.
+# Prove everything from nothing, try the edits that must fail, and run every test, two at a time once what they test is built.
+# The last line is rt ci's.
 test:
 	@rt fmt --check
 	@$(call RT,ci); tail -n 1 "$$log" >target/verdict
-	@$(MAKE) --no-print-directory test-rust test-c test-memory test-install test-python
+	@$(MAKE) --no-print-directory --silent $(SHARED) $(REDUCE)
+	@$(MAKE) --no-print-directory --jobs=2 --output-sync=target test-rust test-c test-memory test-install test-python
 	@cat target/verdict
 
 # The Rust tests, which run the program reduce too, and the example, which prints what the C example prints.

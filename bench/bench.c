@@ -16,7 +16,7 @@
  *   peers with the set of tolerances of this number, 0 unless given, 2 and 3 with unequal parts;
  *   view_add and its peer at this k, 32 unless given, where the names with run add all samples. With
  *   PARTS the others have the unequal parts of this number, from 0 to 3, and walk's list in place of
- *   all samples. */
+ *   all samples, which judge_greedy has always. */
 #define _POSIX_C_SOURCE 199309L
 #include "kovrelna.h"
 #include "peers.h"
@@ -258,9 +258,9 @@ typedef struct summand {
   size_t kept;
 } summand;
 
-/* A kept list of a trace, its record at a tolerance and a copy of it; the measure of the link over the whole trace;
- * codes, a range table and their values; another trace with the same ticks, the sums of both and the
- * joined list. */
+/* A kept list of a trace, how many of its links come before the first that is at fault, its record at
+ * a tolerance and a copy of it; the measure of the link over the whole trace; codes, a range table and
+ * their values; another trace with the same ticks, the sums of both and the joined list. */
 typedef struct kept_record {
   const uint32_t *ticks;
   const int16_t *values;
@@ -271,7 +271,7 @@ typedef struct kept_record {
   int16_t table[CODES];
   int16_t expanded[SAMPLES];
   uint16_t list[SAMPLES];
-  size_t kept, length;
+  size_t kept, faultless, length;
   uint8_t bytes[BYTES], copy[BYTES];
   uint32_t read_ticks[SAMPLES];
   int16_t read_values[SAMPLES];
@@ -323,6 +323,19 @@ static size_t plain_judge(kept_record *r) {
   judged answer =
       judge_c(r->ticks, r->values, SAMPLES, r->list, r->kept, r->tolerance, r->gap);
   return answer.passed ? r->kept : 0;
+}
+
+/* How many links come before the first that is at fault. */
+static size_t library_judge_greedy(kept_record *r) {
+  kovrelna_judged_greedy answer = kovrelna_judge_greedy(
+      r->ticks, SAMPLES, r->values, SAMPLES, r->list, r->kept, limits_of(r->tolerance, r->gap));
+  return answer.passed ? r->kept - 1 : (size_t)answer.value;
+}
+
+static size_t plain_judge_greedy(kept_record *r) {
+  judged_greedy answer =
+      judge_greedy_c(r->ticks, r->values, SAMPLES, r->list, r->kept, r->tolerance, r->gap);
+  return answer.passed ? r->kept - 1 : answer.link;
 }
 
 static link_measure measure_from(uint64_t p, uint64_t q, uint64_t sample, uint32_t side) {
@@ -392,6 +405,8 @@ enum {
   SAME_C,
   JUDGE,
   JUDGE_C,
+  JUDGE_GREEDY,
+  JUDGE_GREEDY_C,
   MEASURE,
   MEASURE_C,
   SUM,
@@ -415,6 +430,8 @@ static const struct {
                          {"same_c", plain_same},
                          {"kovrelna_judge", library_judge},
                          {"judge_c", plain_judge},
+                         {"kovrelna_judge_greedy", library_judge_greedy},
+                         {"judge_greedy_c", plain_judge_greedy},
                          {"kovrelna_measure", library_measure},
                          {"measure_c", plain_measure},
                          {"kovrelna_sum", library_sum},
@@ -464,6 +481,7 @@ static void make_record(kept_record *r, size_t kind, parts tolerance, int all,
 /* What a call answers. */
 static size_t expected(const kept_record *r, int x) {
   if (x == WRITE || x == WRITE_C) return r->length;
+  if (x == JUDGE_GREEDY || x == JUDGE_GREEDY_C) return r->faultless;
   if (x == SUM || x == SUM_C) return r->joined_kept;
   return x >= MEASURE ? SAMPLES : r->kept;
 }
@@ -472,12 +490,22 @@ static int same_measure(const link_measure *a, const link_measure *b) {
   return a->p == b->p && a->q == b->q && a->sample == b->sample && a->side == b->side;
 }
 
-/* Lists of every second sample, every fourth, and so on, at the record's tolerance and at the
- * greatest: judge and its peer say the same of the first invalid link. */
+/* Whether judge's second question and its peer say the same of this list. */
+static int same_faults(const kept_record *r, const uint16_t *list, size_t kept, parts tolerance) {
+  kovrelna_judged_greedy a = kovrelna_judge_greedy(r->ticks, SAMPLES, r->values, SAMPLES, list, kept,
+                                                   limits_of(tolerance, r->gap));
+  judged_greedy b = judge_greedy_c(r->ticks, r->values, SAMPLES, list, kept, tolerance, r->gap);
+  return a.number == 0 && (int)a.passed == b.passed && a.value == b.link && a.fault == b.fault;
+}
+
+/* The record's list, and lists of every second sample, every fourth, and so on, at its tolerance and
+ * at the greatest: judge and its peer say the same of the first invalid link, and of the first link at
+ * fault. */
 static void same_verdicts(const kept_record *r) {
   const parts greatest = {{65535, 1}, {65535, 1}}, tolerances[] = {r->tolerance, greatest};
   uint16_t list[SAMPLES];
   size_t t, step;
+  if (!same_faults(r, r->list, r->kept, r->tolerance)) fail("judge_greedy and its peer differ");
   for (step = 2; step <= SAMPLES; step *= 2) {
     size_t kept = 0, k;
     for (k = 0; k < SAMPLES - 1; k += step) list[kept++] = (uint16_t)k;
@@ -490,6 +518,7 @@ static void same_verdicts(const kept_record *r) {
       if (a.number != 0 || (int)a.passed != b.passed || a.value != b.link ||
           !same_measure(&measure, &b.measure))
         fail("judge and its peer differ");
+      if (!same_faults(r, list, kept, tolerances[t])) fail("judge_greedy and its peer differ");
     }
   }
 }
@@ -534,6 +563,7 @@ static void measure_records(kept_record *r, size_t kind, parts tolerance, int al
   int repetition, x, k;
   make_record(r, kind, tolerance, all, plain_write);
   same_verdicts(r);
+  r->faultless = plain_judge_greedy(r);
   plain_measure(r);
   measure = r->measure;
   r->joined_kept = plain_sum(r);
@@ -571,12 +601,14 @@ static void print_records(void) {
   int x, all;
   size_t kind;
   printf("\nWalk's list and all samples at tolerance 7.50: written to a record, read, compared with a\n"
-         "copy, judged; the link from the first sample to the last measured; the trace and its list\n"
-         "added to another with such a list; and %d range codes expanded, also by a table of the\n"
-         "caller; last C that expands them by a table of its own, and the ratio of expand to it.\n"
+         "copy, judged by both questions; the link from the first sample to the last measured; the\n"
+         "trace and its list added to another with such a list; and %d range codes expanded, also by a\n"
+         "table of the caller; last C that expands them by a table of its own, and the ratio of expand\n"
+         "to it.\n"
          "Microseconds a call.\n"
          "         samples   bytes     write       C   ratio      read       C   ratio"
-         "      same       C   ratio     judge       C   ratio   measure       C   ratio"
+         "      same       C   ratio     judge       C   ratio    greedy       C   ratio"
+         "   measure       C   ratio"
          "       sum       C   ratio"
          "    expand       C   ratio  by table       C   ratio C table   ratio\n",
          SAMPLES);
@@ -592,13 +624,14 @@ static void print_records(void) {
 }
 
 static void print_unequal_records(void) {
-  static const int timed[] = {WRITE, READ, SAME, JUDGE};
+  static const int timed[] = {WRITE, READ, SAME, JUDGE, JUDGE_GREEDY};
   static kept_record r;
   size_t kind, t, x;
-  printf("\nWalk's list at unequal parts: written to a record, read, compared with a copy, judged.\n"
+  printf("\nWalk's list at unequal parts: written to a record, read, compared with a copy, judged by both\n"
+         "questions.\n"
          "Microseconds a call.\n"
          "            above   below samples   bytes     write       C   ratio      read       C   ratio"
-         "      same       C   ratio     judge       C   ratio\n");
+         "      same       C   ratio     judge       C   ratio    greedy       C   ratio\n");
   for (kind = 0; kind < COUNT(KINDS); kind++) {
     for (t = 0; t < COUNT(UNEQUAL); t++) {
       measure_records(&r, kind, UNEQUAL[t], 0);
@@ -1281,6 +1314,9 @@ static void print_unequal_summary(void) {
   measure_records(&r, 0, UNEQUAL[USUAL], 0);
   print_line("kovrelna_judge_parts", median_of(record_times[JUDGE], NULL, REPETITIONS),
              median_of(record_times[JUDGE], record_times[JUDGE_C], REPETITIONS));
+  print_line("kovrelna_judge_greedy_parts",
+             median_of(record_times[JUDGE_GREEDY], NULL, REPETITIONS),
+             median_of(record_times[JUDGE_GREEDY], record_times[JUDGE_GREEDY_C], REPETITIONS));
   print_line("kovrelna_write_parts", median_of(record_times[WRITE], NULL, REPETITIONS),
              median_of(record_times[WRITE], record_times[WRITE_C], REPETITIONS));
 }
@@ -1340,8 +1376,10 @@ int main(int argc, char **argv) {
       for (x = 0; x < REDUCERS; x++)
         if (strcmp(argv[3], REDUCER[x].name) == 0) call(x, kind, tolerance);
       for (x = 0; x < RECORDERS; x++) {
+        /* In a list of all samples a stop is soon at fault. */
+        int all = is_one(tolerance) && x != JUDGE_GREEDY && x != JUDGE_GREEDY_C;
         if (strcmp(argv[3], RECORDER[x].name) != 0) continue;
-        make_record(&record, kind, tolerance, is_one(tolerance),
+        make_record(&record, kind, tolerance, all,
                     x == WRITE_C ? library_write : plain_write);
         RECORDER[x].call(&record);
       }

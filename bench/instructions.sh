@@ -12,7 +12,7 @@ kinds="pulse noise ramp zigzag spike dropout"
 table() {
   samples=$1
   shift
-  printf '%-20s' ''
+  printf '%-21s' ''
   printf ' %10s' $kinds
   echo
   for call in "$@"; do
@@ -27,7 +27,7 @@ table() {
         view_run_c) counted=view_add_c ;;
         *) counted=$function ;;
       esac
-      printf '%-20s' "$function"
+      printf '%-21s' "$function"
       for kind in $kinds; do
         valgrind --tool=callgrind --callgrind-out-file=/dev/null --toggle-collect="$counted" \
           "$bench" once "$kind" "$function" ${each:-} ${parts:-} 2>&1 |
@@ -41,8 +41,8 @@ table() {
 bench=$1
 echo
 echo "Instructions a sample, whole call, 4096 samples, tolerance 7.50; records and lists of all samples,"
-echo "and the link from the first to the last"
-table 4096 walk gallop minimum write read same judge measure sum expand expand_with
+echo "of walk for judge_greedy, and the link from the first to the last"
+table 4096 walk gallop minimum write read same judge judge_greedy measure sum expand expand_with
 each=4096
 for parts in 1 2; do
   below="10/3"
@@ -50,7 +50,7 @@ for parts in 1 2; do
   echo
   echo "Instructions a sample, whole call, 4096 samples, 15/2 above and $below below; records and lists of"
   echo "walk; last 64 channels of so many"
-  table 4096 walk gallop minimum write judge
+  table 4096 walk gallop minimum write judge judge_greedy
   table 262144 report
 done
 parts=""

@@ -802,6 +802,55 @@ judged judge_c(const uint32_t *ticks, const int16_t *values, size_t n, const uin
   return answer;
 }
 
+/* The fault of the link from i to j, where links from i obey the gap limit before sample `past`: the
+ * cone of its samples tests its end and the sample after it. Without a sample after it that obeys the
+ * limit, the link alone is tested. */
+FOR_PARTS unsigned fault_of(const uint32_t *ticks, const int16_t *values, size_t i, size_t j,
+                            size_t past, band b) {
+  int64_t tick = ticks[i], value = values[i];
+  size_t k = i + 1;
+  sight s = sight_of(values[k] - value, ticks[k] - tick, b);
+  cone c = around(s, b);
+  if (j >= past) return FAULT_LINK;
+  if (j + 1 == past)
+    return is_within_band(ticks, values, i, j, b.up, b.down) ? FAULT_NONE : FAULT_LINK;
+  while (k < j) {
+    int64_t over, under;
+    k++;
+    s = sight_of(values[k] - value, ticks[k] - tick, b);
+    over = above(c, s), under = below(c, s);
+    if (k == j && ((over > 0) | (under > 0))) return FAULT_LINK;
+    c = narrowed(c, s, b, over, under);
+  }
+  s = sight_of(values[j + 1] - value, ticks[j + 1] - tick, b);
+  return (above(c, s) > 0) | (below(c, s) > 0) ? FAULT_NONE : FAULT_STOP;
+}
+
+FOR_PARTS judged_greedy judge_greedy_band(const uint32_t *ticks, const int16_t *values, size_t n,
+                                          const uint16_t *list, size_t kept, band b, uint32_t gap) {
+  judged_greedy answer = {0, 0, FAULT_NONE};
+  size_t hole = first_hole(ticks, 0, n - 1, gap), k;
+  for (k = 1; k < kept; k++) {
+    size_t i = list[k - 1];
+    if (i > hole) hole = first_hole(ticks, i, n - 1, gap);
+    answer.fault = fault_of(ticks, values, i, list[k], past_links(i, hole), b);
+    if (answer.fault != FAULT_NONE) {
+      answer.link = k - 1;
+      return answer;
+    }
+  }
+  answer.passed = 1;
+  return answer;
+}
+
+judged_greedy judge_greedy_c(const uint32_t *ticks, const int16_t *values, size_t n,
+                             const uint16_t *list, size_t kept, parts t, uint32_t gap) {
+  judged_greedy none = {0, 0, FAULT_NONE};
+  if (!is_trace(ticks, n) || !is_list(list, kept, n)) return none;
+  if (is_one(t)) return judge_greedy_band(ticks, values, n, list, kept, one_band(t.above), gap);
+  return judge_greedy_band(ticks, values, n, list, kept, band_of(t), gap);
+}
+
 static int16_t code_value(unsigned c) { return (int16_t)(((c % 32 + 32) << (c / 32)) - 32); }
 
 size_t expand_c(const uint8_t *codes, size_t n, int16_t *restrict values, size_t room) {

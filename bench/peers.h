@@ -167,6 +167,21 @@ typedef struct judged {
 judged judge_c(const uint32_t *ticks, const int16_t *values, size_t n, const uint16_t *list,
                size_t kept, parts t, uint32_t gap);
 
+/* The faults by the library's numbers. */
+enum { FAULT_NONE, FAULT_LINK, FAULT_STOP };
+
+/* Whether no link of the list is at fault; if one is, the position of the first and its fault, which
+ * is none if the trace or the list is refused. */
+typedef struct judged_greedy {
+  int passed;
+  size_t link;
+  unsigned fault;
+} judged_greedy;
+
+/* Judge's second question in one pass: the cone of each link tests its end and the sample after it. */
+judged_greedy judge_greedy_c(const uint32_t *ticks, const int16_t *values, size_t n,
+                             const uint16_t *list, size_t kept, parts t, uint32_t gap);
+
 /* Expands range codes: each value is worked out from its code, as the library does it, or looked up
  * in a table, which the first call fills. Returns their number, 0 if there is none, there are too many
  * or the output has no room. The output does not overlap the codes, which the library assumes too. */

@@ -110,6 +110,7 @@ def main():
         "pedestals": (f"{runs} of {samples}, factor 2", kovrelna.pedestals, *long, 7.5, 2),
         "measure": (f"a link over {len(ticks):,} samples", kovrelna.measure, *whole, 0, last),
         "judge": (listed, kovrelna.judge, *whole, kept, 7.5),
+        "judge_greedy": (listed, kovrelna.judge_greedy, *whole, kept, 7.5),
         "write": (listed, kovrelna.write, *whole, kept, 7.5),
         "sum": (summed, kovrelna.sum, *pair),
         "read": (f"a record of {len(kept)} samples", kovrelna.read, record),
@@ -127,6 +128,7 @@ def main():
             f"{CHANNELS} channels of {unequal}", kovrelna.report, *crate(*whole, 4096), parts
         ),
         "judge_parts": (listed_parts, kovrelna.judge, *whole, other_kept, parts),
+        "judge_greedy_parts": (listed_parts, kovrelna.judge_greedy, *whole, other_kept, parts),
         "write_parts": (listed_parts, kovrelna.write, *whole, other_kept, parts),
     }
     rounds = {name: [] for name in calls}

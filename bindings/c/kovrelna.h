@@ -352,6 +352,54 @@ kovrelna_judged kovrelna_judge(const uint32_t *ticks, size_t ticks_len,
                                const uint16_t *list, size_t list_len,
                                kovrelna_limits limits);
 
+/* What kovrelna_judge_greedy finds at fault: a link, which is invalid, or the stop at its end. */
+enum kovrelna_fault {
+  KOVRELNA_FAULT_NONE = 0,
+  KOVRELNA_FAULT_LINK = 1,
+  KOVRELNA_FAULT_STOP = 2
+};
+
+/* The fault in a word, for a message: "link", "stop"; "none" for a number that is no fault's. */
+static inline const char *kovrelna_fault_name(uint32_t fault) {
+  switch (fault) {
+  case KOVRELNA_FAULT_LINK:
+    return "link";
+  case KOVRELNA_FAULT_STOP:
+    return "stop";
+  default:
+    return "none";
+  }
+}
+
+/* number 0: passed is 1 for yes; value and fault are 0. Passed is 0 for no; value is the position of
+ * the first link at fault, and fault says which.
+ * Otherwise: the refusal's number and value; passed and fault are 0. */
+typedef struct kovrelna_judged_greedy {
+  uint32_t number;
+  uint32_t passed;
+  uint64_t value;
+  uint32_t fault;
+} kovrelna_judged_greedy;
+
+/* Whether every link of the proposed list is valid on this trace, and each stop but the last sample is
+ * followed by an invalid link from the same start: where a link goes from sample i to sample j, and j
+ * is not the last sample, the link from i to j+1 is invalid. Sample j+1 need not be kept. If not, the
+ * first link at fault: with KOVRELNA_FAULT_LINK if it is invalid itself, whatever the link to the next
+ * sample is, otherwise with KOVRELNA_FAULT_STOP. A no carries no measure: kovrelna_judge and
+ * kovrelna_measure give that of an invalid link.
+ *
+ * A list that passes, however it was made, has at most as many samples as any kept list of the trace
+ * that obeys the gap limit and whose links have every sample at most a above and at most b below
+ * their lines, for all fractions a and b, neither below 0, whose sum is at most the smaller of U and
+ * D. The lists of kovrelna_walk and kovrelna_gallop always pass; those of kovrelna_minimum need not. A
+ * list that passes here passes kovrelna_judge too.
+ *
+ * Refusals: 1, 2, 3, 4, 15, 6. */
+kovrelna_judged_greedy kovrelna_judge_greedy(const uint32_t *ticks, size_t ticks_len,
+                                             const int16_t *values, size_t values_len,
+                                             const uint16_t *list, size_t list_len,
+                                             kovrelna_limits limits);
+
 /* ---- Reductions ----
  *
  * Each finds a kept list of the trace. The value is the kept number, and the first that many entries

@@ -64,7 +64,7 @@ sed -n 's/`//g; s/^| \([0-9]*\) | \([^|]*\) | [^|]* |$/\1: \2/p' README.md >"$wo
 "$work/causes" | diff "$work/causes.txt" - || fail "the header has other causes than README.md"
 
 # Exported: what the header declares. Needed from outside: no allocation.
-sed -n 's/^kovrelna_[a-z]* \(kovrelna_[a-z_]*\)(.*/\1/p' "$prefix/include/kovrelna.h" | sort \
+sed -n 's/^kovrelna_[a-z_]* \(kovrelna_[a-z_]*\)(.*/\1/p' "$prefix/include/kovrelna.h" | sort \
   >"$work/declared"
 nm -D --defined-only "$prefix/lib/libkovrelna.so" | sed 's/.* //' | sort >"$work/exported"
 diff "$work/declared" "$work/exported" || fail "the header declares other calls than are exported"

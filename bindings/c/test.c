@@ -2,8 +2,8 @@
  * says what differs and returns 1.
  *
  * Contents, in order: lent lists and where they are placed; the table of calls; cases of each call;
- * empty lists; the longest trace, scan, view, sum, crate and pedestal runs; the version, and causes
- * and sides in words.
+ * empty lists; the longest trace, scan, view, sum, crate and pedestal runs; the version, and causes,
+ * sides and faults in words.
  *
  * Each case is called once in every placement of its lists: against a page that cannot be read or
  * written, between guard bytes, and at exact size on the heap. Where the program is built with
@@ -187,12 +187,13 @@ static void take_back(struct list *list, enum placement placement) {
 /* The answer of any call; fields that it does not have are 0. */
 struct answer {
   uint32_t number;
-  uint64_t value, passed, probes, p, q, samples, kept, moved, noisy, sample, side, below_p, below_q;
+  uint64_t value, passed, probes, p, q, samples, kept, moved, noisy, sample, side, below_p, below_q,
+      fault;
 };
 
 /* Number and value; all else is 0. */
 static struct answer answered(uint32_t number, uint64_t value) {
-  struct answer answer = {number, value, 0, 0, 0, 0, 0, 0, 0, 0, 0, 0, 0, 0};
+  struct answer answer = {number, value, 0, 0, 0, 0, 0, 0, 0, 0, 0, 0, 0, 0, 0};
   return answer;
 }
 
@@ -225,6 +226,12 @@ static struct answer with_measure(uint32_t number, uint64_t value, uint64_t p, u
   return answer;
 }
 
+static struct answer with_fault(uint64_t link, uint64_t fault) {
+  struct answer answer = answered(0, link);
+  answer.fault = fault;
+  return answer;
+}
+
 static struct answer plain(kovrelna_answer from) { return answered(from.number, from.value); }
 
 #define U8(k) (uint8_t *)lists[k].first, lists[k].len
@@ -247,6 +254,15 @@ static struct answer call_judge(const struct list *lists, kovrelna_limits limits
   struct answer answer =
       with_measure(from.number, from.value, from.p, from.q, from.sample, from.side);
   answer.passed = from.passed;
+  (void)place;
+  return answer;
+}
+
+static struct answer call_judge_greedy(const struct list *lists, kovrelna_limits limits,
+                                       size_t place) {
+  kovrelna_judged_greedy from = kovrelna_judge_greedy(U32(0), I16(1), U16(2), limits);
+  struct answer answer = with_passed(from.number, from.value, from.passed);
+  answer.fault = from.fault;
   (void)place;
   return answer;
 }
@@ -421,6 +437,7 @@ static int is_state(const struct parameter *parameter) {
 enum {
   MEASURE_CALL,
   JUDGE_CALL,
+  JUDGE_GREEDY,
   WALK,
   GALLOP,
   MINIMUM,
@@ -446,55 +463,58 @@ static const struct call {
 } calls[] = {
     {"measure", call_measure, 2,
      {IN(uneven, 1, 0), IN(step, 1, 0)},
-     {0, 0, 0, 0, 2, 3, 0, 0, 0, 0, 1, KOVRELNA_SIDE_ABOVE, 0, 0}},
+     {0, 0, 0, 0, 2, 3, 0, 0, 0, 0, 1, KOVRELNA_SIDE_ABOVE, 0, 0, 0}},
     {"judge", call_judge, 3,
      {IN(uneven, 1, 0), IN(step, 1, 0), IN(pair, 6, 0)},
-     {0, 0, 1, 0, 0, 0, 0, 0, 0, 0, 0, 0, 0, 0}},
+     {0, 0, 1, 0, 0, 0, 0, 0, 0, 0, 0, 0, 0, 0, 0}},
+    {"judge_greedy", call_judge_greedy, 3,
+     {IN(uneven, 1, 0), IN(step, 1, 0), IN(pair, 6, 0)},
+     {0, 0, 1, 0, 0, 0, 0, 0, 0, 0, 0, 0, 0, 0, 0}},
     {"walk", call_walk, 3,
      {IN(uneven, 1, 0), IN(step, 1, 0), OUT(3, pair, 10, 3)},
-     {0, 2, 0, 0, 0, 0, 0, 0, 0, 0, 0, 0, 0, 0}},
+     {0, 2, 0, 0, 0, 0, 0, 0, 0, 0, 0, 0, 0, 0, 0}},
     {"gallop", call_gallop, 3,
      {IN(uneven, 1, 0), IN(step, 1, 0), OUT(3, pair, 10, 3)},
-     {0, 2, 0, 3, 0, 0, 0, 0, 0, 0, 0, 0, 0, 0}},
+     {0, 2, 0, 3, 0, 0, 0, 0, 0, 0, 0, 0, 0, 0, 0}},
     {"minimum", call_minimum, 3,
      {IN(uneven, 1, 0), IN(step, 1, 0), OUT(3, pair, 10, 3)},
-     {0, 2, 0, 0, 0, 0, 0, 0, 0, 0, 0, 0, 0, 0}},
+     {0, 2, 0, 0, 0, 0, 0, 0, 0, 0, 0, 0, 0, 0, 0}},
     {"least", call_least, 3,
      {IN(uneven, 1, 0), IN(step, 1, 0), OUT(3, pair, 10, 3)},
-     {0, 2, 0, 0, 2, 3, 0, 0, 0, 0, 0, 0, 0, 0}},
+     {0, 2, 0, 0, 2, 3, 0, 0, 0, 0, 0, 0, 0, 0, 0}},
     {"scan", call_scan, 3,
      {IN(uneven, 1, 0), IN(step, 1, 0), OUT(3, pair, 10, 3)},
-     {0, 0, 0, 0, 0, 0, 0, 2, 0, 0, 0, 0, 0, 0}},
+     {0, 0, 0, 0, 0, 0, 0, 2, 0, 0, 0, 0, 0, 0, 0}},
     {"view_add", call_view_add, 3,
      {STATE(view_before, view_with), IN(uneven, 1, 0), IN(step, 1, 0)},
-     {0, 0, 0, 0, 0, 0, 0, 0, 0, 0, 0, 0, 0, 0}},
+     {0, 0, 0, 0, 0, 0, 0, 0, 0, 0, 0, 0, 0, 0, 0}},
     {"sum", call_sum, 8,
      {IN(uneven, 1, 0), IN(step, 1, 0), IN(uneven, 1, 0), IN(other_step, 1, 0), IN(pair, 6, 0),
       IN(pair, 6, 0), OUT(3, both_steps, 10, 3), OUT(3, pair, 10, 3)},
-     {0, 2, 0, 0, 0, 0, 0, 0, 0, 0, 0, 0, 0, 0}},
+     {0, 2, 0, 0, 0, 0, 0, 0, 0, 0, 0, 0, 0, 0, 0}},
     {"expand", call_expand, 2,
      {IN(some_codes, 1, 0), OUT(5, code_values, 10, 5)},
-     {0, 5, 0, 0, 0, 0, 0, 0, 0, 0, 0, 0, 0, 0}},
+     {0, 5, 0, 0, 0, 0, 0, 0, 0, 0, 0, 0, 0, 0, 0}},
     {"expand_with", call_expand_with, 3,
      {IN(some_codes, 1, 0), IN(own_table, 12, 0), OUT(5, own_values, 10, 5)},
-     {0, 5, 0, 0, 0, 0, 0, 0, 0, 0, 0, 0, 0, 0}},
+     {0, 5, 0, 0, 0, 0, 0, 0, 0, 0, 0, 0, 0, 0, 0}},
     {"write", call_write, 4,
      {IN(uneven, 1, 0), IN(step, 1, 0), IN(pair, 6, 0),
       OUT(22, figure, 10, 22)},
-     {0, 22, 0, 0, 0, 0, 0, 0, 0, 0, 0, 0, 0, 0}},
+     {0, 22, 0, 0, 0, 0, 0, 0, 0, 0, 0, 0, 0, 0, 0}},
     {"read", call_read, 3,
      {IN(figure, 8, 0), OUT(2, kept_ticks, 10, 2), OUT(2, kept_values, 10, 2)},
-     {0, 2, 0, 0, 2, 3, 0, 0, 0, 0, 0, 0, 2, 3}},
+     {0, 2, 0, 0, 2, 3, 0, 0, 0, 0, 0, 0, 2, 3, 0}},
     {"same", call_same, 2,
      {IN(figure, 8, 0), IN(figure, 9, 0)},
-     {0, 0, 1, 0, 0, 0, 0, 0, 0, 0, 0, 0, 0, 0}},
+     {0, 0, 1, 0, 0, 0, 0, 0, 0, 0, 0, 0, 0, 0, 0}},
     {"report", call_report, 4,
      {IN(uneven, 11, 0), IN(step, 11, 0), IN(one_length, 11, 0), OUT(1, one_row, 10, 1)},
-     {0, 0, 0, 0, 2, 3, 3, 2, 0, 0, 0, 0, 0, 0}},
+     {0, 0, 0, 0, 2, 3, 3, 2, 0, 0, 0, 0, 0, 0, 0}},
     {"pedestals", call_pedestals, 8,
      {IN(four_each, 11, 0), IN(today, 11, 0), IN(fours, 11, 0), IN(four_each, 11, 0),
       IN(before, 11, 0), IN(fours, 11, 0), OUT(3, channel_0, 10, 3), OUT(3, channel_1, 10, 3)},
-     {0, 0, 0, 0, 0, 0, 0, 0, 1, 1, 0, 0, 0, 0}},
+     {0, 0, 0, 0, 0, 0, 0, 0, 1, 1, 0, 0, 0, 0, 0}},
 };
 
 /* Makes the call in every placement, with these limits, and this place, allowance or noise factor:
@@ -524,6 +544,7 @@ static void run(int line, int which, struct list *lists, kovrelna_limits limits,
     differ("side", answer.side, expected.side);
     differ("below_p", answer.below_p, expected.below_p);
     differ("below_q", answer.below_q, expected.below_q);
+    differ("fault", answer.fault, expected.fault);
     for (k = 0; k < call->lists; k++) take_back(&lists[k], (enum placement)placement);
   }
 }
@@ -607,14 +628,24 @@ static void measure(int line, const uint32_t *ticks, size_t ticks_len, const int
 #define NO_MEASURE(ticks, values, i, j, number, value)                                            \
   measure(__LINE__, ticks, COUNT(ticks), values, COUNT(values), i, j, answered(number, value))
 
-static void judge(int line, const uint32_t *ticks, size_t ticks_len, const int16_t *values,
-                  size_t values_len, const uint16_t *list, size_t list_len, kovrelna_limits limits,
-                  struct answer expected) {
+/* One of judge's two questions. */
+static void ask(int line, int which, const uint32_t *ticks, size_t ticks_len, const int16_t *values,
+                size_t values_len, const uint16_t *list, size_t list_len, kovrelna_limits limits,
+                struct answer expected) {
   struct list lists[3];
   lists[0] = input(ticks, ticks_len, sizeof(uint32_t));
   lists[1] = input(values, values_len, sizeof(int16_t));
   lists[2] = input(list, list_len, sizeof(uint16_t));
-  run(line, JUDGE_CALL, lists, limits, 0, expected);
+  run(line, which, lists, limits, 0, expected);
+}
+
+/* The second question is refused as the first is. */
+static void judge(int line, const uint32_t *ticks, size_t ticks_len, const int16_t *values,
+                  size_t values_len, const uint16_t *list, size_t list_len, kovrelna_limits limits,
+                  struct answer expected) {
+  int which, last = expected.number != 0 ? JUDGE_GREEDY : JUDGE_CALL;
+  for (which = JUDGE_CALL; which <= last; which++)
+    ask(line, which, ticks, ticks_len, values, values_len, list, list_len, limits, expected);
 }
 
 /* The list passes, or is refused. */
@@ -626,6 +657,16 @@ static void judge(int line, const uint32_t *ticks, size_t ticks_len, const int16
 #define STRAYS(ticks, values, list, limits, link, p, q, sample, side)                             \
   judge(__LINE__, ticks, COUNT(ticks), values, COUNT(values), list, COUNT(list), limits,          \
         with_measure(0, link, p, q, sample, side))
+
+/* The list passes the second question. */
+#define GREEDY(ticks, values, list, limits)                                                       \
+  ask(__LINE__, JUDGE_GREEDY, ticks, COUNT(ticks), values, COUNT(values), list, COUNT(list),      \
+      limits, with_passed(0, 0, 1))
+
+/* The first link at fault, and its fault. */
+#define AT_FAULT(ticks, values, list, limits, link, fault)                                        \
+  ask(__LINE__, JUDGE_GREEDY, ticks, COUNT(ticks), values, COUNT(values), list, COUNT(list),      \
+      limits, with_fault(link, fault))
 
 /* The sum over the list's stops of 2 floor(log2 r) + 1, where a stop advances by r samples. */
 static uint64_t list_probes(const uint16_t *list, size_t len) {
@@ -639,7 +680,8 @@ static uint64_t list_probes(const uint16_t *list, size_t len) {
   return total;
 }
 
-/* With number 0 the method writes the list, which has `value` entries. */
+/* With number 0 the method writes the list, which has `value` entries; walk's and gallop's pass the
+ * second question. */
 static void reduce(int line, int method, const uint32_t *ticks, size_t ticks_len,
                    const int16_t *values, size_t values_len, kovrelna_limits limits, size_t out_len,
                    uint32_t number, uint64_t value, uint64_t probes, const uint16_t *list) {
@@ -653,6 +695,9 @@ static void reduce(int line, int method, const uint32_t *ticks, size_t ticks_len
   run(line, method, lists, limits, 0, expected);
   if (method == GALLOP && number == 0)
     differ("probes of the list", probes, list_probes(list, (size_t)value));
+  if (method != MINIMUM && number == 0)
+    ask(line, JUDGE_GREEDY, ticks, ticks_len, values, values_len, list, (size_t)value, limits,
+        with_passed(0, 0, 1));
 }
 
 #define REDUCE(method, ticks, values, limits, out_len, probes, list)                              \
@@ -1281,6 +1326,63 @@ static void lists(void) {
   STRAYS(even, wave, three, within_ratio(1, 1), 2, 2, 1, 3, KOVRELNA_SIDE_BELOW);
   JUDGE(uneven, step, pair, within_ratio(4, 6), 0, 1, 0);
   STRAYS(uneven, step, pair, within_ratio(665, 1000), 0, 2, 3, 1, KOVRELNA_SIDE_ABOVE);
+}
+
+/* Judge's second question: document 02's figures, each fault, the first of several, parts, gap limits
+ * and the shortest traces. */
+static void greedy_lists(void) {
+  const uint32_t even[] = {0, 1, 2, 3, 4}, seven[] = {0, 1, 2, 3, 4, 5, 6},
+                 hole[] = {0, 1, 2, 10, 11, 12}, apart[] = {0, 1048575};
+  const int16_t zigzag[] = {0, 3, 0, 3, 0}, wave[] = {0, 2, 0, -2, 0}, rise[] = {-2, 0, 2, 2, 0},
+                other[] = {2, -2, -1, 0, -2, 2, -1}, level[] = {0, 0, 0, 0, 0, 0},
+                steps[] = {0, 0, 0, 9, 9, 9, 0}, steep[] = {-32768, 32767};
+  const uint16_t all[] = {0, 1, 2, 3, 4}, ends[] = {0, 4}, late[] = {0, 3, 4}, middle[] = {0, 2, 4},
+                 early[] = {0, 1, 4}, three[] = {0, 1, 2, 4}, inner[] = {0, 1, 3, 4},
+                 last[] = {0, 2, 3, 4}, walked[] = {0, 2, 6}, galloped[] = {0, 4, 5, 6},
+                 sides[] = {0, 2, 3, 5}, cut[] = {0, 2, 3, 4, 5}, across[] = {0, 2, 5},
+                 across_first[] = {0, 3, 5}, hole_ends[] = {0, 5}, kept[] = {0, 2, 3, 5, 6},
+                 cut_first[] = {0, 1, 3, 5, 6}, cut_later[] = {0, 2, 3, 4, 6},
+                 joined[] = {0, 2, 3, 6}, both[] = {0, 1};
+  kovrelna_limits two = within_ratio(2, 1), zero = within_ratio(0, 1);
+
+  GREEDY(even, zigzag, all, two);
+  GREEDY(even, zigzag, late, two);
+  GREEDY(even, zigzag, early, two);
+  AT_FAULT(even, zigzag, ends, two, 0, KOVRELNA_FAULT_LINK);
+  AT_FAULT(even, zigzag, three, two, 2, KOVRELNA_FAULT_LINK);
+  GREEDY(even, wave, middle, two);
+  GREEDY(even, wave, ends, two);
+  AT_FAULT(even, wave, early, two, 0, KOVRELNA_FAULT_STOP);
+  AT_FAULT(even, wave, last, two, 1, KOVRELNA_FAULT_STOP);
+  /* An invalid link is named, though the link to the next sample is valid. */
+  AT_FAULT(even, wave, late, two, 0, KOVRELNA_FAULT_LINK);
+  /* The next sample, not the next kept one. */
+  AT_FAULT(even, rise, inner, within_ratio(1, 1), 0, KOVRELNA_FAULT_STOP);
+  GREEDY(even, rise, middle, within_ratio(1, 1));
+  /* Gallop's list has more samples than walk's. */
+  GREEDY(seven, other, walked, within_ratio(3, 1));
+  GREEDY(seven, other, galloped, within_ratio(3, 1));
+  /* Of several faults the first. */
+  GREEDY(seven, steps, kept, zero);
+  AT_FAULT(seven, steps, cut_first, zero, 0, KOVRELNA_FAULT_STOP);
+  AT_FAULT(seven, steps, cut_later, zero, 2, KOVRELNA_FAULT_STOP);
+  AT_FAULT(seven, steps, joined, zero, 2, KOVRELNA_FAULT_LINK);
+  /* Each part on its own side. */
+  GREEDY(even, wave, last, within_parts(2, 1, 1, 1));
+  AT_FAULT(even, wave, last, within_parts(1, 1, 2, 1), 0, KOVRELNA_FAULT_LINK);
+  GREEDY(even, wave, inner, within_parts(1, 1, 2, 1));
+  AT_FAULT(even, wave, inner, within_parts(2, 1, 1, 1), 0, KOVRELNA_FAULT_STOP);
+  /* A hole ends a stop. */
+  GREEDY(hole, level, sides, within_gap(0, 7));
+  AT_FAULT(hole, level, sides, within_gap(0, 8), 0, KOVRELNA_FAULT_STOP);
+  AT_FAULT(hole, level, cut, within_gap(0, 7), 2, KOVRELNA_FAULT_STOP);
+  AT_FAULT(hole, level, across, within_gap(0, 7), 1, KOVRELNA_FAULT_LINK);
+  AT_FAULT(hole, level, across_first, within_gap(0, 7), 0, KOVRELNA_FAULT_LINK);
+  AT_FAULT(hole, level, hole_ends, within_gap(0, 7), 0, KOVRELNA_FAULT_LINK);
+  GREEDY(hole, level, hole_ends, within_gap(0, 8));
+  /* Two samples, and one. */
+  GREEDY(apart, steep, both, within_gap(0, 1));
+  ask(__LINE__, JUDGE_GREEDY, even, 1, wave, 1, all, 1, within_gap(0, 1), with_passed(0, 0, 1));
 }
 
 static void reductions(void) {
@@ -2613,6 +2715,12 @@ static void layouts(void) {
   differ("q", offsetof(kovrelna_judged, q), 24);
   differ("sample", offsetof(kovrelna_judged, sample), 32);
   differ("side", offsetof(kovrelna_judged, side), 40);
+  now_name = "layout of what judge_greedy says";
+  differ("size", sizeof(kovrelna_judged_greedy), 24);
+  differ("number", offsetof(kovrelna_judged_greedy, number), 0);
+  differ("passed", offsetof(kovrelna_judged_greedy, passed), 4);
+  differ("value", offsetof(kovrelna_judged_greedy, value), 8);
+  differ("fault", offsetof(kovrelna_judged_greedy, fault), 16);
   now_name = "layout of a view";
   differ("size", sizeof(kovrelna_view), 140);
   differ("k", offsetof(kovrelna_view, k), 0);
@@ -2895,8 +3003,9 @@ static uint32_t place_of(uint32_t number) {
 
 /* Whether the call takes a tolerance. */
 static int takes_tolerance(size_t which) {
-  return which == JUDGE_CALL || which == WALK || which == GALLOP || which == MINIMUM ||
-         which == SCAN || which == WRITE_CALL || which == REPORT || which == PEDESTALS;
+  return which == JUDGE_CALL || which == JUDGE_GREEDY || which == WALK || which == GALLOP ||
+         which == MINIMUM || which == SCAN || which == WRITE_CALL || which == REPORT ||
+         which == PEDESTALS;
 }
 
 /* Each set of a call's lists is empty in turn, its states aside: the first of their refusals
@@ -2952,7 +3061,7 @@ static void longest(void) {
   const uint16_t ends[] = {0, SAMPLES - 1};
   static uint32_t ticks[SAMPLES];
   static int16_t values[SAMPLES];
-  static uint16_t all[SAMPLES];
+  static uint16_t all[SAMPLES], but_one[SAMPLES - 1];
   static uint8_t record[BYTES], longer[MOST];
   static const uint8_t two_parts[17] = {0x42, 0, 0, 0, 0, 0, 0, 0, 1, 0, 0, 0, 0, 1, 0, 0, 1};
   kovrelna_limits zero = within_ratio(0, 1), unequal = within_parts(0, 1, 1, 1);
@@ -2963,6 +3072,8 @@ static void longest(void) {
     values[k] = (int16_t)(k % 2 * 10000);
     all[k] = (uint16_t)k;
   }
+  memcpy(but_one, all, sizeof(but_one));
+  but_one[SAMPLES - 2] = SAMPLES - 1;
   /* As far above the line at sample 1 as below it at the last but one. */
   MEASURE(ticks, values, 0, SAMPLES - 1, 8188000, 819, 1, KOVRELNA_SIDE_ABOVE);
   MEASURE(ticks, values, 1, SAMPLES - 2, 40920000, 4093, 2, KOVRELNA_SIDE_BELOW);
@@ -2970,6 +3081,10 @@ static void longest(void) {
   NO_MEASURE(ticks, values, SAMPLES - 1, SAMPLES, KOVRELNA_REFUSED_LIST, 1);
   STRAYS(ticks, values, ends, within_ratio(9997, 1), 0, 8188000, 819, 1, KOVRELNA_SIDE_ABOVE);
   JUDGE(ticks, values, all, zero, 0, 1, 0);
+  AT_FAULT(ticks, values, ends, within_ratio(9997, 1), 0, KOVRELNA_FAULT_LINK);
+  AT_FAULT(ticks, values, all, within_ratio(10000, 1), 0, KOVRELNA_FAULT_STOP);
+  AT_FAULT(ticks, values, but_one, zero, SAMPLES - 3, KOVRELNA_FAULT_LINK);
+  GREEDY(ticks, values, ends, within_ratio(10000, 1));
   REDUCE(WALK, ticks, values, zero, SAMPLES, 0, all);
   REDUCE(GALLOP, ticks, values, zero, SAMPLES, SAMPLES - 1, all);
   REDUCE(MINIMUM, ticks, values, zero, SAMPLES, 0, all);
@@ -3154,13 +3269,15 @@ static void longest_runs(void) {
   NOT_COMPARED(longer, longer, kovrelna_ratio(0, 1), 1, KOVRELNA_REFUSED_LENGTH, 1);
 }
 
-/* The version's numbers are those of its text. Every cause has words of its own. Every side has its
- * word. */
+/* The version's numbers are those of its text. Every cause has words of its own. Every side and every
+ * fault has its word. */
 static void words(void) {
   static const char *const sides[] = {"on", "above", "below", "gap", "none", "none"};
+  static const char *const faults[] = {"none", "link", "stop", "none"};
   /* By pointers that no compiler sees through, since some warn of words that always differ. */
   const char *(*volatile cause)(uint32_t) = kovrelna_cause;
   const char *(*volatile side)(uint32_t) = kovrelna_side_name;
+  const char *(*volatile fault)(uint32_t) = kovrelna_fault_name;
   char version[40];
   uint32_t number, other;
   now_name = "version";
@@ -3179,6 +3296,10 @@ static void words(void) {
   for (number = 0; number < COUNT(sides); number++)
     differ("its word", strcmp(side(number), sides[number]) != 0, 0);
   differ("no side", strcmp(side(UINT32_MAX), "none") != 0, 0);
+  now_name = "fault";
+  for (number = 0; number < COUNT(faults); number++)
+    differ("its word", strcmp(fault(number), faults[number]) != 0, 0);
+  differ("no fault", strcmp(fault(UINT32_MAX), "none") != 0, 0);
 }
 
 int main(void) {
@@ -3189,6 +3310,7 @@ int main(void) {
   links();
   no_links();
   lists();
+  greedy_lists();
   reductions();
   refusals();
   least_errors();

@@ -4,6 +4,8 @@
 - `GAP_MAX`: the largest gap limit, which is none.
 - `Measure`, `measure`: a link's error, and the first sample where it occurs.
 - `Verdict`, `judge`: whether every link of a proposed list is valid.
+- `GreedyVerdict`, `judge_greedy`: whether the size bound of `walk` and `gallop` holds of a proposed
+  list too.
 - `walk`, `Galloped`, `gallop`, `minimum`: kept lists with every link valid.
 - `Least`, `least`: the least error that so many samples allow.
 - `scan`: what `walk` keeps at each of several tolerances, in one pass.
@@ -89,6 +91,7 @@ __all__ = [
     "Counts",
     "GAP_MAX",
     "Galloped",
+    "GreedyVerdict",
     "Least",
     "Measure",
     "Noise",
@@ -108,6 +111,7 @@ __all__ = [
     "gallop",
     "hold",
     "judge",
+    "judge_greedy",
     "least",
     "measure",
     "minimum",
@@ -296,6 +300,26 @@ class Verdict:
         return self.passed
 
 
+def _judge(
+    call: Any,
+    ticks: Lent,
+    values: Lent,
+    proposed: Lent,
+    tolerance: Tolerance,
+    gap: SupportsIndex,
+) -> Any:
+    """The answer of a call that judges a proposed list."""
+    with Loan() as loan:
+        answer = call(
+            *loan.input("ticks", ticks, TICK),
+            *loan.input("values", values, VALUE),
+            *loan.input("proposed", proposed, ENTRY),
+            _limits(tolerance, gap),
+        )
+        _check(answer, loan, most=_SAMPLES, tolerance=tolerance, gap=gap)
+    return answer
+
+
 def judge(
     ticks: Lent,
     values: Lent,
@@ -328,15 +352,66 @@ def judge(
     >>> judge(range(4), [1, 0, 1, -1], [0, 3], Parts(above=5, below=0)).measure
     Measure(error=Fraction(4, 3), sample=2, side='above')
     """
-    with Loan() as loan:
-        answer = _library.judge(
-            *loan.input("ticks", ticks, TICK),
-            *loan.input("values", values, VALUE),
-            *loan.input("proposed", proposed, ENTRY),
-            _limits(tolerance, gap),
-        )
-        _check(answer, loan, most=_SAMPLES, tolerance=tolerance, gap=gap)
+    answer = _judge(_library.judge, ticks, values, proposed, tolerance, gap)
     return Verdict(True, None) if answer.passed else Verdict(False, answer.value, _measure(answer))
+
+
+# The faults by their numbers.
+_FAULTS: Tuple[Optional[str], ...] = (None, "link", "stop")
+
+
+@dataclass(frozen=True)
+class GreedyVerdict:
+    """What `judge_greedy` says of a kept list. True exactly if it has passed."""
+
+    passed: bool
+    """Whether no link is at fault."""
+    link: Optional[int]
+    """The position of the first link at fault, counted from 0, if there is one."""
+    fault: Optional[str]
+    """Its fault, if there is one: "link" if it is invalid; "stop" if it is valid, does not end at the
+    last sample, and the link from the same start to the sample after its end is valid too."""
+
+    def __bool__(self) -> bool:
+        return self.passed
+
+
+def judge_greedy(
+    ticks: Lent,
+    values: Lent,
+    proposed: Lent,
+    tolerance: Tolerance,
+    *,
+    gap: SupportsIndex = GAP_MAX,
+) -> GreedyVerdict:
+    """Whether every link of the proposed list is valid on this trace, and each stop but the last
+    sample is followed by an invalid link from the same start: where a link goes from sample i to
+    sample j, and j is not the last sample, the link from i to j+1 is invalid. Sample j+1 need not be
+    kept. If not, the position of the first link at fault comes with its fault; an invalid link is
+    named as such, whatever the link to the next sample is. A no carries no measure: `judge` and
+    `measure` give that of an invalid link. Refusals: 1, 2, 3, 4, 15, 6.
+
+    A list that passes, however it was made, has at most as many samples as any kept list that obeys
+    the gap limit and whose links have every sample at most a above and at most b below their lines,
+    for all fractions a and b, neither below 0, whose sum is at most the smaller of U and D. With equal
+    parts, and a and b each half of them: at most as many as any kept list whose links are all valid
+    at half the tolerance under the same gap limit. The lists of `walk` and `gallop` always pass; those
+    of `minimum` need not. A list that passes here passes `judge` too.
+
+    >>> ticks, wave = range(5), [0, 2, 0, -2, 0]
+    >>> judge_greedy(ticks, wave, [0, 2, 4], 2)
+    GreedyVerdict(passed=True, link=None, fault=None)
+
+    The link from 0 to 1 is valid, and so is the one from 0 to 2; that from 0 to 3 is not:
+
+    >>> judge_greedy(ticks, wave, [0, 1, 4], 2)
+    GreedyVerdict(passed=False, link=0, fault='stop')
+    >>> judge_greedy(ticks, wave, [0, 3, 4], 2)
+    GreedyVerdict(passed=False, link=0, fault='link')
+    """
+    answer = _judge(_library.judge_greedy, ticks, values, proposed, tolerance, gap)
+    link = None if answer.passed else answer.value
+    return GreedyVerdict(bool(answer.passed), link, _FAULTS[answer.fault])
 
 
 def _reduce(

@@ -84,6 +84,15 @@ class Judged(Structure):
     ]
 
 
+class JudgedGreedy(Structure):
+    _fields_ = [
+        ("number", c_uint32),
+        ("passed", c_uint32),
+        ("value", c_uint64),
+        ("fault", c_uint32),
+    ]
+
+
 class Verdict(Structure):
     _fields_ = [("number", c_uint32), ("passed", c_uint32), ("value", c_uint64)]
 
@@ -175,6 +184,7 @@ def _declare(name: str, answer: Type[Structure], *parameters: Any) -> Any:
 hold = _declare("hold", Held, Tolerance)
 measure = _declare("measure", Measured, *_LIST, *_LIST, c_size_t, c_size_t)
 judge = _declare("judge", Judged, *_LIST, *_LIST, *_LIST, Limits)
+judge_greedy = _declare("judge_greedy", JudgedGreedy, *_LIST, *_LIST, *_LIST, Limits)
 walk = _declare("walk", Answer, *_LIST, *_LIST, Limits, *_LIST)
 gallop = _declare("gallop", Galloped, *_LIST, *_LIST, Limits, *_LIST)
 minimum = _declare("minimum", Answer, *_LIST, *_LIST, Limits, *_LIST)

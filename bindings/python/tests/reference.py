@@ -1,11 +1,11 @@
-"""The slow reference: document 01 and wishes 1, 3, 4, 6 to 8 and 10 to 12 of document 02 once more,
+"""The slow reference: document 01 and wishes 1, 3, 4, 6 to 8 and 10 to 13 of document 02 once more,
 with fractions, clear before fast. It knows nothing of the library that is compared with it.
 
 - `Refused`: a row of the table of refusals.
 - `held`: a tolerance, as the part above and the part below. Its forms are ("ratio", p, q),
   ("counts", x), ("noise", noise, multiple) and ("parts", p, q, below_p, below_q).
-- `measure`, `judge`, `walk`, `gallop`, `minimum`, `least`, `report`, `pedestals`, `expand`,
-  `expand_with`, `write`, `read`, `same`: the calls.
+- `measure`, `judge`, `judge_greedy`, `walk`, `gallop`, `minimum`, `least`, `report`, `pedestals`,
+  `expand`, `expand_with`, `write`, `read`, `same`: the calls.
 - `scan`, `closed`: the call; what it has kept after a sample.
 - `view_begin`, `view_add`: the calls of a view, whose state is k and its list; `least_error`: the
   least error with at most so many inner samples.
@@ -156,15 +156,32 @@ def check_list(kept, samples):
         raise Refused(6, len(kept))
 
 
-def judge(ticks, values, proposed, tolerance, gap):
-    """The position of the first invalid link and its measure, or None."""
+def check_proposed(ticks, values, proposed, tolerance, gap):
+    """The rows of a call that judges a list; the parts of the tolerance."""
     check_trace(ticks, values)
     parts = held(tolerance)
     check_gap(gap)
     check_list(proposed, len(ticks))
+    return parts
+
+
+def judge(ticks, values, proposed, tolerance, gap):
+    """The position of the first invalid link and its measure, or None."""
+    parts = check_proposed(ticks, values, proposed, tolerance, gap)
     for position, link in enumerate(zip(proposed, proposed[1:])):
         if not valid(ticks, values, link, parts, gap):
             return position, strayed(ticks, values, *link, parts, gap)
+    return None
+
+
+def judge_greedy(ticks, values, proposed, tolerance, gap):
+    """The position of the first link at fault and its fault, or None."""
+    parts = check_proposed(ticks, values, proposed, tolerance, gap)
+    for position, (i, j) in enumerate(zip(proposed, proposed[1:])):
+        if not valid(ticks, values, [i, j], parts, gap):
+            return position, "link"
+        if j != len(ticks) - 1 and valid(ticks, values, [i, j + 1], parts, gap):
+            return position, "stop"
     return None
 
 

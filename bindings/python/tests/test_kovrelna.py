@@ -29,7 +29,8 @@ from unittest import mock
 
 import kovrelna
 import reference
-from kovrelna import GAP_MAX, Counts, Measure, Noise, Parts, Ratio, Refusal, Run, Verdict, View
+from kovrelna import GAP_MAX, Counts, GreedyVerdict, Measure, Noise, Parts, Ratio, Refusal, Run
+from kovrelna import Verdict, View
 
 try:
     import numpy
@@ -43,6 +44,7 @@ RECORD = bytes.fromhex("54 00 00 00 00 02 00 00 03 41 00 00 00 00 00 00 53 03 01
 # That record with another part below: 2/3 above and 1 below.
 TWO_PARTS = bytes.fromhex("42 00 00 00 00 02 00 00 03 00 00 00 00 01 00 00 01") + RECORD[9:]
 REDUCTIONS = (kovrelna.walk, kovrelna.gallop, kovrelna.minimum)
+JUDGES = (kovrelna.judge, kovrelna.judge_greedy)
 # Parts of which the one above is not allowed, and of which the one below is not.
 NO_PART = [Ratio(0, 0), Ratio(1, 0), -1, 65536, Fraction(1, 1048576), 2**64, Ratio(2**64, 2**64)]
 NO_PARTS = [Parts(part, 1) for part in NO_PART] + [Parts(1, part) for part in NO_PART]
@@ -264,7 +266,7 @@ class Figures(Case):
     def test_no_gap_limit(self):
         """The largest is the default, and crosses whatever there is."""
         self.assertEqual(GAP_MAX, 1048575)
-        calls = REDUCTIONS + (kovrelna.least, kovrelna.judge, kovrelna.write, kovrelna.report)
+        calls = REDUCTIONS + JUDGES + (kovrelna.least, kovrelna.write, kovrelna.report)
         for call in calls + (kovrelna.check,):
             gap = inspect.signature(call).parameters["gap"]
             self.assertEqual((gap.kind, gap.default), (gap.KEYWORD_ONLY, GAP_MAX))
@@ -367,6 +369,47 @@ class Figures(Case):
         ]:
             found = kovrelna.judge(ticks, flat, proposed, 0, gap=gap)
             self.assertEqual((found.link, found.measure), (link, (0, sample, "gap")))
+
+    def test_greedy_lists(self):
+        """Each fault, the first of several, parts and gap limits; the next sample, not the next kept
+        one; an invalid link is named, though the one to the next sample is valid."""
+        rise, more, flat = [-2, 0, 2, 2, 0], [2, -2, -1, 0, -2, 2, -1], [0] * 6
+        steps = [0, 0, 0, 9, 9, 9, 0]
+        for ticks, values, proposed, tolerance, gap, link, fault in [
+            (EVEN, ZIGZAG, EVEN, 2, GAP_MAX, None, None),
+            (EVEN, ZIGZAG, [0, 3, 4], 2, GAP_MAX, None, None),
+            (EVEN, ZIGZAG, [0, 1, 4], 2, GAP_MAX, None, None),
+            (EVEN, ZIGZAG, [0, 4], 2, GAP_MAX, 0, "link"),
+            (EVEN, ZIGZAG, [0, 1, 2, 4], 2, GAP_MAX, 2, "link"),
+            (EVEN, WAVE, [0, 2, 4], 2, GAP_MAX, None, None),
+            (EVEN, WAVE, [0, 4], 2, GAP_MAX, None, None),
+            (EVEN, WAVE, [0, 1, 4], 2, GAP_MAX, 0, "stop"),
+            (EVEN, WAVE, [0, 3, 4], 2, GAP_MAX, 0, "link"),
+            (EVEN, WAVE, [0, 2, 3, 4], 2, GAP_MAX, 1, "stop"),
+            (EVEN, WAVE, [0, 2, 3, 4], Parts(2, 1), GAP_MAX, None, None),
+            (EVEN, WAVE, [0, 2, 3, 4], Parts(1, 2), GAP_MAX, 0, "link"),
+            (EVEN, WAVE, [0, 1, 3, 4], Parts(1, 2), GAP_MAX, None, None),
+            (EVEN, WAVE, [0, 1, 3, 4], Parts(2, 1), GAP_MAX, 0, "stop"),
+            (EVEN, rise, [0, 1, 3, 4], 1, GAP_MAX, 0, "stop"),
+            (range(7), more, [0, 2, 6], 3, GAP_MAX, None, None),
+            (range(7), more, [0, 4, 5, 6], 3, GAP_MAX, None, None),
+            (range(7), steps, [0, 2, 3, 5, 6], 0, GAP_MAX, None, None),
+            (range(7), steps, [0, 1, 3, 5, 6], 0, GAP_MAX, 0, "stop"),
+            (range(7), steps, [0, 2, 3, 4, 6], 0, GAP_MAX, 2, "stop"),
+            (range(7), steps, [0, 2, 3, 6], 0, GAP_MAX, 2, "link"),
+            (HOLED, flat, [0, 2, 3, 5], 0, 7, None, None),
+            (HOLED, flat, [0, 2, 3, 5], 0, 8, 0, "stop"),
+            (HOLED, flat, [0, 2, 3, 4, 5], 0, 7, 2, "stop"),
+            (HOLED, flat, [0, 2, 5], 0, 7, 1, "link"),
+            (HOLED, flat, [0, 5], 0, 7, 0, "link"),
+            (HOLED, flat, [0, 5], 0, 8, None, None),
+            ([0, 1048575], [-32768, 32767], [0, 1], 0, 1, None, None),
+            ([7], [7], [0], 0, 1, None, None),
+        ]:
+            found = kovrelna.judge_greedy(ticks, values, proposed, tolerance, gap=gap)
+            expected = GreedyVerdict(fault is None, link, fault)
+            self.assertEqual(found, expected, (values, proposed, tolerance, gap))
+            self.assertEqual(bool(found), fault is None)
 
     def test_two_thirds(self):
         trace = [0, 1, 3], [0, 1, 1], [0, 2]
@@ -658,9 +701,10 @@ class Figures(Case):
             self.assertEqual(list(kovrelna.expand_with([255, 0], table)), [32767, -32768])
 
     def test_ticks(self):
-        self.assertTrue(kovrelna.judge([0, 1048575], [0, 0], [0, 1], 0))
-        self.refused(3, 1, kovrelna.judge, [0, 1048576], [0, 0], [0, 1], 0)
-        self.refused(2, 1, kovrelna.judge, [5, 5], [0, 0], [0, 1], 0)
+        for call in JUDGES:
+            self.assertTrue(call([0, 1048575], [0, 0], [0, 1], 0))
+            self.refused(3, 1, call, [0, 1048576], [0, 0], [0, 1], 0)
+            self.refused(2, 1, call, [5, 5], [0, 0], [0, 1], 0)
 
     def test_steps(self):
         for advance, change, step in [
@@ -950,8 +994,8 @@ class Refusals(Case):
                 self.not_summed(*row, EVEN, self.flat, ticks, values, *lists)
                 self.not_summed(*row, ticks, values, [7, 7], [], *lists)
             for kept in ([0, 4], [], [1]):
-                self.refused(*row, kovrelna.judge, ticks, values, kept, tolerance, gap=gap)
-                self.refused(*row, kovrelna.write, ticks, values, kept, tolerance, gap=gap)
+                for call in (*JUDGES, kovrelna.write):
+                    self.refused(*row, call, ticks, values, kept, tolerance, gap=gap)
 
     def test_tolerances(self):
         for none, gap in itertools.product([Ratio(0, 0), *NO_PARTS], (GAP_MAX, 0)):
@@ -959,7 +1003,8 @@ class Refusals(Case):
             for call in REDUCTIONS:
                 self.refused(4, 0, call, EVEN, self.flat, none, gap=gap)
                 self.refused(4, 0, call, EVEN, self.flat, none, array.array("H"), gap=gap)
-            self.refused(4, 0, kovrelna.judge, EVEN, self.flat, [1], none, gap=gap)
+            for call in JUDGES:
+                self.refused(4, 0, call, EVEN, self.flat, [1], none, gap=gap)
             self.refused(4, 0, kovrelna.write, EVEN, self.flat, [1], none, bytearray(0), gap=gap)
             self.refused(4, 0, kovrelna.report, EVEN, self.flat, [5], none, gap=gap)
             self.refused(4, 0, kovrelna.pedestals, ticks_run([]), ticks_run([0, 0]), none, 1)
@@ -1043,8 +1088,8 @@ class Refusals(Case):
                     self.refused(15, 0, kovrelna.least, EVEN, self.flat, allowance, out, gap=gap)
                 for kept in ([], [1], [0, 4]):
                     given = EVEN, ZIGZAG, kept, 0
-                    self.refused(15, 0, kovrelna.judge, *given, gap=gap)
-                    self.refused(15, 0, kovrelna.write, *given, gap=gap)
+                    for call in (*JUDGES, kovrelna.write):
+                        self.refused(15, 0, call, *given, gap=gap)
                     self.refused(15, 0, kovrelna.write, *given, buffer, gap=gap)
                 self.assertEqual(set(out) | set(buffer) | {7}, {7})
             self.refused(15, 0, kovrelna.report, EVEN, self.flat, [5], 0, gap=gap)
@@ -1060,8 +1105,7 @@ class Refusals(Case):
             *((call, EVEN, self.flat, 0) for call in REDUCTIONS),
             (kovrelna.least, EVEN, self.flat, 2),
             (kovrelna.scan, EVEN, self.flat, [0]),
-            (kovrelna.judge, EVEN, self.flat, [0, 4], 0),
-            (kovrelna.write, EVEN, self.flat, [0, 4], 0),
+            *((call, EVEN, self.flat, [0, 4], 0) for call in (*JUDGES, kovrelna.write)),
             (kovrelna.report, EVEN, self.flat, [5], 0),
             (kovrelna.check, RECORD, [0, 1, 3], [0, 1, 1]),
         ]
@@ -1179,8 +1223,8 @@ class Refusals(Case):
             ([0, 1, 3], 3),
             ([0, 4, 4], 2),
         ]:
-            self.refused(6, position, kovrelna.judge, EVEN, ZIGZAG, kept, 0)
-            self.refused(6, position, kovrelna.write, EVEN, ZIGZAG, kept, 0)
+            for call in (*JUDGES, kovrelna.write):
+                self.refused(6, position, call, EVEN, ZIGZAG, kept, 0)
             self.refused(6, position, kovrelna.write, EVEN, ZIGZAG, kept, 0, bytearray(0))
             traces = EVEN, [32767] * 5, range(1, 6), [32767] * 5
             self.not_summed(6, position, *traces, kept, [0, 4])
@@ -1387,7 +1431,8 @@ class Words(Case):
         words = "too many samples: at most 256 are allowed"
         self.says(1, words, kovrelna.least, range(257), [0] * 257, 2)
         words = "not as many values as ticks: 5 ticks and 4 values"
-        self.says(1, words, kovrelna.judge, EVEN, [0] * 4, [0, 4], 1)
+        for call in JUDGES:
+            self.says(1, words, call, EVEN, [0] * 4, [0, 4], 1)
         words = "too many codes: at most 4,096 are allowed"
         for call, *table in [(kovrelna.expand,), (kovrelna.expand_with, [0] * 5000)]:
             self.says(1, "no codes", call, b"", *table)
@@ -1426,8 +1471,8 @@ class Words(Case):
             self.says(4, words, kovrelna.hold, tolerance)
             for call in REDUCTIONS:
                 self.says(4, words, call, EVEN, self.flat, tolerance)
-            self.says(4, words, kovrelna.judge, EVEN, self.flat, [0, 4], tolerance)
-            self.says(4, words, kovrelna.write, EVEN, self.flat, [0, 4], tolerance)
+            for call in (*JUDGES, kovrelna.write):
+                self.says(4, words, call, EVEN, self.flat, [0, 4], tolerance)
 
     def test_scans(self):
         for tolerances in ([], (), iter([])):
@@ -1558,7 +1603,7 @@ class Words(Case):
             words = f"the gap limit must be from 1 to 1,048,575, not {gap}"
             for call in REDUCTIONS + (kovrelna.least,):
                 self.says(15, words, call, EVEN, self.flat, 2, gap=gap)
-            for call in (kovrelna.judge, kovrelna.write):
+            for call in (*JUDGES, kovrelna.write):
                 self.says(15, words, call, EVEN, self.flat, [0, 4], 1, gap=gap)
             self.says(15, words, kovrelna.report, EVEN, self.flat, [5], 1, gap=gap)
             self.says(15, words, kovrelna.check, RECORD, [0, 1, 3], [0, 1, 1], gap=gap)
@@ -1617,7 +1662,7 @@ class Words(Case):
             ([0, 2, 5], "entry 2 is 5, beyond the last sample, 4"),
             ([0, 2, 3], "it ends with 3, not with the last sample, 4"),
         ]:
-            for call in (kovrelna.judge, kovrelna.write):
+            for call in (*JUDGES, kovrelna.write):
                 self.says(6, f"no kept list: {words}", call, EVEN, self.flat, kept, 1)
         link, place = "link 2, from sample 2 to sample 4", "sample 3 at tick 3"
         words = f"{link}, is not within this tolerance: {place} lies 3 above the line"
@@ -1754,6 +1799,15 @@ class Longest(Case):
         self.assertEqual(kovrelna.measure(ticks, values, 0, 4095), (error, 1, "above"))
         strays = kovrelna.judge(ticks, values, [0, 4095], 9997).measure
         self.assertEqual(strays, (error, 1, "above"))
+        for kept, tolerance, link, fault in [
+            (range(4096), 0, None, None),
+            (range(4096), 10000, 0, "stop"),
+            ([*range(4094), 4095], 0, 4093, "link"),
+            ([0, 4095], 9997, 0, "link"),
+            ([0, 4095], 10000, None, None),
+        ]:
+            found = kovrelna.judge_greedy(ticks, values, kept, tolerance)
+            self.assertEqual((found.link, found.fault), (link, fault))
         flat, every = array.array("h", [0] * 4096), list(range(64))
         runs = [(64 * ticks, 64 * part, [4096] * 64) for part in (values, flat)]
         self.assertEqual(kovrelna.pedestals(*runs, 4999, 16), (every, every))
@@ -1815,7 +1869,7 @@ class Buffers(Case):
             ("least", kovrelna.least, trace + [2], [out]),
             ("sum", kovrelna.sum, pair, [sums, joined]),
             ("measure", kovrelna.measure, trace + [0, 2], []),
-            ("judge", kovrelna.judge, trace + [self.kept, 1], []),
+            *((call.__name__, call, trace + [self.kept, 1], []) for call in JUDGES),
             ("write", kovrelna.write, trace + [self.kept, 1], [buffer]),
             ("read", kovrelna.read, [record], [ticks, values]),
             ("same", kovrelna.same, [record, record], []),
@@ -2082,6 +2136,8 @@ class Buffers(Case):
                     call([0, 1], [0, number], 1)
         with self.assertRaisesRegex(OverflowError, r"proposed\[1\] must be from 0 to 65535"):
             kovrelna.judge([0, 1], [0, 0], [0, 65536], 1)
+        with self.assertRaisesRegex(OverflowError, r"proposed\[1\] must be from 0 to 65535"):
+            kovrelna.judge_greedy([0, 1], [0, 0], [0, 65536], 1)
         with self.assertRaisesRegex(OverflowError, r"codes\[0\] must be from 0 to 255, not 256"):
             kovrelna.expand([256])
         with self.assertRaisesRegex(OverflowError, r"table\[255\] must be from -32768 to 32767"):
@@ -2095,8 +2151,8 @@ class Buffers(Case):
         self.refused(1, 0, kovrelna.expand_with, [0] * 65537, TABLE)
         self.refused(12, 0, kovrelna.expand_with, [0], [0] * 65537)
         for kept, position in [(endless, 5), ([0] * 65537, 1), (tuple(range(5)) * 20000, 5)]:
-            self.refused(6, position, kovrelna.judge, EVEN, WAVE, kept, 1)
-            self.refused(6, position, kovrelna.write, EVEN, WAVE, kept, 1)
+            for call in (*JUDGES, kovrelna.write):
+                self.refused(6, position, call, EVEN, WAVE, kept, 1)
             self.refused(6, position, kovrelna.sum, EVEN, WAVE, EVEN, WAVE, kept, [0, 4])
             self.refused(6, position, kovrelna.sum, EVEN, WAVE, EVEN, WAVE, [0, 4], kept)
         self.refused(1, 0, kovrelna.sum, endless, [0], EVEN, WAVE, [0, 4], [0, 4])
@@ -2600,6 +2656,11 @@ class Reference(Case):
             if isinstance(found, Verdict):
                 found = self.invalid(found)
             self.assertEqual(found, expected, (kept, *given))
+            expected = answer(reference.judge_greedy, ticks, values, kept, form, gap)
+            found = answer(kovrelna.judge_greedy, ticks, values, kept, tolerance, gap=gap)
+            if isinstance(found, GreedyVerdict):
+                found = self.at_fault(found)
+            self.assertEqual(found, expected, (kept, *given))
         self.assertEqual(seen, {0, 1, 2, 3, 4, 5, 10, 15, 16})
         self.assertEqual(holes, {"at", "above", "first", "last", "in a row"})
 
@@ -2608,6 +2669,12 @@ class Reference(Case):
         self.assertEqual(verdict.passed, verdict.link is None)
         self.assertEqual(verdict.passed, verdict.measure is None)
         return None if verdict.passed else (verdict.link, verdict.measure)
+
+    def at_fault(self, verdict):
+        """The position of the first link at fault and its fault, or None."""
+        self.assertEqual(verdict.passed, verdict.link is None)
+        self.assertEqual(verdict.passed, verdict.fault is None)
+        return None if verdict.passed else (verdict.link, verdict.fault)
 
     def near(self, error):
         """A bound that is the error, or a little below or above it."""
@@ -2673,6 +2740,40 @@ class Reference(Case):
                     shorter.update(rule for rule in within if within[rule])
                 self.assertNotIn("the sum within the smaller", shorter, (given, gap))
         self.assertEqual(len(shorter), 3, shorter)
+
+    def test_greedy_lists(self):
+        """The lists of the reductions, and each with one sample more or fewer. Walk's and gallop's
+        pass, minimum's have no invalid link, and of lists that pass none has more samples than the
+        smallest within a above and b below where a + b is at most the smaller part."""
+        seen = set()
+        for _ in range(600):
+            ticks, values, gap = self.small()
+            parts = [Fraction(third, 3) for third in self.random.choices([0, 1, 3, 4, 9], k=2)]
+            form = "parts", *parts[0].as_integer_ratio(), *parts[1].as_integer_ratio()
+            given, limits = (ticks, values), {"gap": gap}
+            within = [
+                len(kept)
+                for kept in reference.kept_lists(len(ticks), len(ticks))
+                if reference.obeys(ticks, kept, gap)
+                and sum(reference.sides(ticks, values, kept)) <= min(parts)
+            ]
+            for call in REDUCTIONS:
+                kept = kept_by(call, *given, Parts(*parts), **limits)
+                other = {*kept} ^ ({self.random.randrange(len(ticks))} - {0, len(ticks) - 1})
+                for proposed in (kept, sorted(other)):
+                    expected = reference.judge_greedy(*given, proposed, form, gap)
+                    found = kovrelna.judge_greedy(*given, proposed, Parts(*parts), **limits)
+                    self.assertEqual(self.at_fault(found), expected, (given, proposed, parts, gap))
+                    fault = found.fault
+                    seen.add((call.__name__, proposed is kept, fault))
+                    if found:
+                        self.assertTrue(kovrelna.judge(*given, proposed, Parts(*parts), **limits))
+                        self.assertLessEqual(len(proposed), min(within), (given, parts, gap))
+        faults = None, "link", "stop"
+        names = [call.__name__ for call in REDUCTIONS]
+        spoilt = {(name, False, fault) for name in names for fault in faults}
+        kept = {(name, True, None) for name in names} | {("minimum", True, "stop")}
+        self.assertEqual(seen, spoilt | kept)
 
     def test_strays(self):
         """At the error of one of the links, or a little below or above it."""
@@ -2762,6 +2863,9 @@ class Reference(Case):
                 invalid = reference.judge(ticks, values, kept, form, gap)
                 found = kovrelna.judge(ticks, values, kept, tolerance, gap=gap)
                 self.assertEqual(self.invalid(found), invalid, given)
+                fault = reference.judge_greedy(ticks, values, kept, form, gap)
+                found = kovrelna.judge_greedy(ticks, values, kept, tolerance, gap=gap)
+                self.assertEqual(self.at_fault(found), fault, given)
             i, j = sorted(self.random.sample(range(samples), 2))
             found = kovrelna.measure(ticks, values, i, j)
             self.assertEqual(found, reference.measure(ticks, values, i, j), given)

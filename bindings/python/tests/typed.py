@@ -28,6 +28,8 @@ kovrelna.measure(Array(), Array(), False, True).side.upper()
 kovrelna.judge(ticks, values, kept, Ratio(1, 10)).link
 kovrelna.judge(ticks, values, kept, 1, gap=7).link
 kovrelna.judge(ticks, values, kept, Parts(above=2, below=Fraction(1, 10))).link
+kovrelna.judge_greedy(ticks, values, kept, Ratio(1, 10)).link
+kovrelna.judge_greedy(Array(), Array(), Array(), Parts(1, 2), gap=7).passed is True
 kovrelna.least(ticks, values, 2).error.denominator
 kovrelna.least(ticks, values, 2, gap=True).kept.tolist()
 kovrelna.scan(ticks, values, [1, 0.5, Fraction(1, 10), Ratio(1, 10)])[0].tolist()
@@ -82,6 +84,9 @@ kovrelna.measure(ticks, values, 0, 2.0)  # type: ignore[arg-type]
 kovrelna.measure(ticks, values, 0, 2, gap=7)  # type: ignore[call-arg]
 kovrelna.judge(ticks, values, None, 1)  # type: ignore[arg-type]
 kovrelna.judge(ticks, values, kept, 1).measure.side  # type: ignore[union-attr]
+kovrelna.judge_greedy(ticks, values, kept)  # type: ignore[call-arg]
+kovrelna.judge_greedy(ticks, values, kept, 1).fault.upper()  # type: ignore[union-attr]
+kovrelna.judge_greedy(ticks, values, kept, 1).measure  # type: ignore[attr-defined]
 kovrelna.least(ticks, values, 2.0)  # type: ignore[arg-type]
 kovrelna.least(ticks, values, 2, gap=None)  # type: ignore[arg-type]
 kovrelna.scan(ticks, values)  # type: ignore[call-arg]

@@ -64,6 +64,14 @@ pub struct Judged {
 }
 
 #[repr(C)]
+pub struct JudgedGreedy {
+    pub number: u32,
+    pub passed: u32,
+    pub value: u64,
+    pub fault: u32,
+}
+
+#[repr(C)]
 pub struct Galloped {
     pub number: u32,
     pub value: u64,
@@ -146,6 +154,15 @@ extern "C" {
         list_len: usize,
         limits: Limits,
     ) -> Judged;
+    fn kovrelna_judge_greedy(
+        ticks: *const u32,
+        ticks_len: usize,
+        values: *const i16,
+        values_len: usize,
+        list: *const u16,
+        list_len: usize,
+        limits: Limits,
+    ) -> JudgedGreedy;
     fn kovrelna_walk(
         ticks: *const u32,
         ticks_len: usize,
@@ -315,6 +332,21 @@ pub fn judge(ticks: &[u32], values: &[i16], list: &[u16], limits: Limits) -> Jud
     // SAFETY: as above; there is no output.
     unsafe {
         kovrelna_judge(
+            ticks.as_ptr(),
+            ticks.len(),
+            values.as_ptr(),
+            values.len(),
+            list.as_ptr(),
+            list.len(),
+            limits,
+        )
+    }
+}
+
+pub fn judge_greedy(ticks: &[u32], values: &[i16], list: &[u16], limits: Limits) -> JudgedGreedy {
+    // SAFETY: as above; there is no output.
+    unsafe {
+        kovrelna_judge_greedy(
             ticks.as_ptr(),
             ticks.len(),
             values.as_ptr(),

@@ -5,6 +5,8 @@
 //! - [`Limits`], [`GAP_MAX`]: a tolerance with a gap limit, which is what a link is asked to meet.
 //! - [`Side`], [`Measure`], [`measure`]: a link's error, the sample where it occurs, and its side.
 //! - [`Verdict`], [`judge`]: whether every link of a proposed list is valid.
+//! - [`Fault`], [`GreedyVerdict`], [`judge_greedy`]: whether the size bound of the greedy reductions holds
+//!   of a proposed list too.
 //! - [`walk`], [`Galloped`], [`gallop`], [`minimum`]: kept lists with every link valid.
 //! - [`Least`], [`least`]: the least error that a list of so many samples can have.
 //! - [`TOLERANCES_MAX`], [`scan`]: what walk keeps at each of several tolerances, in one pass.
@@ -679,6 +681,117 @@ pub fn judge(
             measure: Measure::of(p, q, sample, side),
         },
         _ => Verdict::Within,
+    })
+}
+
+/// What [`judge_greedy`] finds at fault.
+///
+/// ```
+/// use kovrelna::Fault;
+///
+/// assert_eq!([Fault::Link, Fault::Stop].map(|fault| fault.to_string()), ["link", "stop"]);
+/// ```
+#[derive(Clone, Copy, Debug, PartialEq, Eq, Hash)]
+pub enum Fault {
+    /// The link is invalid.
+    Link,
+    /// The link is valid, does not end at the last sample, and the link from the same start to the sample
+    /// after its end is valid too.
+    Stop,
+}
+
+impl Fault {
+    /// The fault with this number in C.
+    fn of(number: u32) -> Fault {
+        match number {
+            1 => Fault::Link,
+            2 => Fault::Stop,
+            _ => unreachable!("there is no fault {number}"),
+        }
+    }
+}
+
+impl fmt::Display for Fault {
+    fn fmt(&self, f: &mut fmt::Formatter) -> fmt::Result {
+        f.pad(match self {
+            Fault::Link => "link",
+            Fault::Stop => "stop",
+        })
+    }
+}
+
+/// What [`judge_greedy`] says of a kept list.
+#[derive(Clone, Copy, Debug, PartialEq, Eq, Hash)]
+pub enum GreedyVerdict {
+    /// No link is at fault.
+    Yes,
+    /// Some link is at fault.
+    No {
+        /// The position of the first link at fault, counted from 0.
+        link: usize,
+        /// What is wrong with it.
+        fault: Fault,
+    },
+}
+
+/// Whether every link of the proposed list is valid on this trace, and each stop but the last sample is
+/// followed by an invalid link from the same start: where a link goes from sample i to sample j, and j is
+/// not the last sample, the link from i to j+1 is invalid. Sample j+1 need not be kept. If not, the first
+/// link at fault: [`Fault::Link`] if it is invalid itself, whatever the link to the next sample is;
+/// otherwise [`Fault::Stop`]. A no carries no measure: [`judge`] and [`measure`] give that of an invalid
+/// link.
+///
+/// Of a list that passes, however it was made, and for all fractions a and b, neither below 0, whose sum is
+/// at most the smaller part of the tolerance: no kept list that obeys the gap limit, and from whose lines no
+/// sample lies more than a above or more than b below, has fewer samples. With equal parts and a = b that is
+/// said of every list within half the tolerance.
+///
+/// The lists of [`walk`] and [`gallop`] always pass; those of [`minimum`] need not. A list that passes here
+/// passes [`judge`] too.
+///
+/// Refusals: [`Refusal::Length`], [`Refusal::Tick`], [`Refusal::Span`], [`Refusal::Tolerance`],
+/// [`Refusal::Gap`], [`Refusal::List`].
+///
+/// ```
+/// use kovrelna::{judge_greedy, Fault, GreedyVerdict, Refusal, Tolerance};
+///
+/// let (ticks, two) = ([0, 1, 2, 3, 4], Tolerance::Counts(2.0));
+/// let judged = |values: [i16; 5], list: &[u16]| judge_greedy(&ticks, &values, list, two);
+/// let no = |link, fault| Ok(GreedyVerdict::No { link, fault });
+///
+/// let zigzag = [0, 3, 0, 3, 0];
+/// assert_eq!(judged(zigzag, &[0, 1, 2, 3, 4]), Ok(GreedyVerdict::Yes));
+/// assert_eq!(judged(zigzag, &[0, 3, 4]), Ok(GreedyVerdict::Yes));
+/// assert_eq!(judged(zigzag, &[0, 4]), no(0, Fault::Link));
+///
+/// // The link from 0 to 1 is valid, and so is the one from 0 to 2.
+/// let wave = [0, 2, 0, -2, 0];
+/// assert_eq!(judged(wave, &[0, 2, 4]), Ok(GreedyVerdict::Yes));
+/// assert_eq!(judged(wave, &[0, 1, 4]), no(0, Fault::Stop));
+/// // The link from 0 to 3 is invalid, though the one from 0 to 4 is valid.
+/// assert_eq!(judged(wave, &[0, 3, 4]), no(0, Fault::Link));
+/// assert_eq!(judged(wave, &[0, 2]), Err(Refusal::List(2)));
+///
+/// // Samples 2 and 3 lie 8 ticks apart: under the gap limit 7 the link from 0 to 3 is invalid.
+/// let (ticks, values, list) = ([0, 1, 2, 10, 11, 12], [0; 6], [0, 2, 3, 5]);
+/// let under = |gap| judge_greedy(&ticks, &values, &list, two.with_gap(gap));
+/// assert_eq!(under(7), Ok(GreedyVerdict::Yes));
+/// assert_eq!(under(8), no(0, Fault::Stop));
+/// ```
+pub fn judge_greedy(
+    ticks: &[u32],
+    values: &[i16],
+    list: &[u16],
+    limits: impl Into<Limits>,
+) -> Result<GreedyVerdict, Refusal> {
+    let judged = ffi::judge_greedy(ticks, values, list, ffi::Limits::of(limits));
+    Refusal::check(judged.number, judged.value)?;
+    Ok(match judged.passed {
+        0 => GreedyVerdict::No {
+            link: judged.value as usize,
+            fault: Fault::of(judged.fault),
+        },
+        _ => GreedyVerdict::Yes,
     })
 }
 

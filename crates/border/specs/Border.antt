@@ -3,7 +3,7 @@
 --   entryOf, tolerancesOf   one of several tolerances; all of them
 --   sideNumber   the number of a side
 --   numberIn, valueIn   0 and 0 for success, or the refusal's number and value
---   heldOf, measuredOf, judgedOf, keptOf, checkedOf, begunOf, scannedOf, gallopedOf, closestOf, writtenOf, readOf, comparedOf, reportOf, listedOf   an answer as numbers: 0 for success, or the refusal's number and value
+--   heldOf, measuredOf, judgedOf, judgedGreedyOf, keptOf, checkedOf, begunOf, scannedOf, gallopedOf, closestOf, writtenOf, readOf, comparedOf, reportOf, listedOf   an answer as numbers: 0 for success, or the refusal's number and value
 --   steppedOf   what an addition to a view answers, as numbers, and the state after it
 -- Assumes nothing.
 use mathlib.Core.Bool.{cond}
@@ -19,14 +19,16 @@ use Rattle.tolerance.specs.declared.Tolerance.the-variants.{Ratio, Counts, Nois
 use Rattle.limits.specs.declared.Limits as L
 use Rattle.tolerances.specs.declared.Entry.{Entry}
 use Rattle.tolerances.specs.declared.Tolerances as S
-use Rattle.engine.specs.declared.Holding.{Holding}
-use Rattle.engine.specs.declared.Holding.the-variants.{Held as IsHeld, Refused as HoldRefused}
+use Rattle.checking.specs.declared.Holding.{Holding}
+use Rattle.checking.specs.declared.Holding.the-variants.{Held as IsHeld, Refused as HoldRefused}
 use Rattle.trace.specs.declared.Side.{Side}
 use Rattle.trace.specs.declared.Side.the-variants.{On, Above, Below, Gap}
 use Rattle.judging.specs.declared.Measured as M
 use Rattle.judging.specs.declared.Measured.the-variants.{Link, Refused as NotMeasured}
 use Rattle.judging.specs.declared.Verdict as E
 use Rattle.judging.specs.declared.Verdict.the-variants.{Yes, No, Refused}
+use Rattle.greedy.specs.declared.GreedyVerdict.{GreedyVerdict}
+use Rattle.greedy.specs.declared.GreedyVerdict.the-variants.{Yes as IsGreedy, Link as LinkFault, Stop as StopFault, Refused as NotJudged}
 use Rattle.engine.specs.declared.Reduced.{Reduced}
 use Rattle.engine.specs.declared.Reduced.the-variants.{Kept as IsKept, Refused as NotKept}
 use Rattle.engine.specs.declared.Scanned as N
@@ -35,8 +37,8 @@ use Rattle.engine.specs.declared.Probed.{Probed}
 use Rattle.engine.specs.declared.Probed.the-variants.{Kept as IsGalloped, Refused as NotGalloped}
 use Rattle.engine.specs.declared.Closest as C
 use Rattle.engine.specs.declared.Closest.the-variants.{Kept as IsClosest, Refused as NotClosest}
-use Rattle.engine.specs.declared.Written.{Written}
-use Rattle.engine.specs.declared.Written.the-variants.{Count, Refused as NotWritten}
+use Rattle.refusal.specs.declared.Written.{Written}
+use Rattle.refusal.specs.declared.Written.the-variants.{Count, Refused as NotWritten}
 use Rattle.reader.specs.declared.Answer as R
 use Rattle.reader.specs.declared.Answer.the-variants.{Samples, Refused as NotRead}
 use Rattle.reader.specs.declared.Comparison.{Comparison}
@@ -52,6 +54,7 @@ use Rattle.border.specs.declared.Tolerances.{Tolerances}
 use Rattle.border.specs.declared.Held.{Held}
 use Rattle.border.specs.declared.Measured.{Measured}
 use Rattle.border.specs.declared.Judged.{Judged}
+use Rattle.border.specs.declared.JudgedGreedy.{JudgedGreedy}
 use Rattle.border.specs.declared.Verdict.{Verdict}
 use Rattle.border.specs.declared.Answer.{Answer}
 use Rattle.border.specs.declared.Begun.{Begun}
@@ -98,6 +101,13 @@ abbrev pub judgedOf : E.Verdict → Judged
 judgedOf Yes = record { number = 0; passed = 1; value = 0; p = 0; q = 0; sample = 0; side = 0 }
 judgedOf (No k m) = record { number = 0; passed = 0; value = k; p = m .error .p; q = m .error .q; sample = m .sample; side = sideNumber (m .side) }
 judgedOf (Refused x) = record { number = numberOf x; passed = 0; value = returnedOf x; p = 0; q = 0; sample = 0; side = 0 }
+
+-- the fault's number: 1 for an invalid link, 2 for a stop
+abbrev pub judgedGreedyOf : GreedyVerdict → JudgedGreedy
+judgedGreedyOf IsGreedy = record { number = 0; passed = 1; value = 0; fault = 0 }
+judgedGreedyOf (LinkFault k) = record { number = 0; passed = 0; value = k; fault = 1 }
+judgedGreedyOf (StopFault k) = record { number = 0; passed = 0; value = k; fault = 2 }
+judgedGreedyOf (NotJudged x) = record { number = numberOf x; passed = 0; value = returnedOf x; fault = 0 }
 
 abbrev pub keptOf : Reduced → Answer
 keptOf (IsKept n) = record { number = 0; value = n }

@@ -1,6 +1,6 @@
 // The border of the C interface: its structs, and the converters between them and the enums of `engine` and of the products above it.
 ghost use mathlib.Core.Path.{_≡_};
-ghost use Rattle.border.specs.Border.{toleranceOf, limitsOf, entryOf, tolerancesOf, heldOf, sideNumber, measuredOf, judgedOf, keptOf, checkedOf, begunOf, steppedOf, scannedOf, gallopedOf, closestOf, writtenOf, readOf, comparedOf, reportOf, listedOf};
+ghost use Rattle.border.specs.Border.{toleranceOf, limitsOf, entryOf, tolerancesOf, heldOf, sideNumber, measuredOf, judgedOf, judgedGreedyOf, keptOf, checkedOf, begunOf, steppedOf, scannedOf, gallopedOf, closestOf, writtenOf, readOf, comparedOf, reportOf, listedOf};
 use live::View;
 use live::Viewed;
 use sheet::Sheet;
@@ -64,6 +64,16 @@ pub struct Judged {
     pub q: u64,
     pub sample: u64,
     pub side: u32,
+}
+
+// A verdict of judge's second question under the number 0, with the first position at fault and the fault's number if the list is not passed; or
+// a refusal's number and value.
+#[repr(C)]
+pub struct JudgedGreedy {
+    pub number: u32,
+    pub passed: u32,
+    pub value: u64,
+    pub fault: u32,
 }
 
 // A verdict on two records under the number 0, or a refusal's number and value.
@@ -218,11 +228,11 @@ pub fn tolerances_of(t: Tolerances) -> tolerances::Tolerances
     }
 }
 
-pub fn held_of(h: engine::Holding) -> Held
+pub fn held_of(h: checking::Holding) -> Held
     ensures { λ r. ⌜ r ≡ heldOf h ⌝ }
 {
     match h {
-        engine::Holding::Held(x) => {
+        checking::Holding::Held(x) => {
             let up = x.up;
             let down = x.down;
             Held {
@@ -234,7 +244,7 @@ pub fn held_of(h: engine::Holding) -> Held
                 dq: down.q,
             }
         }
-        engine::Holding::Refused(x) => Held {
+        checking::Holding::Refused(x) => Held {
             number: refusal::number(x),
             value: refusal::returned(x) as u64,
             p: 0,
@@ -318,6 +328,37 @@ pub fn judged_of(v: judging::Verdict) -> Judged
             q: 0,
             sample: 0,
             side: 0,
+        },
+    }
+}
+
+pub fn judged_greedy_of(v: greedy::GreedyVerdict) -> JudgedGreedy
+    ensures { λ r. ⌜ r ≡ judgedGreedyOf v ⌝ }
+{
+    match v {
+        greedy::GreedyVerdict::Yes => JudgedGreedy {
+            number: 0,
+            passed: 1,
+            value: 0,
+            fault: 0,
+        },
+        greedy::GreedyVerdict::Link(k) => JudgedGreedy {
+            number: 0,
+            passed: 0,
+            value: k as u64,
+            fault: 1,
+        },
+        greedy::GreedyVerdict::Stop(k) => JudgedGreedy {
+            number: 0,
+            passed: 0,
+            value: k as u64,
+            fault: 2,
+        },
+        greedy::GreedyVerdict::Refused(x) => JudgedGreedy {
+            number: refusal::number(x),
+            passed: 0,
+            value: refusal::returned(x) as u64,
+            fault: 0,
         },
     }
 }
@@ -432,15 +473,15 @@ pub fn closest_of(a: engine::Closest) -> Closest
     }
 }
 
-pub fn written_of(a: engine::Written) -> Answer
+pub fn written_of(a: refusal::Written) -> Answer
     ensures { λ r. ⌜ r ≡ writtenOf a ⌝ }
 {
     match a {
-        engine::Written::Count(n) => Answer {
+        refusal::Written::Count(n) => Answer {
             number: 0,
             value: n as u64,
         },
-        engine::Written::Refused(x) => Answer {
+        refusal::Written::Refused(x) => Answer {
             number: refusal::number(x),
             value: refusal::returned(x) as u64,
         },

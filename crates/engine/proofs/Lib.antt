@@ -1,8 +1,5 @@
 -- The laws of the public calls' definitions.
-pub mod HoldLaws
 pub mod ReduceLaws
-pub mod ReportLaws
-pub mod ExpandLaws
 pub mod WriteLaws
 pub mod LeastLaws
 pub mod SumLaws

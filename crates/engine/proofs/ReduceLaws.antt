@@ -12,9 +12,10 @@ use Rattle.kept.specs.Kept.{Greedy}
 use Rattle.limits.specs.declared.Limits.{Limits}
 use Rattle.trace.specs.declared.Criterion.{Criterion}
 use Rattle.trace.specs.Trace.{Trace}
+use Rattle.trace.proofs.Half.{greedy-short}
 use Rattle.reduction.specs.Walking.{walkList}
 use Rattle.reduction.specs.Galloping.{gallopList, gallopTotal}
-use Rattle.reduction.proofs.ReductionLaws.{walk-list-greedy, gallop-list-greedy, greedy-short, gallop-stop-probes, gallop-total}
+use Rattle.reduction.proofs.ReductionLaws.{walk-list-greedy, gallop-list-greedy, gallop-stop-probes, gallop-total}
 use Rattle.shortest.specs.Shortest.{minimumList}
 use Rattle.shortest.proofs.ShortestLaws.{minimum-list}
 use Rattle.limits.specs.Prepare.{criterionOf, OutputReady}

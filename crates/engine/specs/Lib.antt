@@ -1,10 +1,6 @@
 -- The outcomes of the public calls.
-pub mod Checks
-pub mod Hold
 pub mod Reduce
-pub mod Report
 pub mod Minimum
-pub mod Expand
 pub mod Write
 pub mod Least
 pub mod Sum

@@ -23,8 +23,8 @@ use Rattle.trace.specs.declared.Criterion.{Criterion}
 use Rattle.proposed.specs.Proposed.{listRow, firstInvalid}
 use Rattle.format.specs.Format.{Content, encode, Accepted}
 use Rattle.writer.specs.Writing.{selected, writeRow}
-use Rattle.engine.specs.declared.Written.{Written}
-use Rattle.engine.specs.declared.Written.the-variants.{Count, Refused as Declined}
+use Rattle.refusal.specs.declared.Written.{Written}
+use Rattle.refusal.specs.declared.Written.the-variants.{Count, Refused as Declined}
 use Rattle.limits.specs.Prepare.{criterionOf, partsOf, ReadyAt}
 use Rattle.judging.specs.Judge.{judgeRows}
 

@@ -3,13 +3,6 @@ use closest::Found;
 use reduction::Galloped;
 use refusal::Checked;
 use refusal::Refusal;
-use tolerance::Parts;
-
-// What `hold` answers: the parts of the tolerance in lowest terms, or a refusal.
-pub enum Holding {
-    Held(Parts),
-    Refused(Refusal),
-}
 
 // What `walk`, `minimum` and `sum` answer: how many samples the list keeps, or a refusal.
 pub enum Reduced {
@@ -29,12 +22,6 @@ pub enum Closest {
     Refused(Refusal),
 }
 
-// What a call that writes entries or bytes answers: how many, or a refusal.
-pub enum Written {
-    Count(usize),
-    Refused(Refusal),
-}
-
 // What `scan` answers: how many samples the list at each tolerance keeps, 0 behind the last; or a refusal, and zeros.
 pub struct Scanned {
     pub checked: Checked,
@@ -47,6 +34,7 @@ pub mod expand_with;
 pub mod gallop;
 pub mod hold;
 pub mod judge;
+pub mod judge_greedy;
 pub mod least;
 pub mod measure;
 pub mod minimum;

@@ -1,12 +1,12 @@
 // The public call `write`: the record of a list's samples, into the event buffer from a place on.
 ghost use Rattle.limits.specs.Prepare.{ReadyAt};
 ghost use Rattle.engine.specs.Write.{ListReady, WriteOutcome};
-use crate::Written;
 use limits::Limits;
 use limits::Ready;
 use limits::prepare;
 use refusal::Checked;
 use refusal::Refusal;
+use refusal::Written;
 use tolerance::Parts;
 use trace::Criterion;
 use writer::Answer;

@@ -2,6 +2,7 @@
 pub mod Figures
 pub mod Requests
 pub mod Links
+pub mod Greedy
 pub mod Sums
 pub mod Records
 pub mod Parts

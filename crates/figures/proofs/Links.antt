@@ -39,7 +39,7 @@ use Rattle.limits.specs.Prepare.{commonRows, criterionOf, outputRows}
 use Rattle.judging.specs.Measure.{measureRows, measuredBy}
 use Rattle.judging.specs.Judge.{judgeRows, listVerdict, judgeOf}
 use Rattle.engine.specs.Write.{writeRows}
-use Rattle.engine.specs.Report.{crateRows}
+use Rattle.reporting.specs.Report.{crateRows}
 
 -- ---- dropouts: ticks 0 1 2 10 11 12, values 0, tolerance 0; a gap limit of 7 keeps 0 2 3 5, one of 8 keeps 0 5
 

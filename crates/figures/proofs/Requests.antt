@@ -26,7 +26,7 @@ use Rattle.channels.specs.Channels.{crateRow}
 use Rattle.sheet.specs.Report.{keptRow, walkedRow, declinedRow, rowOf, totalled, totalsOf}
 use Rattle.proposed.specs.Proposed.{firstWorst, listSample}
 use Rattle.limits.specs.Prepare.{unlimited, criterionOf}
-use Rattle.engine.specs.Report.{crateRows, reportRows}
+use Rattle.reporting.specs.Report.{crateRows, reportRows}
 use Rattle.pedestals.specs.declared.Cause.the-variants.{Call, Trace}
 use Rattle.pedestals.specs.declared.Check.the-variants.{Fine as Passes, Refused as Declines}
 use Rattle.verdicts.specs.Sums.{spread, moved, noisy}

@@ -1,5 +1,5 @@
 -- What the exports of the C interface promise.
---   HoldExport, MeasureExport, JudgeExport, WalkExport, ScanExport, GallopExport, MinimumExport, LeastExport, ViewBeginExport, ViewAddExport, SumExport, ExpandExport, ExpandWithExport, WriteExport, ReadExport, SameExport,
+--   HoldExport, MeasureExport, JudgeExport, JudgeGreedyExport, WalkExport, ScanExport, GallopExport, MinimumExport, LeastExport, ViewBeginExport, ViewAddExport, SumExport, ExpandExport, ExpandWithExport, WriteExport, ReadExport, SameExport,
 --   ReportExport, PedestalsExport   an export's answer is that of the public call, with its whole outcome
 -- Assumes nothing.
 use mathlib.Core.Path.{_≡_}
@@ -9,18 +9,20 @@ use lib.IntN.{ℤ}
 use Rattle.refusal.specs.declared.Checked.{Checked}
 use Rattle.live.specs.declared.View.{View}
 use Rattle.live.specs.Live.{begunOf as begunBy, AddOutcome}
-use Rattle.engine.specs.declared.Holding.{Holding}
+use Rattle.checking.specs.declared.Holding.{Holding}
 use Rattle.judging.specs.declared.Measured as M
 use Rattle.judging.specs.declared.Verdict as E
 use Rattle.engine.specs.declared.Reduced.{Reduced}
 use Rattle.engine.specs.declared.Scanned as N
 use Rattle.engine.specs.declared.Probed.{Probed}
 use Rattle.engine.specs.declared.Closest as C
-use Rattle.engine.specs.declared.Written.{Written}
-use Rattle.engine.specs.Hold.{HoldOutcome}
+use Rattle.refusal.specs.declared.Written.{Written}
+use Rattle.checking.specs.Hold.{HoldOutcome}
 use Rattle.judging.specs.Measure.{MeasureOutcome}
 use Rattle.judging.specs.Judge.{JudgeOutcome}
-use Rattle.engine.specs.Expand.{ExpandOutcome, ExpandWithOutcome}
+use Rattle.greedy.specs.declared.GreedyVerdict.{GreedyVerdict}
+use Rattle.greedy.specs.Greedy.{JudgeGreedyOutcome}
+use Rattle.expanding.specs.Expand.{ExpandOutcome, ExpandWithOutcome}
 use Rattle.engine.specs.Write.{WriteOutcome}
 use Rattle.reader.specs.declared.Answer as R
 use Rattle.reader.specs.declared.Comparison.{Comparison}
@@ -32,7 +34,7 @@ use Rattle.engine.specs.Scan.{ScanOutcome}
 use Rattle.engine.specs.Minimum.{MinimumOutcome}
 use Rattle.engine.specs.Least.{LeastOutcome}
 use Rattle.engine.specs.Sum.{SumOutcome}
-use Rattle.engine.specs.Report.{ReportOutcome}
+use Rattle.reporting.specs.Report.{ReportOutcome}
 use Rattle.pedestals.specs.declared.Compared as P
 use Rattle.pedestals.specs.Compare.{Run, CompareOutcome}
 use Rattle.border.specs.declared.Tolerance.{Tolerance}
@@ -41,6 +43,7 @@ use Rattle.border.specs.declared.Tolerances.{Tolerances}
 use Rattle.border.specs.declared.Held.{Held}
 use Rattle.border.specs.declared.Measured.{Measured}
 use Rattle.border.specs.declared.Judged.{Judged}
+use Rattle.border.specs.declared.JudgedGreedy.{JudgedGreedy}
 use Rattle.border.specs.declared.Verdict.{Verdict}
 use Rattle.border.specs.declared.Answer.{Answer}
 use Rattle.border.specs.declared.Begun.{Begun}
@@ -50,7 +53,7 @@ use Rattle.border.specs.declared.Content.{Content}
 use Rattle.border.specs.declared.Galloped.{Galloped}
 use Rattle.border.specs.declared.Report.{Report}
 use Rattle.border.specs.declared.Compared.{Compared}
-use Rattle.border.specs.Border.{toleranceOf, limitsOf, tolerancesOf, heldOf, measuredOf, judgedOf, keptOf, checkedOf, begunOf, scannedOf, gallopedOf, closestOf, writtenOf, readOf, comparedOf, reportOf, listedOf}
+use Rattle.border.specs.Border.{toleranceOf, limitsOf, tolerancesOf, heldOf, measuredOf, judgedOf, judgedGreedyOf, keptOf, checkedOf, begunOf, scannedOf, gallopedOf, closestOf, writtenOf, readOf, comparedOf, reportOf, listedOf}
 
 pub record HoldExport (t : Tolerance) (r : Held) : Type 0 where
   pub answer : Holding
@@ -66,6 +69,11 @@ pub record JudgeExport (ts : List ℕ) (vs : List ℤ) (l : List ℕ) (t : Limit
   pub answer : E.Verdict
   pub is : r ≡ judgedOf answer
   pub outcome : JudgeOutcome ts vs l (limitsOf t) answer
+
+pub record JudgeGreedyExport (ts : List ℕ) (vs : List ℤ) (l : List ℕ) (t : Limits) (r : JudgedGreedy) : Type 0 where
+  pub answer : GreedyVerdict
+  pub is : r ≡ judgedGreedyOf answer
+  pub outcome : JudgeGreedyOutcome ts vs l (limitsOf t) answer
 
 pub record WalkExport (ts : List ℕ) (vs : List ℤ) (t : Limits) (o : List ℕ) (r : Answer) (o′ : List ℕ) : Type 0 where
   pub answer : Reduced

@@ -1,7 +1,7 @@
 // The C interface: each export is a public call of `engine` or of a product above it, with the numbers and structs of `border` for its enums.
-ghost use Rattle.engine.specs.Report.{Surveyed};
+ghost use Rattle.reporting.specs.Report.{Surveyed};
 ghost use Rattle.border.specs.Border.{limitsOf};
-ghost use Rattle.kovrelna.specs.Exports.{HoldExport, MeasureExport, JudgeExport, WalkExport, ScanExport, GallopExport, MinimumExport, LeastExport, ViewBeginExport, ViewAddExport, SumExport, ExpandExport, ExpandWithExport, WriteExport, ReadExport, SameExport, ReportExport, PedestalsExport};
+ghost use Rattle.kovrelna.specs.Exports.{HoldExport, MeasureExport, JudgeExport, JudgeGreedyExport, WalkExport, ScanExport, GallopExport, MinimumExport, LeastExport, ViewBeginExport, ViewAddExport, SumExport, ExpandExport, ExpandWithExport, WriteExport, ReadExport, SameExport, ReportExport, PedestalsExport};
 ghost use Rattle.pedestals.specs.Compare.{runOf};
 use border::Answer;
 use border::Begun;
@@ -11,6 +11,7 @@ use border::Content;
 use border::Galloped;
 use border::Held;
 use border::Judged;
+use border::JudgedGreedy;
 use border::Limits;
 use border::Measured;
 use border::Report;
@@ -24,6 +25,7 @@ use border::closest_of;
 use border::compared_of;
 use border::galloped_of;
 use border::held_of;
+use border::judged_greedy_of;
 use border::judged_of;
 use border::kept_of;
 use border::limits_of;
@@ -85,6 +87,19 @@ pub extern "C" fn kovrelna_judge(ticks: &[u32], values: &[i16], list: &[u16], t:
     ensures { λ r. ⌜ JudgeExport (now (ticks .entry)) (now (values .entry)) (now (list .entry)) t r ⌝ }
 {
     judged_of(engine::judge::judge(ticks, values, list, limits_of(t)))
+}
+
+// Whether the list is greedy.
+#[no_mangle]
+pub extern "C" fn kovrelna_judge_greedy(
+    ticks: &[u32],
+    values: &[i16],
+    list: &[u16],
+    t: Limits,
+) -> JudgedGreedy
+    ensures { λ r. ⌜ JudgeGreedyExport (now (ticks .entry)) (now (values .entry)) (now (list .entry)) t r ⌝ }
+{
+    judged_greedy_of(engine::judge_greedy::judge_greedy(ticks, values, list, limits_of(t)))
 }
 
 // Writes walk's list into the first entries of `out`.

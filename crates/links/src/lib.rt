@@ -1,29 +1,38 @@
 // Links of a trace: the test of one, in one pass over its samples. The definitions and their laws are those of `trace`.
 ghost use mathlib.Core.Path.{_≡_};
-ghost use Rattle.trace.specs.Link.{Linked, Bounded, allWithin, valid};
-ghost use Rattle.trace.specs.Edge.{AimSlope, AimTilt, inBand};
-use trace::Aim;
+ghost use Prim.Native.Nat.{_*_, _≤_};
+ghost use lib.Dec.{leb};
+ghost use Rattle.trace.specs.Link.{Linked, Bounds, Bounded, allWithin, valid};
+ghost use Rattle.trace.specs.Edge.{Slope, distanceOf, inParts};
+use ratio::Ratio;
 use trace::Criterion;
-use trace::edges::aim_at;
-use trace::edges::lower_by;
+use trace::Edge;
+use trace::edges::distance;
+use trace::edges::edge_to;
 use trace::edges::no_steeper;
-use trace::edges::raise_by;
 use trace::edges::start_at;
 use trace::gaps::first_hole;
 
-// Whether the sample of the edges e is within the criterion of the link of the edges `to`.
-fn in_band(e: Aim, to: Aim, c: Criterion) -> bool
-    requires { ⌜ AimTilt e c × AimSlope to ⌝ }
-    ensures { λ r. ⌜ r ≡ inBand e to c ⌝ }
+// Whether a deviation without its sign, d over the link's ticks, is within a part.
+fn in_part(d: u64, part: Ratio, run: u64) -> bool
+    requires { ⌜ (d ≤ 68718362625) × (run ≤ 1048575) × Bounds part ⌝ }
+    ensures { λ r. ⌜ r ≡ leb (d * part .q) (part .p * run) ⌝ }
 {
-    let up = e.up;
-    let down = e.down;
-    let to_up = to.up;
-    let to_down = to.down;
-    if !no_steeper(lower_by(up, c.up.p), to_up) {
-        return false;
+    d * part.q <= part.p * run
+}
+
+// Whether the sample of the edge e is within the criterion of the link of the edge `to`.
+fn in_parts(e: Edge, to: Edge, c: Criterion) -> bool
+    requires { ⌜ Slope e × Slope to × (distanceOf e to ≤ 68718362625) × Bounded c ⌝ }
+    ensures { λ r. ⌜ r ≡ inParts e to c ⌝ }
+{
+    let up = c.up;
+    let down = c.down;
+    let d = distance(e, to);
+    if no_steeper(to, e) {
+        return in_part(d, up, to.run);
     }
-    no_steeper(to_down, raise_by(down, c.down.p))
+    in_part(d, down, to.run)
 }
 
 // Whether every sample of the link i to j is within the parts.
@@ -32,11 +41,11 @@ pub fn all_within(ticks: &[u32], values: &[i16], c: Criterion, i: usize, j: usiz
     ensures { λ r. ⌜ r ≡ allWithin (now (ticks .entry)) (now (values .entry)) c i j ⌝ }
 {
     let from = start_at(ticks, values, i);
-    let to = aim_at(ticks, values, from, j, c);
+    let to = edge_to(ticks, values, from, j, 1);
     let mut k = i + 1;
     while k < j {
-        let e = aim_at(ticks, values, from, k, c);
-        if !in_band(e, to, c) {
+        let e = edge_to(ticks, values, from, k, 1);
+        if !in_parts(e, to, c) {
             return false;
         }
         k += 1;

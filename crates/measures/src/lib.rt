@@ -4,14 +4,14 @@ ghost use Prim.Native.Nat.{_≤_};
 ghost use mathlib.Core.Bool.{cond};
 ghost use lib.Dec.{leb};
 ghost use Rattle.trace.specs.Link.{Linked, Bounded, criterion, deviation, sideOf};
-ghost use Rattle.trace.specs.Edge.{Slope, distanceOf, edgeSide};
+ghost use Rattle.trace.specs.Edge.{Slope, edgeSide};
 ghost use Rattle.measures.specs.Measure.{deviationOf, strayOf, measureOf, faultOf};
 use links::all_within;
 use ratio::Ratio;
 use trace::Criterion;
 use trace::Edge;
 use trace::Side;
-use trace::edges::climb_over;
+use trace::edges::distance;
 use trace::edges::edge_to;
 use trace::edges::no_steeper;
 use trace::edges::start_at;
@@ -29,20 +29,6 @@ pub struct Measure {
     pub error: Ratio,
     pub sample: usize,
     pub side: Side,
-}
-
-// The deviation, without its sign and times the link's ticks, of the sample of the edge e from the link of the edge `to`.
-fn distance(e: Edge, to: Edge) -> u64
-    requires { ⌜ Slope e × Slope to ⌝ }
-    ensures { λ r. ⌜ r ≡ distanceOf e to ⌝ }
-{
-    let z = climb_over(e, to);
-    let y = climb_over(to, e);
-    if y <= z {
-        (z - y) as u64
-    } else {
-        (y - z) as u64
-    }
 }
 
 // The side of the sample of the edge e beside the link of the edge `to`.

@@ -2,7 +2,7 @@
 // and entries of the list in entries.
 ghost use mathlib.Core.Path.{_≡_};
 ghost use mathlib.Core.Bool.{false};
-ghost use Prim.Native.Nat.{_+_, _<_};
+ghost use Prim.Native.Nat.{_+_, _≤_, _<_};
 ghost use lib.ListN.{length};
 ghost use Rattle.trace.specs.Trace.{Trace};
 ghost use Rattle.trace.specs.Link.{Bounded, valid, linksEnd};
@@ -75,4 +75,25 @@ pub fn taken(ticks: &[u32], values: &[i16], c: Criterion, links: Links, j: usize
         cone: narrower,
         limit: links.limit,
     }
+}
+
+// The links with the samples from a on and before b taken in too.
+pub fn taken_to(
+    ticks: &[u32],
+    values: &[i16],
+    c: Criterion,
+    links: Links,
+    a: usize,
+    b: usize,
+) -> Links
+    requires { ⌜ Next (now ticks) (now values) c links a × (a ≤ b) × (b ≤ links .limit) × (b < length (now ticks)) ⌝ }
+    ensures { λ r. ⌜ TakenIn (now (ticks .entry)) (now (values .entry)) c (links .from .sample) b r ⌝ }
+{
+    let mut l = links;
+    let mut k = a;
+    while k < b {
+        l = taken(ticks, values, c, l, k);
+        k += 1;
+    }
+    l
 }

@@ -26,10 +26,10 @@ use Rattle.tolerance.specs.declared.Parts.{Parts}
 use Rattle.tolerance.specs.declared.Meaning.{Meaning}
 use Rattle.tolerance.specs.declared.Meaning.the-variants.{Exact, NotAllowed}
 use Rattle.tolerance.specs.Meaning.{meaning, agree}
-use Rattle.engine.specs.declared.Holding.{Holding}
-use Rattle.engine.specs.declared.Holding.the-variants.{Held, Refused as NotHeld}
-use Rattle.engine.specs.Checks.{ownRows, TraceOutcome, CrateOutcome}
-use Rattle.engine.specs.Hold.{holdingOf, HoldOutcome}
+use Rattle.checking.specs.declared.Holding.{Holding}
+use Rattle.checking.specs.declared.Holding.the-variants.{Held, Refused as NotHeld}
+use Rattle.checking.specs.Checks.{ownRows, TraceOutcome, CrateOutcome}
+use Rattle.checking.specs.Hold.{holdingOf, HoldOutcome}
 use Rattle.pedestals.specs.declared.Cause.{Cause}
 use Rattle.pedestals.specs.declared.Cause.the-variants.{Call, Trace}
 use Rattle.pedestals.specs.declared.Single.the-variants.{At as One, Refused as NotOne}

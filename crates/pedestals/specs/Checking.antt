@@ -24,7 +24,7 @@ use Rattle.channels.specs.Channels.{part, crateRow, Divided}
 use Rattle.ratio.specs.declared.Ratio.{Ratio}
 use Rattle.tolerance.specs.declared.Tolerance.{Tolerance}
 use Rattle.tolerance.specs.Meaning.{meaning, Held}
-use Rattle.engine.specs.Checks.{ownRows}
+use Rattle.checking.specs.Checks.{ownRows}
 use Rattle.pedestals.specs.declared.Check.{Check}
 use Rattle.pedestals.specs.declared.Check.the-variants.{Fine, Refused}
 use Rattle.pedestals.specs.declared.Single.{Single}

@@ -32,7 +32,7 @@ use Rattle.tolerance.specs.declared.Tolerance.{Tolerance}
 use Rattle.tolerance.specs.declared.Meaning.{Meaning}
 use Rattle.tolerance.specs.declared.Meaning.the-variants.{Exact, NotAllowed}
 use Rattle.tolerance.specs.Meaning.{meaning, agree}
-use Rattle.engine.specs.Checks.{ownRows}
+use Rattle.checking.specs.Checks.{ownRows}
 use Rattle.listing.specs.declared.Counts.{Counts}
 use Rattle.pedestals.specs.declared.Cause.{Cause}
 use Rattle.pedestals.specs.declared.Cause.the-variants.{Call, Trace}

@@ -8,7 +8,7 @@ use crate::Cause;
 use crate::Check;
 use crate::Ready;
 use crate::Single;
-use engine::Holding;
+use checking::Holding;
 use refusal::Checked;
 use refusal::Refusal;
 use tolerance::Tolerance;

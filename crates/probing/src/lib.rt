@@ -5,7 +5,6 @@ ghost use lib.ListN.{length};
 ghost use Rattle.kept.specs.Gallop.{found, doubling, bisection, gallopSearch};
 ghost use Rattle.trace.specs.Trace.{Trace};
 ghost use Rattle.trace.specs.Link.{Bounded, valid, linksEnd};
-ghost use Rattle.outgoing.specs.Outgoing.{TakenIn, Next};
 ghost use Rattle.probing.specs.Probing.{probeAt, Yes, Probes, AfterProbe};
 use kept::Search;
 use outgoing::Links;
@@ -13,6 +12,7 @@ use outgoing::links_past;
 use outgoing::passes;
 use outgoing::reaches;
 use outgoing::taken;
+use outgoing::taken_to;
 use trace::Criterion;
 
 // A search from a sample: the offset of its last yes, the probes made, and the links with the samples up to that offset taken in.
@@ -20,20 +20,6 @@ pub struct Probing {
     pub low: usize,
     pub probes: usize,
     pub links: Links,
-}
-
-// The links with the samples from a on and before b taken in too.
-fn taken_to(ticks: &[u32], values: &[i16], c: Criterion, links: Links, a: usize, b: usize) -> Links
-    requires { ⌜ Next (now ticks) (now values) c links a × (a ≤ b) × (b ≤ links .limit) × (b < length (now ticks)) ⌝ }
-    ensures { λ r. ⌜ TakenIn (now (ticks .entry)) (now (values .entry)) c (links .from .sample) b r ⌝ }
-{
-    let mut l = links;
-    let mut k = a;
-    while k < b {
-        l = taken(ticks, values, c, l, k);
-        k += 1;
-    }
-    l
 }
 
 // The search after a probe at offset d. A probe past the last sample, or the last to which links obey the gap limit, answers no, and counts.

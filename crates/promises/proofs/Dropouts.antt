@@ -48,7 +48,7 @@ use Rattle.limits.specs.Prepare.{toleranceRow, gapRow, commonRows, outputRows}
 use Rattle.engine.specs.declared.Closest.{Closest}
 use Rattle.engine.specs.declared.Closest.the-variants.{Kept, Refused as Declined}
 use Rattle.engine.specs.Least.{LeastOutcome}
-use Rattle.engine.specs.Report.{crateRows}
+use Rattle.reporting.specs.Report.{crateRows}
 use Rattle.promises.specs.Pedestals.{Exactly}
 use Rattle.promises.specs.Dropouts.{ListsAsBefore, RowsAsBefore, besideHole, ShortestObeying}
 

@@ -19,9 +19,9 @@ use Rattle.codes.specs.Code.{codeValues, codeTable}
 use Rattle.codes.proofs.RangeTableLaws.{fine-rises, higher-code}
 use Rattle.codes.proofs.RowLaws.{with-table, fine-with}
 use Rattle.codes.proofs.CodeLaws.{code-table-fine, code-values}
-use Rattle.engine.specs.declared.Written.{Written}
-use Rattle.engine.specs.declared.Written.the-variants.{Count, Refused as Declined}
-use Rattle.engine.specs.Expand.{expandRows, ExpandOutcome, ExpandWithOutcome}
+use Rattle.refusal.specs.declared.Written.{Written}
+use Rattle.refusal.specs.declared.Written.the-variants.{Count, Refused as Declined}
+use Rattle.expanding.specs.Expand.{expandRows, ExpandOutcome, ExpandWithOutcome}
 
 module _ (codes : List ℕ) (byte : (i : ℕ) → getD codes i 0 < 256) (o o′ : List ℤ) where
   same-rows : expandWithRows codes codeTable (length o) ≡ expandRows codes (length o)

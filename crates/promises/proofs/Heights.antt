@@ -23,7 +23,9 @@ use Rattle.engine.specs.Minimum.{MinimumOutcome}
 use Rattle.engine.specs.Least.{LeastOutcome}
 use Rattle.engine.specs.Sum.{SumOutcome}
 use Rattle.judging.specs.Judge.{JudgeOutcome}
-use Rattle.promises.proofs.Standing.{walk-stands, gallop-stands, minimum-stands, judge-stands, least-stands, sum-stands}
+use Rattle.greedy.specs.declared.GreedyVerdict.the-variants.{Yes as Passed}
+use Rattle.greedy.specs.Greedy.{JudgeGreedyOutcome}
+use Rattle.promises.proofs.Standing.{walk-stands, gallop-stands, minimum-stands, judge-stands, greedy-stands, least-stands, sum-stands}
 
 module _ (ts : List ℕ) (vs : List ℤ) (t : Limits) where
   pub walk-budget : {o o′ : List ℕ} {n : ℕ} → WalkOutcome ts vs t o (Kept n) o′ → ErrorBudget ts vs (criterionOf t) (take n o′)
@@ -35,9 +37,12 @@ module _ (ts : List ℕ) (vs : List ℤ) (t : Limits) where
   pub minimum-budget : {o o′ : List ℕ} {n : ℕ} → MinimumOutcome ts vs t o (Kept n) o′ → ErrorBudget ts vs (criterionOf t) (take n o′)
   minimum-budget h = error-budget (minimum-stands ts vs t h)
 
-  -- a list from elsewhere that judge passes
+  -- a list from elsewhere that judge passes, by its first question or its second
   pub judge-budget : {l : List ℕ} → JudgeOutcome ts vs l t Yes → ErrorBudget ts vs (criterionOf t) l
   judge-budget h = error-budget (judge-stands ts vs t h)
+
+  pub greedy-budget : {l : List ℕ} → JudgeGreedyOutcome ts vs l t Passed → ErrorBudget ts vs (criterionOf t) l
+  greedy-budget h = error-budget (greedy-stands ts vs t h)
 
 -- least's list, at the error that it returns
 pub least-budget : (ts : List ℕ) (vs : List ℤ) (g m : ℕ) {o o′ : List ℕ} {f : Found} → LeastOutcome ts vs g m o (KeptAt f) o′ → ErrorBudget ts vs (limited g (f .error)) (take (f .kept) o′)

@@ -7,6 +7,7 @@ pub mod NoFactor
 pub mod Probes
 pub mod Report
 pub mod Measures
+pub mod Greedy
 pub mod Expand
 pub mod PedestalShift
 pub mod Pedestals

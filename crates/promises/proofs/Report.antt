@@ -42,7 +42,7 @@ use Rattle.engine.specs.declared.Reduced.the-variants.{Kept, Refused as Decline
 use Rattle.limits.specs.Prepare.{limitRows, commonRows, criterionOf, outputRows}
 use Rattle.limits.proofs.PrepareLaws.{limits-held}
 use Rattle.engine.specs.Reduce.{WalkOutcome}
-use Rattle.engine.specs.Report.{crateRows, reportRows, ReportOutcome}
+use Rattle.reporting.specs.Report.{crateRows, reportRows, ReportOutcome}
 
 -- ---- the rows
 

@@ -31,6 +31,8 @@ use Rattle.engine.specs.Minimum.{MinimumOutcome}
 use Rattle.engine.specs.Least.{LeastOutcome}
 use Rattle.engine.specs.Sum.{SumOutcome}
 use Rattle.judging.specs.Judge.{judgeRows, JudgeOutcome}
+use Rattle.greedy.specs.declared.GreedyVerdict.the-variants.{Yes as Passed}
+use Rattle.greedy.specs.Greedy.{JudgeGreedyOutcome}
 use Rattle.limits.proofs.PrepareLaws.{common-trace}
 use Rattle.engine.proofs.WriteLaws.{common-held}
 
@@ -57,6 +59,10 @@ module _ (ts : List ℕ) (vs : List ℤ) (t : Limits) where
   pub judge-stands : {l : List ℕ} → JudgeOutcome ts vs l t Yes → StandsFor ts vs (criterionOf t) l
   unfolding judgeRows
   judge-stands h = let passed = h .passed .0 refl in passed-stands (then-fine (commonRows ts vs t) _ (passed .0) .0) (passed .1) (passed .2)
+
+  pub greedy-stands : {l : List ℕ} → JudgeGreedyOutcome ts vs l t Passed → StandsFor ts vs (criterionOf t) l
+  unfolding judgeRows
+  greedy-stands h = let passed = h .passed .0 refl in passed-stands (then-fine (commonRows ts vs t) _ (passed .0) .0) (passed .1 .kept) (passed .1 .valid)
 
 -- least's list, at the error that it returns
 pub least-stands : (ts : List ℕ) (vs : List ℤ) (g m : ℕ) {o o′ : List ℕ} {f : Found} → LeastOutcome ts vs g m o (KeptAt f) o′ → StandsFor ts vs (limited g (f .error)) (take (f .kept) o′)

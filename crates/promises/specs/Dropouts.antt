@@ -29,7 +29,7 @@ use Rattle.closest.specs.Closest.{leastError}
 use Rattle.allowance.specs.Rows.{allowanceRow, leastRows}
 use Rattle.channels.specs.Channels.{crateRow}
 use Rattle.limits.specs.Prepare.{unlimited, toleranceRow, commonRows, outputRows}
-use Rattle.engine.specs.Report.{crateRows}
+use Rattle.reporting.specs.Report.{crateRows}
 use Rattle.promises.specs.Pedestals.{Exactly}
 
 -- at p/q, for a trace; `link` is what judge and write ask

@@ -1,5 +1,5 @@
--- What holds of the lists of walk and gallop on a trace: each is a kept list of valid links with maximal stops, so it has at most as many
--- samples as any kept list within parts whose sum is at most each of the criterion's. Gallop's probe total, from the lengths of its stops.
+-- What holds of the lists of walk and gallop on a trace: each is a kept list of valid links with maximal stops (what that says of its size is in
+-- trace: proofs/Half, `greedy-short`). Gallop's probe total, from the lengths of its stops.
 -- Assumes nothing.
 use mathlib.Core.Path.{_≡_}
 use mathlib.Core.List.{List}
@@ -9,14 +9,12 @@ use lib.IntN.{ℤ}
 use lib.ListN.{length}
 use Rattle.kept.specs.Kept.{Greedy, EachLink}
 use Rattle.kept.specs.Gallop.{gallopSearch, stopProbes, listProbes}
-use Rattle.kept.proofs.KeptLaws.{greedy-size}
 use Rattle.kept.proofs.WalkLaws.{walk-greedy}
 use Rattle.kept.proofs.GallopLaws.{gallop-greedy, stop-probes, gallop-probes}
 use Rattle.trace.specs.declared.Criterion.{Criterion}
 use Rattle.trace.specs.Trace.{Trace}
-use Rattle.trace.specs.Link.{valid, parted, NoLonger}
+use Rattle.trace.specs.Link.{valid}
 use Rattle.trace.proofs.Validity.{steps-valid}
-use Rattle.trace.proofs.Half.{halves}
 use Rattle.reduction.specs.Walking.{walkList}
 use Rattle.reduction.specs.Galloping.{gallopList, gallopTotal}
 
@@ -28,11 +26,6 @@ module _ (ts : List ℕ) (vs : List ℤ) (c : Criterion) where
   gallop-list-greedy = gallop-greedy (valid ts vs c) (steps-valid ts vs c) (length ts - 1)
 
   module _ (t : Trace ts vs) where
-    -- any greedy list, however it was made
-    module _ {l : List ℕ} (g : Greedy (valid ts vs c) (length ts - 1) l) where
-      pub greedy-short : NoLonger ts vs c (length l)
-      greedy-short a b s = greedy-size (valid ts vs c) (length ts - 1) l g (valid ts vs (parted (c .gap) a b)) (halves (t .rising) vs c s)
-
     -- a stop of r samples takes exactly 2 floor (log2 r) + 1 probes
     pub gallop-stop-probes : EachLink (λ i j. gallopSearch (valid ts vs c) (length ts - 1) i .probes ≡ stopProbes (j - i)) (gallopList ts vs c)
     gallop-stop-probes = stop-probes (valid ts vs c) (steps-valid ts vs c) (length ts - 1) (omega (arith, t .few))

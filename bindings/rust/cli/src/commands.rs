@@ -2,20 +2,17 @@
 
 use crate::failure::{Failure, Status};
 use crate::line::{each, Kept, Line, METHODS};
-use crate::line::{
-    ABOVE, ALLOWANCE, BELOW, BUDGET, GAP, LIST, LIST_FILE, METHOD, OUTPUT, TOLERANCE,
-};
+use crate::line::{ABOVE, ALLOWANCE, BELOW, BUDGET, GAP, METHOD, OUTPUT, TOLERANCE};
 use crate::name::{joined, placed};
 use crate::records;
 use crate::source::Source;
-use crate::stray::{crosses, lies};
-use crate::text::{self, List, Text};
+use crate::text::{self, Text};
 use crate::{
-    budget, check, draw, help, measure, near, output, pedestals, probes, report, same, scan, sum,
-    summary, watch,
+    budget, check, draw, help, judge, measure, near, output, pedestals, probes, report, same, scan,
+    sum, summary, watch,
 };
-use kovrelna::{Least, Ratio, Refusal, Side, Tolerance, Verdict, GAP_MAX};
-use std::ffi::{OsStr, OsString};
+use kovrelna::{Least, Ratio, Refusal, Tolerance, GAP_MAX};
+use std::ffi::OsString;
 use std::fmt::Display;
 
 type Command = fn(&[OsString]) -> Result<Status, Failure>;
@@ -25,7 +22,7 @@ pub fn find(name: &str) -> Option<Command> {
     Some(match name {
         "record" => record,
         "show" => show,
-        "judge" => judge,
+        "judge" => judge::judge,
         "check" => check::check,
         "same" => same::same,
         "measure" => measure::measure,
@@ -85,40 +82,6 @@ fn show(arguments: &[OsString]) -> Result<Status, Failure> {
         text.push(text::lines(&record.ticks, &record.values));
         Ok(text)
     })
-}
-
-fn judge(arguments: &[OsString]) -> Result<Status, Failure> {
-    let options = [TOLERANCE, ABOVE, BELOW, GAP, LIST, LIST_FILE];
-    let line = Line::parse("judge", &options, arguments)?;
-    if line.arguments.help {
-        return output::print(help::JUDGE);
-    }
-    let limits = line.needed_limits()?;
-    let input = line.input()?.unwrap_or(OsStr::new("-"));
-    if line.value(LIST_FILE) == Some(OsStr::new("-")) && input == "-" {
-        return Err(line.wrong("standard input is wanted twice"));
-    }
-    let list = match (line.text(LIST)?, line.value(LIST_FILE)) {
-        (Some(list), None) => List::of(LIST.name, list).map_err(|cause| line.wrong(cause))?,
-        (None, Some(file)) => List::read(Source::open(Some(file))?)?,
-        _ => return Err(line.wrong("one of --list and --list-file is wanted")),
-    };
-    let text = Text::read(Source::open(line.input()?)?)?.original()?;
-    match kovrelna::judge(&text.ticks, &text.values, &list.entries, limits) {
-        Ok(Verdict::Within) => output::print("yes\n"),
-        Ok(Verdict::Outside { link, measure }) => {
-            let (from, to) = (list.entries[link], list.entries[link + 1]);
-            let cause = match measure.side {
-                Side::Gap => format!("it {}", crosses(&text.ticks, measure)),
-                _ => lies(&text.ticks, measure, limits.held),
-            };
-            let link = format!("link {link}, from sample {from} to {to}");
-            output::print(format!("no at {link}: {cause}\n"))?;
-            Ok(Status::No)
-        }
-        Err(Refusal::List(entry)) => Err(list.refused(entry)),
-        Err(refusal) => Err(text.refused(refusal)),
-    }
 }
 
 /// The most samples of a trace for least.

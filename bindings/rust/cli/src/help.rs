@@ -122,8 +122,23 @@ other side is what makes the link invalid. CAUSE is then one of
 
 each in one line.
 
-Usage: kovrelna judge TOLERANCE [--gap G] -l LIST [INPUT]
-       kovrelna judge TOLERANCE [--gap G] -f FILE [INPUT]
+With --greedy the question is whether the list obeys the size bound of the
+lists of walk and gallop, however it was made: whether every link is valid, and
+wherever one ends before the last sample, the link from its start to the sample
+after its end is not. Walk's and gallop's lists pass always. The answer is
+`yes` and a line to quote, which states the bound with its numbers; or `no at
+link N, from sample I at tick S to sample J at tick T: FAULT` with the first
+link at fault. FAULT is one of
+
+  the link is invalid; kovrelna judge without --greedy says where it strays
+  the stop is at fault, as the link from sample I to sample K at tick U is
+  valid too
+
+each in one line; K is the sample after J. An invalid link is named as such,
+whatever the link to sample K is.
+
+Usage: kovrelna judge TOLERANCE [--gap G] [--greedy] -l LIST [INPUT]
+       kovrelna judge TOLERANCE [--gap G] [--greedy] -f FILE [INPUT]
 
 TOLERANCE is -t T, or --above U --below D:
 
@@ -135,6 +150,7 @@ TOLERANCE is -t T, or --above U --below D:
   -l, --list LIST       samples, with commas between: 0,3,4
   -f, --list-file FILE  a file with the samples, with commas, spaces or line
                         ends between
+      --greedy          ask whether the size bound of walk and gallop holds too
 
 Exit status: 0 yes, 1 no, 2 error.
 ";

@@ -28,6 +28,7 @@ pub const OUTPUT: Known = Known::valued("output", Some('o'));
 pub const TRACE: Known = Known::valued("trace", None);
 pub const LIST: Known = Known::valued("list", Some('l'));
 pub const LIST_FILE: Known = Known::valued("list-file", Some('f'));
+pub const GREEDY: Known = Known::flag("greedy", None);
 pub const ALLOWANCE: Known = Known::valued("allowance", Some('a'));
 pub const FROM: Known = Known::valued("from", None);
 pub const TO: Known = Known::valued("to", None);
@@ -279,13 +280,18 @@ impl Limits {
     }
 }
 
-/// Half of the smaller part, in lowest terms: of p/q, p over 2q. It need not be an allowed tolerance.
-pub fn half(Parts { above, below }: Parts) -> Ratio {
-    let Ratio { p, q } = if compared(&above, &below).is_le() {
+/// The smaller part.
+pub fn smaller(Parts { above, below }: Parts) -> Ratio {
+    if compared(&above, &below).is_le() {
         above
     } else {
         below
-    };
+    }
+}
+
+/// Half of the smaller part, in lowest terms: of p/q, p over 2q. It need not be an allowed tolerance.
+pub fn half(parts: Parts) -> Ratio {
+    let Ratio { p, q } = smaller(parts);
     match p % 2 {
         0 => Ratio { p: p / 2, q },
         _ => Ratio { p, q: 2 * q },

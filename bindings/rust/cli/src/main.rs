@@ -30,8 +30,8 @@
 //! - `rounded`: numbers that are rounded in print.
 //! - `budget`: what an error budget may say.
 //! - `commands`: one function for each command.
-//! - `check`, `draw`, `measure`, `near`, `pedestals`, `probes`, `report`, `same`, `scan`, `sum`, `summary`,
-//!   `watch`: commands with a file of their own.
+//! - `check`, `draw`, `judge`, `measure`, `near`, `pedestals`, `probes`, `report`, `same`, `scan`, `sum`,
+//!   `summary`, `watch`: commands with a file of their own.
 //!
 //! Which samples are kept, whether a list is within a tolerance and where it strays, what a tolerance is
 //! held as, what is in a record, what two traces add up to and which channels have moved or are noisy:
@@ -53,6 +53,7 @@ mod failure;
 mod fraction;
 mod help;
 mod holes;
+mod judge;
 mod kept;
 mod levels;
 mod line;

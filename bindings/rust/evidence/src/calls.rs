@@ -10,6 +10,7 @@ pub enum Call {
     Hold,
     Measure,
     Judge,
+    JudgeGreedy,
     Walk,
     Gallop,
     Minimum,
@@ -28,10 +29,11 @@ pub enum Call {
 }
 
 /// Every call.
-pub const CALLS: [Call; 18] = [
+pub const CALLS: [Call; 19] = [
     Call::Hold,
     Call::Measure,
     Call::Judge,
+    Call::JudgeGreedy,
     Call::Walk,
     Call::Gallop,
     Call::Minimum,
@@ -61,6 +63,7 @@ impl Call {
             Call::Hold => "hold",
             Call::Measure => "measure",
             Call::Judge => "judge",
+            Call::JudgeGreedy => "judge_greedy",
             Call::Walk => "walk",
             Call::Gallop => "gallop",
             Call::Minimum => "minimum",
@@ -85,7 +88,7 @@ impl Call {
         match self {
             Call::Hold => &[4],
             Call::Measure => &[1, 2, 3, 6],
-            Call::Judge => &[1, 2, 3, 4, 15, 6],
+            Call::Judge | Call::JudgeGreedy => &[1, 2, 3, 4, 15, 6],
             Call::Walk | Call::Gallop | Call::Minimum => &[1, 2, 3, 4, 15, 10],
             Call::Least => &[1, 2, 3, 15, 5, 16, 10],
             Call::Scan => &[1, 2, 3, 19, 4, 15, 10],

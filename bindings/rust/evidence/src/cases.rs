@@ -9,9 +9,11 @@
 //! - [`codes_and_room`]: codes, and the entries of their output.
 
 use crate::compare::{
-    exactly, exactly_parts, expand, expand_with, form, given, hold, judge, least, measure, noise,
-    pedestals, ratio, read, reduce, report, same, scan, view_add, view_begin, write,
+    exactly, exactly_parts, expand, expand_with, form, given, hold, judge, judge_greedy, least,
+    measure, noise, pedestals, ratio, read, reduce, report, same, scan, view_add, view_begin,
+    write,
 };
+use crate::greedy::{judge_lists, passing_lists};
 use crate::measures::{self, judged};
 use crate::reductions::{
     any_tolerance, least_list, lists, shortest_lists, size_bound_of_all, size_bounds, tolerances,
@@ -41,7 +43,7 @@ pub struct Family {
 }
 
 /// Every sort.
-pub const FAMILIES: [Family; 29] = [
+pub const FAMILIES: [Family; 32] = [
     Family {
         name: "tolerances",
         weight: 40,
@@ -65,6 +67,21 @@ pub const FAMILIES: [Family; 29] = [
         name: "lists judged",
         weight: 100,
         case: lists_judged,
+    },
+    Family {
+        name: "lists judged as greedy",
+        weight: 60,
+        case: |random| lists_judged_greedy(40, random),
+    },
+    Family {
+        name: "lists of the longest traces judged as greedy",
+        weight: 1,
+        case: |random| lists_judged_greedy(4_096, random),
+    },
+    Family {
+        name: "every list judged as greedy",
+        weight: 20,
+        case: every_list_judged_greedy,
     },
     Family {
         name: "traces reduced",
@@ -347,6 +364,25 @@ fn lists_judged(random: &mut Random) {
     judge_list(&trace, gap, &list, random, &mut [0; 6]);
 }
 
+/// A trace of up to so many samples, with lists of every sort judged as greedy ones.
+fn lists_judged_greedy(most: i64, random: &mut Random) {
+    let samples = random.within(1, most) as usize;
+    let (trace, gap) = any_limited(samples, random);
+    let tolerances = tolerances(&trace, random);
+    let limits = random.choose(&tolerances).with_gap(gap);
+    judge_lists(&trace, limits, random, &mut [[0; 3]; 2]);
+}
+
+/// A trace so short that every kept list can be judged as a greedy one: the size bound holds of those that pass.
+fn every_list_judged_greedy(random: &mut Random) {
+    let samples = random.within(1, 8) as usize;
+    let (trace, gap) = any_limited(samples, random);
+    for tolerance in tolerances(&trace, random) {
+        let limits = tolerance.with_gap(gap);
+        size_bound_of_all(&trace, limits, &passing_lists(&trace, limits));
+    }
+}
+
 fn reduced(most: i64, random: &mut Random) {
     let samples = random.within(1, most) as usize;
     let (trace, gap) = any_limited(samples, random);
@@ -373,7 +409,7 @@ fn shortest(random: &mut Random) {
         let limits = tolerance.with_gap(gap);
         let lists = lists(&trace, limits, samples);
         shortest_lists(&trace, limits, &lists[2]);
-        size_bound_of_all(&trace, limits, &lists);
+        size_bound_of_all(&trace, limits, &lists[..2]);
     }
 }
 
@@ -399,7 +435,7 @@ pub fn unequal_parts(random: &mut Random) -> (Trace, Parts, [Vec<u16>; 3]) {
     let kept = lists(&trace, limits, samples);
     size_bounds(&trace, limits, &kept);
     if samples <= TRIED {
-        size_bound_of_all(&trace, limits, &kept);
+        size_bound_of_all(&trace, limits, &kept[..2]);
     }
     let turned = Trace {
         ticks: ticks.clone(),
@@ -659,6 +695,7 @@ pub fn random_faults(random: &mut Random) {
     let _ = measure(&ticks, &values, i, j);
     let limits = tolerance.with_gap(gap);
     let _ = judge(&ticks, &values, &list, limits);
+    let _ = judge_greedy(&ticks, &values, &list, limits);
     for method in METHODS {
         let _ = reduce(method, &ticks, &values, limits, room);
     }

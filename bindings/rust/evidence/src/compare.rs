@@ -4,7 +4,8 @@
 
 use crate::calls::Call;
 use kovrelna::{
-    Limits, Ratio, ReducedTrace, Refusal, Run, Summary, Tolerance, Totals, Verdict, View, GAP_MAX,
+    GreedyVerdict, Limits, Ratio, ReducedTrace, Refusal, Run, Summary, Tolerance, Totals, Verdict,
+    View, GAP_MAX,
 };
 use kovrelna_reference::generate::Channels;
 use kovrelna_reference::pedestals::{self, Pedestals};
@@ -14,8 +15,10 @@ use kovrelna_reference::scans;
 use kovrelna_reference::sums::{self, Sum, Summand};
 use kovrelna_reference::views::{self, State};
 use kovrelna_reference::{
-    held, Form, Fraction, Invalid, Least, Measure, Method, Parts, Reduced, Row, Side,
+    held, Fault, Form, Fraction, GreedyFault, Invalid, Least, Measure, Method, Parts, Reduced, Row,
+    Side,
 };
+use std::fmt::Debug;
 use std::hint::black_box;
 
 /// The tolerance p/q.
@@ -198,23 +201,61 @@ pub fn judge(
 ) -> Result<Option<Invalid>, Row> {
     let limits = limits.into();
     let expected = kovrelna_reference::judge(ticks, values, list, asked(limits));
-    Call::Judge.count(&expected);
-    Call::Judge.count_parts([held(form(limits.tolerance))]);
+    let make = |ticks: &[u32], values: &[i16], list: &[u16]| {
+        Ok(match kovrelna::judge(ticks, values, list, limits)? {
+            Verdict::Within => None,
+            Verdict::Outside { link, measure } => Some(Invalid {
+                link,
+                measure: measured(measure),
+            }),
+        })
+    };
+    judged(Call::Judge, (ticks, values, list), limits, expected, make)
+}
+
+/// The same of `judge_greedy`: returns the first link at fault, if any, or the refusal's row.
+pub fn judge_greedy(
+    ticks: &[u32],
+    values: &[i16],
+    list: &[u16],
+    limits: impl Into<Limits>,
+) -> Result<Option<GreedyFault>, Row> {
+    let limits = limits.into();
+    let expected = kovrelna_reference::judge_greedy(ticks, values, list, asked(limits));
+    let make = |ticks: &[u32], values: &[i16], list: &[u16]| {
+        Ok(match kovrelna::judge_greedy(ticks, values, list, limits)? {
+            GreedyVerdict::Yes => None,
+            GreedyVerdict::No { link, fault } => Some(GreedyFault {
+                link,
+                fault: match fault {
+                    kovrelna::Fault::Link => Fault::Link,
+                    kovrelna::Fault::Stop => Fault::Stop,
+                },
+            }),
+        })
+    };
+    let call = Call::JudgeGreedy;
+    judged(call, (ticks, values, list), limits, expected, make)
+}
+
+/// Makes one of the two calls with these ticks, values and list, and compares it.
+fn judged<T: Debug + PartialEq>(
+    call: Call,
+    (ticks, values, list): (&[u32], &[i16], &[u16]),
+    limits: Limits,
+    expected: Result<Option<T>, Row>,
+    make: impl Fn(&[u32], &[i16], &[u16]) -> Result<Option<T>, Refusal>,
+) -> Result<Option<T>, Row> {
+    call.count(&expected);
+    call.count_parts([held(form(limits.tolerance))]);
     for guards in GUARDS {
         let ticks = Guarded::new(ticks, guards.0);
         let values = Guarded::new(values, guards.1);
         let list = Guarded::new(list, guards.2);
-        let answer = match kovrelna::judge(ticks.slice(), values.slice(), list.slice(), limits) {
-            Ok(Verdict::Within) => Ok(None),
-            Ok(Verdict::Outside { link, measure }) => Ok(Some(Invalid {
-                link,
-                measure: measured(measure),
-            })),
-            Err(refusal) => Err(row(refusal)),
-        };
+        let answer = make(ticks.slice(), values.slice(), list.slice()).map_err(row);
         let input = || {
-            let lists = (ticks.slice(), values.slice(), list.slice());
-            format!("judge ticks, values, list: {lists:?}\n{limits:?}")
+            let (name, lists) = (call.name(), (ticks.slice(), values.slice(), list.slice()));
+            format!("{name} ticks, values, list: {lists:?}\n{limits:?}")
         };
         assert_eq!(answer, expected, "{}", input());
         assert!(

@@ -4,6 +4,7 @@
 //! - [`calls`]: the calls, their refusals, and how often each was compared.
 //! - [`compare`]: each call, compared with the reference.
 //! - [`measures`]: what holds of the measures of links, and of judge's no.
+//! - [`greedy`]: what holds of lists that are judged as greedy ones.
 //! - [`reductions`]: what holds of the lists of the reductions.
 //! - [`scans`]: what holds of scans.
 //! - [`views`]: what holds of views.
@@ -15,6 +16,7 @@
 pub mod calls;
 pub mod cases;
 pub mod compare;
+pub mod greedy;
 pub mod measures;
 pub mod reductions;
 pub mod run;

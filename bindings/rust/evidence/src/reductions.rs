@@ -2,12 +2,13 @@
 //! at which they change. A check that fails panics, with its input.
 
 use crate::compare::{asked, exactly, exactly_parts, given, judge, least, noise, ratio, reduce};
+use crate::greedy::judged_greedy;
 use kovrelna::{Limits, Tolerance};
 use kovrelna_reference::generate::{any_parts, just_below, near_parts, written, Random, Trace};
 use kovrelna_reference::Method::{self, Gallop, Minimum, Walk};
 use kovrelna_reference::{
-    beside_holes, fewest, kept_lists, link_error, link_parts, link_valid, list_error, list_obeys,
-    list_parts, Least, Reduced, TOLERANCE,
+    beside_holes, fewest, kept_lists, link_error, link_parts, list_error, list_obeys, list_parts,
+    Least, Reduced, TOLERANCE,
 };
 
 /// The methods whose stops are maximal.
@@ -40,21 +41,14 @@ fn probes_of_stops(trace: &Trace, limits: Limits, Reduced { list, probes }: &Red
     assert_eq!(total + stops == 2 * last, short, "{}", input());
 }
 
-/// Calls a greedy method and sees what holds of every greedy list: each link is valid; from the same
-/// start, the link to the sample after each stop is invalid; gallop's stops take their probes.
+/// Calls a greedy method and sees what holds of every greedy list: it passes as one, so each link is valid,
+/// and from the same start the link to the sample after each stop is invalid; gallop's stops take their probes.
 pub fn greedy(method: Method, trace: &Trace, limits: impl Into<Limits>, room: usize) -> Reduced {
     let limits = limits.into();
     let Trace { ticks, values } = trace;
     let reduced = reduce(method, ticks, values, limits, room).unwrap();
-    assert_eq!(judge(ticks, values, &reduced.list, limits), Ok(None));
-    let held = asked(limits).held().unwrap();
-    for link in reduced.list.windows(2) {
-        let (i, j) = (usize::from(link[0]), usize::from(link[1]));
-        assert!(
-            j == ticks.len() - 1 || !link_valid(ticks, values, i, j + 1, held),
-            "{method:?} stops too early at {j}\n{trace:?}\n{limits:?}"
-        );
-    }
+    let fault = judged_greedy(trace, &reduced.list, limits);
+    assert_eq!(fault, None, "{method:?} {reduced:?}\n{trace:?}\n{limits:?}");
     if method == Gallop {
         probes_of_stops(trace, limits, &reduced);
     }
@@ -114,14 +108,11 @@ pub fn size_bounds(
     }
 }
 
-/// The same of every kept list, for all such a and b: a list that obeys the gap limit is within some of them
-/// exactly if the most that a sample lies above its lines and the most that one lies below are together at
-/// most the smaller part. Returns how many lists are. The trace is short.
-pub fn size_bound_of_all(
-    trace: &Trace,
-    limits: impl Into<Limits>,
-    [walk, gallop, _]: &[Vec<u16>; 3],
-) -> usize {
+/// The same of these greedy lists, or others that pass as such, and of every kept list, for all such a and b: a
+/// list that obeys the gap limit is within some of them exactly if the most that a sample lies above its lines
+/// and the most that one lies below are together at most the smaller part. Returns how many lists are. The trace
+/// is short.
+pub fn size_bound_of_all(trace: &Trace, limits: impl Into<Limits>, greedy: &[Vec<u16>]) -> usize {
     let limits = asked(limits.into()).held().unwrap();
     let Trace { ticks, values } = trace;
     let smaller = limits.tolerance.smaller();
@@ -132,8 +123,8 @@ pub fn size_bound_of_all(
     let mut count = 0;
     for list in kept_lists(ticks.len()).filter(within) {
         assert!(
-            walk.len() <= list.len() && gallop.len() <= list.len(),
-            "{walk:?} or {gallop:?}, {list:?}\n{trace:?}\n{limits:?}"
+            greedy.iter().all(|greedy| greedy.len() <= list.len()),
+            "one of {greedy:?}, {list:?}\n{trace:?}\n{limits:?}"
         );
         count += 1;
     }

@@ -7,8 +7,8 @@
 //! - [`any_trace`]: of either sort.
 //! - [`tied`], [`repeated`]: traces with equal deviations, and with equally bad links.
 //! - [`Holes`], [`with_holes`], [`gap_limit`], [`any_limited`]: traces and gap limits that matter to them.
-//! - [`kept_list`], [`obeying_list`], [`any_list`], [`damaged`]: kept lists, and lists with one or more
-//!   faults.
+//! - [`kept_list`], [`obeying_list`], [`any_list`], [`spoilt`], [`damaged`]: kept lists, and lists with one or
+//!   more faults.
 //! - [`growing`], [`view_k`], [`view_state`], [`damage_view`]: traces for views, with ties and without, and
 //!   states of views and others.
 //! - [`just_below`], [`just_above`], [`near_parts`]: the tolerances nearest to a link's error, and to its
@@ -435,6 +435,24 @@ pub fn any_list(ticks: &[u32], gap: u32, random: &mut Random) -> Vec<u16> {
         0 => kept_list(ticks.len(), random),
         _ => obeying_list(ticks, gap, random),
     }
+}
+
+/// The kept list with one entry between its ends moved to the next sample or the one before, or left out, or
+/// with one added; still a kept list. A sample that is kept already is not added again.
+pub fn spoilt(list: &[u16], samples: usize, random: &mut Random) -> Vec<u16> {
+    let mut list = list.to_vec();
+    let inner = list.len().saturating_sub(2) as u64;
+    let change = if inner > 0 { random.below(4) } else { 3 };
+    let at = 1 + random.below(inner.max(1)) as usize;
+    match change {
+        0 => list[at] += 1,
+        1 => list[at] -= 1,
+        2 => drop(list.remove(at)),
+        _ => list.push(random.below(samples as u64) as u16),
+    }
+    list.sort();
+    list.dedup();
+    list
 }
 
 /// The kept list with one fault or several at places drawn for each. It may still be a kept list

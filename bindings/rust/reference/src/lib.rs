@@ -13,6 +13,7 @@
 //! - [`trace_refusal`], [`list_refusal`]: rows 1 to 3 and row 6 of the table of refusals.
 //! - [`measure`]: the call.
 //! - [`Invalid`], [`judge`]: the call.
+//! - [`Fault`], [`GreedyFault`], [`judge_greedy`]: the call.
 //! - [`Method`], [`Reduced`], [`reduce`]: the calls walk, gallop and minimum.
 //! - [`Least`], [`least`]: the call.
 //! - [`kept_lists`]: every kept list.
@@ -567,6 +568,23 @@ fn strays(
     }
 }
 
+/// The first row that fits a proposed list, or the limits with each part of the tolerance in lowest terms.
+fn proposed(
+    ticks: &[u32],
+    values: &[i16],
+    list: &[u16],
+    limits: Limits<Form>,
+) -> Result<Limits<Parts>, Row> {
+    if let Some(row) = trace_refusal(ticks, values) {
+        return Err(row);
+    }
+    let limits = limits.held()?;
+    match list_refusal(ticks.len(), list) {
+        Some(row) => Err(row),
+        None => Ok(limits),
+    }
+}
+
 /// The first row that fits, or the first invalid link, or nothing if all are valid.
 pub fn judge(
     ticks: &[u32],
@@ -574,13 +592,7 @@ pub fn judge(
     list: &[u16],
     limits: impl Into<Limits<Form>>,
 ) -> Result<Option<Invalid>, Row> {
-    if let Some(row) = trace_refusal(ticks, values) {
-        return Err(row);
-    }
-    let limits = limits.into().held()?;
-    if let Some(row) = list_refusal(ticks.len(), list) {
-        return Err(row);
-    }
+    let limits = proposed(ticks, values, list, limits.into())?;
     for (link, ends) in list.windows(2).enumerate() {
         let (i, j) = (usize::from(ends[0]), usize::from(ends[1]));
         if !link_valid(ticks, values, i, j, limits) {
@@ -589,6 +601,44 @@ pub fn judge(
         }
     }
     Ok(None)
+}
+
+/// What is at fault: a link, which is invalid, or the stop at its end, as the link from the same start to the
+/// sample after it is valid too.
+#[derive(Clone, Copy, Debug, PartialEq, Eq)]
+pub enum Fault {
+    Link,
+    Stop,
+}
+
+/// A list's first link at fault: its position, and the fault.
+#[derive(Clone, Copy, Debug, PartialEq, Eq)]
+pub struct GreedyFault {
+    pub link: usize,
+    pub fault: Fault,
+}
+
+/// The first row that fits, or the first link at fault, or nothing if none is. Looks at every sample of each
+/// link, and of the link to the sample after each stop but the last sample.
+pub fn judge_greedy(
+    ticks: &[u32],
+    values: &[i16],
+    list: &[u16],
+    limits: impl Into<Limits<Form>>,
+) -> Result<Option<GreedyFault>, Row> {
+    let limits = proposed(ticks, values, list, limits.into())?;
+    let valid = |i, j| link_valid(ticks, values, i, j, limits);
+    let fault = |i, j| match valid(i, j) {
+        false => Some(Fault::Link),
+        true if j + 1 < ticks.len() && valid(i, j + 1) => Some(Fault::Stop),
+        true => None,
+    };
+    let links = list.windows(2).enumerate();
+    let mut faults = links.filter_map(|(link, ends)| {
+        let fault = fault(ends[0].into(), ends[1].into())?;
+        Some(GreedyFault { link, fault })
+    });
+    Ok(faults.next())
 }
 
 /// How a kept list is found.
@@ -998,6 +1048,55 @@ mod tests {
         assert_eq!(judged(&[0, 5], 2, 2), invalid(0, 2, 2, Side::Gap));
         assert_eq!(judged(&[0, 5], 1, 2), invalid(0, 2, 1, Side::Above));
         assert_eq!(judged(&[0, 1, 2, 3, 5], 0, 2), invalid(3, 0, 4, Side::Gap));
+    }
+
+    /// Greedy lists and others; each fault, and a link that is invalid where the one to the next sample is
+    /// valid; the next sample is not the next kept one; parts and gap limits; the rows.
+    #[test]
+    fn greedy_lists() {
+        let (zigzag, wave, rise) = ([0, 3, 0, 3, 0], [0, 2, 0, -2, 0], [-2, 0, 2, 2, 0]);
+        let fault = |link, fault| Some(GreedyFault { link, fault });
+        let (link, stop) = (Fault::Link, Fault::Stop);
+        type Case<'a> = (&'a [i16; 5], (u64, u64), &'a [u16], Option<GreedyFault>);
+        let cases: [Case; 14] = [
+            (&zigzag, (2, 2), &[0, 1, 2, 3, 4], None),
+            (&zigzag, (2, 2), &[0, 3, 4], None),
+            (&zigzag, (2, 2), &[0, 1, 4], None),
+            (&zigzag, (2, 2), &[0, 4], fault(0, link)),
+            (&wave, (2, 2), &[0, 2, 4], None),
+            (&wave, (2, 2), &[0, 4], None),
+            (&wave, (2, 2), &[0, 1, 4], fault(0, stop)),
+            (&wave, (2, 2), &[0, 3, 4], fault(0, link)),
+            (&wave, (2, 2), &[0, 2, 3, 4], fault(1, stop)),
+            (&wave, (2, 1), &[0, 2, 3, 4], None),
+            (&wave, (1, 2), &[0, 1, 3, 4], None),
+            (&wave, (1, 2), &[0, 2, 3, 4], fault(0, link)),
+            (&rise, (1, 1), &[0, 1, 3, 4], fault(0, stop)),
+            (&rise, (1, 1), &[0, 2, 4], None),
+        ];
+        for (values, (above, below), list, expected) in cases {
+            let tolerance = Form::Parts((above, 1), (below, 1));
+            let answer = judge_greedy(&EVEN, values, list, tolerance);
+            assert_eq!(answer, Ok(expected), "{values:?} {list:?} {tolerance:?}");
+        }
+        let (ticks, values) = ([0, 1, 2, 10, 11, 12], [0; 6]);
+        let judged = |list: &[u16], gap| {
+            let limits = Limits {
+                tolerance: Form::Ratio(0, 1),
+                gap: Some(gap),
+            };
+            judge_greedy(&ticks, &values, list, limits)
+        };
+        assert_eq!(judged(&[0, 2, 3, 5], 7), Ok(None));
+        assert_eq!(judged(&[0, 2, 3, 5], 8), Ok(fault(0, stop)));
+        assert_eq!(judged(&[0, 2, 3, 4, 5], 7), Ok(fault(2, stop)));
+        assert_eq!(judged(&[0, 2, 5], 7), Ok(fault(1, link)));
+        assert_eq!(judged(&[], 0), Err((15, 0)));
+        assert_eq!(judged(&[0, 2], 7), Err((6, 2)));
+        let one = judge_greedy(&[7], &[7], &[0], Form::Ratio(0, 1));
+        assert_eq!(one, Ok(None));
+        let row = judge_greedy(&[5, 5], &[0, 0], &[], Form::Ratio(1, 0));
+        assert_eq!(row, Err((2, 1)));
     }
 
     /// Links with a sample above the line and one below, each exactly at its part, one step beyond it, and

@@ -5,6 +5,7 @@
 //! - `hold`: tolerances in all forms.
 //! - `measure`: links on random and adversarial traces.
 //! - `judge`: lists on random and adversarial traces.
+//! - `greedy`: the same, judged as greedy lists, and the size of those that pass.
 //! - `reduce`: walk, gallop and minimum on random and adversarial traces.
 //! - `least`: least errors on random and adversarial traces.
 //! - `scans`: scans at several tolerances.
@@ -20,6 +21,7 @@
 mod codes;
 mod figures;
 mod gaps;
+mod greedy;
 mod hold;
 mod judge;
 mod least;

@@ -152,7 +152,7 @@ fn every_small_trace() {
         for (above, below) in SMALL_PARTS {
             let tolerance = parts(above, below);
             let kept = lists(&trace, tolerance, samples);
-            within += size_bound_of_all(&trace, tolerance, &kept);
+            within += size_bound_of_all(&trace, tolerance, &kept[..2]);
             if kept[0].len() > 2 || kept[1].len() > 2 {
                 let held = hold(tolerance).unwrap();
                 let Parts { above, below } =
@@ -184,7 +184,7 @@ fn every_kept_list() {
             let kept = lists(&trace, limits, samples);
             let held = hold(tolerance).unwrap();
             let both = held.one().is_none() && held.smaller().p > 0;
-            within[usize::from(both)] += size_bound_of_all(&trace, limits, &kept);
+            within[usize::from(both)] += size_bound_of_all(&trace, limits, &kept[..2]);
             let passed = |list: &Vec<u16>| judged(&trace, list, limits).is_none();
             let shortest = kept_lists(samples).filter(passed).map(|list| list.len());
             assert_eq!(shortest.min(), Some(kept[2].len()), "{limits:?} {trace:?}");
@@ -220,7 +220,7 @@ fn slopes_barely_left() {
                 let kept = lists(&trace, tolerance, last + 1);
                 size_bounds(&trace, tolerance, &kept);
                 if last < TRIED {
-                    size_bound_of_all(&trace, tolerance, &kept);
+                    size_bound_of_all(&trace, tolerance, &kept[..2]);
                 }
                 kept[2].clone()
             };
@@ -360,7 +360,7 @@ fn greatest_parts() {
                 for limits in [tolerance.with_gap(GAP_MAX), tolerance.with_gap(1)] {
                     let kept = lists(&trace, limits, 5);
                     size_bounds(&trace, limits, &kept);
-                    size_bound_of_all(&trace, limits, &kept);
+                    size_bound_of_all(&trace, limits, &kept[..2]);
                 }
             }
             assert_eq!(lists(&trace, ratio(65_535, 1), 5), [[0, 4]; 3]);

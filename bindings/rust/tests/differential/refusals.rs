@@ -6,8 +6,8 @@ use kovrelna_evidence::calls::Call::{self, *};
 use kovrelna_evidence::calls::CALLS;
 use kovrelna_evidence::cases::random_faults;
 use kovrelna_evidence::compare::{
-    expand, expand_with, hold, judge, least, measure, noise, parts, pedestals, ratio, read, reduce,
-    report, same, scan, sum, view_add, view_begin, write,
+    expand, expand_with, hold, judge, judge_greedy, least, measure, noise, parts, pedestals, ratio,
+    read, reduce, report, same, scan, sum, view_add, view_begin, write,
 };
 use kovrelna_reference::generate::{crate_of, Channels, Random, Trace};
 use kovrelna_reference::record::{end, first, short, tolerance, unequal};
@@ -128,6 +128,7 @@ fn refused(call: Call, input: &Input) -> Option<Row> {
         Hold => hold(tolerance).err(),
         Measure => measure(ticks, values, input.link.0, input.link.1).err(),
         Judge => judge(ticks, values, list, limits).err(),
+        JudgeGreedy => judge_greedy(ticks, values, list, limits).err(),
         Walk => reduced(Method::Walk),
         Gallop => reduced(Method::Gallop),
         Minimum => reduced(Method::Minimum),
@@ -168,13 +169,51 @@ fn refused(call: Call, input: &Input) -> Option<Row> {
 /// parts, a gap limit, a list, codes; those with an output of an entry for each sample, code or channel, and
 /// with two of them.
 const TRACES: &[Call] = &[
-    Measure, Judge, Walk, Gallop, Minimum, Least, Scan, ViewAdd, Write,
+    Measure,
+    Judge,
+    JudgeGreedy,
+    Walk,
+    Gallop,
+    Minimum,
+    Least,
+    Scan,
+    ViewAdd,
+    Write,
 ];
-const LONG_TRACES: &[Call] = &[Judge, Walk, Gallop, Minimum, Scan, Write];
-const TOLERANCES: &[Call] = &[Hold, Judge, Walk, Gallop, Minimum, Write, Report, Pedestals];
-const UNEQUAL: &[Call] = &[Hold, Judge, Walk, Gallop, Minimum, Write, Report];
-const GAPS: &[Call] = &[Judge, Walk, Gallop, Minimum, Least, Scan, Write, Report];
-const LISTS: &[Call] = &[Judge, Write];
+const LONG_TRACES: &[Call] = &[Judge, JudgeGreedy, Walk, Gallop, Minimum, Scan, Write];
+const TOLERANCES: &[Call] = &[
+    Hold,
+    Judge,
+    JudgeGreedy,
+    Walk,
+    Gallop,
+    Minimum,
+    Write,
+    Report,
+    Pedestals,
+];
+const UNEQUAL: &[Call] = &[
+    Hold,
+    Judge,
+    JudgeGreedy,
+    Walk,
+    Gallop,
+    Minimum,
+    Write,
+    Report,
+];
+const GAPS: &[Call] = &[
+    Judge,
+    JudgeGreedy,
+    Walk,
+    Gallop,
+    Minimum,
+    Least,
+    Scan,
+    Write,
+    Report,
+];
+const LISTS: &[Call] = &[Judge, JudgeGreedy, Write];
 const CODES: &[Call] = &[Expand, ExpandWith];
 const OUTPUTS: &[Call] = &[
     Walk, Gallop, Minimum, Least, Sum, Expand, ExpandWith, Read, Report, Pedestals,

@@ -1,7 +1,7 @@
 -- `kovrelna::border_sheet` meets its contract. Assumes nothing.
 use mathlib.Core.Path.{subst}
 use Rattle.limits.specs.declared.Limits.{Limits}
-use Rattle.engine.specs.Report.{Surveyed}
+use Rattle.reporting.specs.Report.{Surveyed}
 use borrow.Author.Needs.{needs}
 use Rattle.kovrelna.proofs.border_sheet.Statement.{statement}
 use Rattle.kovrelna.proofs.border_sheet.Tie as tie

@@ -1,6 +1,6 @@
 -- `kovrelna::kovrelna_hold` meets its contract: it has the outcome of the public call. Assumes nothing.
 use mathlib.Core.Path.{subst}
-use Rattle.engine.specs.Hold.{HoldOutcome}
+use Rattle.checking.specs.Hold.{HoldOutcome}
 use Rattle.tolerance.specs.declared.Tolerance.{Tolerance}
 use borrow.Author.Needs.{needs}
 use Rattle.kovrelna.proofs.kovrelna_hold.Statement.{statement}

@@ -57,7 +57,7 @@ use Rattle.border.proofs.report_of as report-of
 use Rattle.border.proofs.report_of.Symbol as report-of-def
 use Rattle.border.proofs.report_of.Symbol.{name as #border·report-of}
 use Rattle.border.proofs.report_of.Met as report-of-thm
-use Rattle.engine.specs.Report.{ReportOutcome, Surveyed}
+use Rattle.reporting.specs.Report.{ReportOutcome, Surveyed}
 use Rattle.border.specs.Border.{limitsOf, reportOf}
 use Rattle.kovrelna.specs.Exports.{ReportExport}
 use Rattle.kovrelna.proofs.border_sheet as border-sheet

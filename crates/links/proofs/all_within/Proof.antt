@@ -1,11 +1,12 @@
 -- `links::all_within` meets its contract: the loop has passed every sample before k, and one that fails is one outside. Assumes nothing.
 use Prim.Native.Nat.{_-_}
 use mathlib.Core.Path.{_≡_, sym, _∙_}
+use native.Mathlib.Omega.{arith}
 use borrow.Author.Needs.{needs}
 use borrow.Author.Tests.{not-true, not-false}
 use Rattle.trace.specs.Link.{within}
 use Rattle.trace.proofs.Validity.{Passed, passed-none, passed-more, passed-all, failed, within-true, within-false}
-use Rattle.trace.proofs.EdgeLaws.{reach-both, band-requires, band-test}
+use Rattle.trace.proofs.EdgeLaws.{reach, parts-requires, parts-test}
 use Rattle.links.proofs.all_within.Statement.{statement}
 use Rattle.links.proofs.all_within.Tie as tie
 
@@ -18,10 +19,10 @@ abbrev μ-loop : tie.MeasureT-loop
 start-at-requires : tie.Need-start-at-requires Inv-loop μ-loop
 start-at-requires c κs = search needs
 
-aim-at-requires : tie.Need-aim-at-requires Inv-loop μ-loop
-aim-at-requires c κs =
+edge-to-requires : tie.Need-edge-to-requires Inv-loop μ-loop
+edge-to-requires c κs =
     let pre = c .before .before .pre in
-    reach-both (c .start-at .ensures) (pre .0 .trace) (search needs) (pre .0 .inside) (pre .1)
+    reach (c .start-at .ensures) (pre .0 .trace) (search needs) (pre .0 .inside) (omega arith)
 
 add-k : tie.Need-add-k Inv-loop μ-loop
 add-k c = search needs
@@ -29,25 +30,26 @@ add-k c = search needs
 loop-holds : tie.Need-loop-holds Inv-loop μ-loop
 loop-holds c = passed-none (search needs)
 
-aim-at-requires-2 : tie.Need-aim-at-requires-2 Inv-loop μ-loop
-aim-at-requires-2 c κs =
+edge-to-requires-2 : tie.Need-edge-to-requires-2 Inv-loop μ-loop
+edge-to-requires-2 c κs =
     let s = c .before .before .before in
     let pre = s .before .before .pre in
-    reach-both (s .start-at .ensures) (pre .0 .trace) (search needs) (search needs) (pre .1)
+    reach (s .start-at .ensures) (pre .0 .trace) (search needs) (search needs) (omega arith)
 
-in-band-requires : tie.Need-in-band-requires Inv-loop μ-loop
-in-band-requires c κs =
+in-parts-requires : tie.Need-in-parts-requires Inv-loop μ-loop
+in-parts-requires c κs =
     let s = c .before .before .before .before in
     let pre = s .before .before .pre in
-    band-requires (pre .0) (pre .1) (search needs) (search needs) (s .start-at .ensures) (c .before .before .before .aim-at .ensures) (c .aim-at2 .ensures)
+    let slopes = parts-requires (pre .0) (search needs) (search needs) (s .start-at .ensures) (c .before .before .before .edge-to .ensures) (c .edge-to2 .ensures) in
+    (slopes .0, slopes .1, slopes .2, pre .1)
 
 -- the test of sample k is that of the definition
-tested : (c : tie.After-in-band Inv-loop μ-loop) → let a = c .before .before .before .before .before .before .before .args in
-    c .in-band .result ≡ within (a .ticks .now) (a .values .now) (a .c) (a .i) (a .j) (c .before .before .before .loop .k)
+tested : (c : tie.After-in-parts Inv-loop μ-loop) → let a = c .before .before .before .before .before .before .before .args in
+    c .in-parts .result ≡ within (a .ticks .now) (a .values .now) (a .c) (a .i) (a .j) (c .before .before .before .loop .k)
 tested c =
     let s = c .before .before .before .before .before in
     let pre = s .before .before .pre in
-    c .in-band .ensures ∙ band-test (pre .0) (pre .1) (search needs) (search needs) (s .start-at .ensures) (c .before .before .before .before .aim-at .ensures) (c .before .aim-at2 .ensures)
+    c .in-parts .ensures ∙ parts-test (pre .0) (search needs) (search needs) (s .start-at .ensures) (c .before .before .before .before .edge-to .ensures) (c .before .edge-to2 .ensures) _
 
 returns : tie.Need-returns Inv-loop μ-loop
 returns c = sym (failed (c .before .before .before .before .loop .inv) (c .before .before .before .loop-test .taken) (within-false _ _ _ _ _ _ (sym (tested (c .before)) ∙ not-true _ (c .if1 .taken))))
@@ -71,11 +73,11 @@ all-within-spec =
     Inv-loop
     μ-loop
     start-at-requires
-    aim-at-requires
+    edge-to-requires
     add-k
     loop-holds
-    aim-at-requires-2
-    in-band-requires
+    edge-to-requires-2
+    in-parts-requires
     returns
     add-k-2
     loop-less

@@ -5,6 +5,7 @@
 //! - `counts`: tables of counts.
 //! - `draw`: pictures.
 //! - `gap`: gap limits.
+//! - `greedy`: whether the size bound of the greedy reductions holds of a list.
 //! - `measure`: how far a link strays, and where.
 //! - `names`: names of files that are not UTF-8.
 //! - `near`: how near lists are to the shortest.
@@ -23,6 +24,7 @@ mod check;
 mod counts;
 mod draw;
 mod gap;
+mod greedy;
 mod measure;
 mod names;
 mod near;
@@ -572,6 +574,8 @@ fn full_output() {
         &["summary", wave],
         &["draw", "-t1"],
         &["judge", "-t1", "-l0,4"],
+        &["judge", "-t2", "-l0,4", "--greedy"],
+        &["judge", "-t2", "-l0,1,4", "--greedy"],
         &["check", wave, "-"],
         &["same", wave, wave],
         &["measure", "0", "1"],

@@ -58,7 +58,7 @@ use Rattle.sheet.proofs.answer_of.Met as answer-of-thm
 use Rattle.limits.specs.declared.Limits.{Limits}
 use Rattle.limits.proofs.Limits as L
 use Rattle.limits.proofs.Limits.Laws as L′
-use Rattle.engine.specs.Report.{ReportOutcome, Surveyed}
+use Rattle.reporting.specs.Report.{ReportOutcome, Surveyed}
 use Rattle.engine.proofs.report.sheet_of as sheet-of
 use Rattle.engine.proofs.report.sheet_of.Symbol as sheet-of-def
 use Rattle.engine.proofs.report.sheet_of.Symbol.{name as #engine·report·sheet-of}

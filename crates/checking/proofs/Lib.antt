@@ -1,0 +1,2 @@
+-- The laws of the crate `checking`.
+pub mod HoldLaws

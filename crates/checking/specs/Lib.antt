@@ -1,0 +1,3 @@
+-- The definitions of the crate `checking`.
+pub mod Checks
+pub mod Hold

@@ -1,0 +1,2 @@
+-- The definitions of the crate `expanding`.
+pub mod Expand

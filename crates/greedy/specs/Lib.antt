@@ -1,0 +1,2 @@
+-- The definitions of the crate `greedy`.
+pub mod Greedy

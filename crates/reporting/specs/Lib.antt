@@ -1,0 +1,2 @@
+-- The definitions of the crate `reporting`.
+pub mod Report
