@@ -18,14 +18,11 @@ use Rattle.lists.proofs.FirstLaws.{Searching, searching-more, searched-at, sear
 use Rattle.refusal.specs.declared.Refusal.{Refusal}
 use Rattle.refusal.specs.declared.Checked.{Checked}
 use Rattle.refusal.specs.declared.Checked.the-variants.{Fine, Refused}
-use Rattle.refusal.proofs.TableLaws.{then-fine}
 use Rattle.kept.specs.Kept.{KeptList, Greedy}
 use Rattle.kept.proofs.KeptLaws.{links-at, links-of, kept-links}
 use Rattle.limits.specs.declared.Limits.{Limits}
 use Rattle.limits.specs.Prepare.{commonRows, criterionOf}
-use Rattle.limits.proofs.PrepareLaws.{common-trace}
 use Rattle.trace.specs.declared.Criterion.{Criterion}
-use Rattle.trace.specs.Trace.{Trace}
 use Rattle.trace.specs.Link.{Linked, Bounded, allWithin, valid, linksEnd, NoLonger}
 use Rattle.trace.proofs.Holes.{links-end-inside, obeys-to, obeys-past}
 use Rattle.trace.proofs.Validity.{hole-invalid, obeying-valid}
@@ -35,7 +32,7 @@ use Rattle.outgoing.specs.Outgoing.{TakenIn, Next}
 use Rattle.outgoing.proofs.OutgoingLaws.{next-at}
 use Rattle.proposed.specs.Proposed.{entry, listRow}
 use Rattle.judging.specs.Judge.{judgeRows}
-use Rattle.judging.proofs.JudgeLaws.{rows-kept}
+use Rattle.judging.proofs.JudgeLaws.{rows-are-trace, rows-kept}
 use Rattle.greedy.specs.declared.Tested.{Tested}
 use Rattle.greedy.specs.declared.GreedyVerdict.{GreedyVerdict}
 use Rattle.greedy.specs.declared.GreedyVerdict.the-variants.{Yes, Link, Stop, Refused as Declined}
@@ -234,10 +231,6 @@ module _ (ts : List ℕ) (vs : List ℤ) (l : List ℕ) where
   unfolding judgeGreedyOf judgeRows
   common-refused t h = rw h
 
-  rows-trace : (t : Limits) → judgeRows ts vs l t ≡ Fine → Trace ts vs
-  unfolding judgeRows
-  rows-trace t h = common-trace ts vs t (then-fine (commonRows ts vs t) _ h .0)
-
   module _ (t : Limits) where
     -- the verdict behind an answer that is no refusal
     pub answered : {w : GreedyVerdict} → judgeGreedyOf ts vs l t ≡ w → ((r : Refusal) → w ≡ Declined r → ⊥) → (judgeRows ts vs l t ≡ Fine) × (listGreedy ts vs l (criterionOf t) ≡ w)
@@ -253,7 +246,7 @@ module _ (ts : List ℕ) (vs : List ℤ) (l : List ℕ) where
 
     -- demand 3: one theorem for walk's lists, gallop's and these
     short : judgeGreedyOf ts vs l t ≡ Yes → NoLonger ts vs (criterionOf t) (length l)
-    short e = let p = passes .0 e in greedy-short ts vs (criterionOf t) (rows-trace t (p .0)) (p .1)
+    short e = let p = passes .0 e in greedy-short ts vs (criterionOf t) (rows-are-trace ts vs l t (p .0)) (p .1)
 
     at-link : (k : ℕ) → judgeGreedyOf ts vs l t ≡ Link k → LinkFault ts vs (criterionOf t) l k
     at-link k e = let d = answered e (λ r q. let z : _≡_ {A = ℕ} 0 1 = cc in omega arith) in link-fault ts vs l (criterionOf t) (rows-kept ts vs l t (d .0)) (d .1)

@@ -104,7 +104,7 @@ module _ (ts : List ℕ) (vs : List ℤ) (l : List ℕ) where
   judge-refused t h = rw h
 
   -- what the rows say of a trace and a list that none of them refuses
-  rows-are-trace : (t : Limits) → judgeRows ts vs l t ≡ Fine → Trace ts vs
+  pub rows-are-trace : (t : Limits) → judgeRows ts vs l t ≡ Fine → Trace ts vs
   unfolding judgeRows
   rows-are-trace t h = common-trace ts vs t (then-fine (commonRows ts vs t) _ h .0)
 
