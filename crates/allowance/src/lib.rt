@@ -1,4 +1,6 @@
 // The checks of least: of a trace of at most 256 samples, a gap limit, an allowance and an output of `room` entries.
+#![tactic(auto)]
+
 ghost use Rattle.std.specs.Prelude.{◌≡◌, ◌≤◌, length};
 ghost use Rattle.refusal.specs.Table.{room_row, ◌then_check◌};
 ghost use Rattle.trace.specs.Trace.{Trace};

@@ -1,4 +1,6 @@
 // The border of the C interface: its structs, and the converters between them and the enums of `engine` and of the products above it.
+#![tactic(auto)]
+
 ghost use Rattle.std.specs.Prelude.{◌≡◌};
 ghost use Rattle.border.specs.Border.{tolerance_of, limits_of, entry_of, tolerances_of, held_of, side_number, measured_of, judged_of, judged_greedy_of, kept_of, checked_of, begun_of, stepped_of, scanned_of, galloped_of, closest_of, written_of, read_of, compared_of, report_of, listed_of};
 
@@ -8,7 +10,7 @@ use sheet::Sheet;
 // A tolerance: form 0 is the ratio p/q, form 1 is x counts, form 2 is the noise x times the multiple y, and form 3 is two parts, p/q above
 // the line and dp/dq below it. No other form is allowed.
 #[repr(C)]
-#[derive(Drop)]
+#[derive(Clone, Copy)]
 pub struct Tolerance {
     pub form: u64,
     pub p: u64,
@@ -21,7 +23,7 @@ pub struct Tolerance {
 
 // What links are asked to meet: a tolerance, and a gap limit in ticks.
 #[repr(C)]
-#[derive(Drop)]
+#[derive(Clone, Copy)]
 pub struct Limits {
     pub tolerance: Tolerance,
     pub gap: u32,
@@ -29,7 +31,7 @@ pub struct Limits {
 
 // Up to 16 tolerances: the first `count` of `list`.
 #[repr(C)]
-#[derive(Drop)]
+#[derive(Clone, Copy)]
 pub struct Tolerances {
     pub count: u64,
     pub list: [Tolerance; 16],
@@ -37,7 +39,7 @@ pub struct Tolerances {
 
 // A tolerance in lowest terms under the number 0, its part above p/q and its part below dp/dq; or a refusal's number and value.
 #[repr(C)]
-#[derive(Drop)]
+#[derive(Clone, Copy)]
 pub struct Held {
     pub number: u32,
     pub value: u64,
@@ -49,7 +51,7 @@ pub struct Held {
 
 // A link's error p/q, the first sample where it occurs and the number of its side under the number 0; or a refusal's number and value.
 #[repr(C)]
-#[derive(Drop)]
+#[derive(Clone, Copy)]
 pub struct Measured {
     pub number: u32,
     pub side: u32,
@@ -61,7 +63,7 @@ pub struct Measured {
 
 // A verdict under the number 0, with the first invalid link and where it strays if the list is not passed; or a refusal's number and value.
 #[repr(C)]
-#[derive(Drop)]
+#[derive(Clone, Copy)]
 pub struct Judged {
     pub number: u32,
     pub passed: u32,
@@ -75,7 +77,7 @@ pub struct Judged {
 // A verdict of judge's second question under the number 0, with the first position at fault and the fault's number if the list is not passed; or
 // a refusal's number and value.
 #[repr(C)]
-#[derive(Drop)]
+#[derive(Clone, Copy)]
 pub struct JudgedGreedy {
     pub number: u32,
     pub passed: u32,
@@ -85,7 +87,7 @@ pub struct JudgedGreedy {
 
 // A verdict on two records under the number 0, or a refusal's number and value.
 #[repr(C)]
-#[derive(Drop)]
+#[derive(Clone, Copy)]
 pub struct Verdict {
     pub number: u32,
     pub passed: u32,
@@ -94,7 +96,7 @@ pub struct Verdict {
 
 // How many samples were kept, or entries or bytes written, under the number 0; or a refusal's number and value.
 #[repr(C)]
-#[derive(Drop)]
+#[derive(Clone, Copy)]
 pub struct Answer {
     pub number: u32,
     pub value: u64,
@@ -102,7 +104,7 @@ pub struct Answer {
 
 // The same, with the probe total.
 #[repr(C)]
-#[derive(Drop)]
+#[derive(Clone, Copy)]
 pub struct Galloped {
     pub number: u32,
     pub value: u64,
@@ -111,7 +113,7 @@ pub struct Galloped {
 
 // A view under the number 0; or a refusal's number and value, and zeros.
 #[repr(C)]
-#[derive(Drop)]
+#[derive(Clone, Copy)]
 pub struct Begun {
     pub number: u32,
     pub value: u64,
@@ -119,7 +121,7 @@ pub struct Begun {
 }
 
 // What an addition to a view answers, and the state after it.
-#[derive(Drop)]
+#[derive(Clone, Copy)]
 pub struct Stepped {
     pub answer: Answer,
     pub view: View,
@@ -127,7 +129,7 @@ pub struct Stepped {
 
 // How many samples were kept at each tolerance under the number 0, and 0 behind the last; or a refusal's number and value, and zeros.
 #[repr(C)]
-#[derive(Drop)]
+#[derive(Clone, Copy)]
 pub struct Scanned {
     pub number: u32,
     pub value: u64,
@@ -136,7 +138,7 @@ pub struct Scanned {
 
 // How many samples were kept and their error p/q under the number 0, or a refusal's number and value.
 #[repr(C)]
-#[derive(Drop)]
+#[derive(Clone, Copy)]
 pub struct Closest {
     pub number: u32,
     pub value: u64,
@@ -146,7 +148,7 @@ pub struct Closest {
 
 // The number of a record's samples and the two parts of its tolerance under the number 0, or a refusal's number and value.
 #[repr(C)]
-#[derive(Drop)]
+#[derive(Clone, Copy)]
 pub struct Content {
     pub number: u32,
     pub value: u64,
@@ -158,7 +160,7 @@ pub struct Content {
 
 // The totals of a crate's channels and the largest error p/q under the number 0, or a refusal's number and value.
 #[repr(C)]
-#[derive(Drop)]
+#[derive(Clone, Copy)]
 pub struct Report {
     pub number: u32,
     pub value: u64,
@@ -170,7 +172,7 @@ pub struct Report {
 
 // How many channels have moved and how many are noisy under the number 0, or a refusal's number and value.
 #[repr(C)]
-#[derive(Drop)]
+#[derive(Clone, Copy)]
 pub struct Compared {
     pub number: u32,
     pub value: u64,

@@ -1,4 +1,6 @@
 // Channels that come end to end in lists of ticks and values, with a length for each.
+#![tactic(auto)]
+
 ghost use Rattle.std.specs.Prelude.{◌≡◌, eqb};
 ghost use Rattle.channels.specs.Channels.{sum, crate_row};
 

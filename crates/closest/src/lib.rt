@@ -1,6 +1,8 @@
 // The reduction least: the least error over the kept lists of at most m samples that obey the gap limit (search), and the minimum's list at
 // that error.
 // A tolerance is tried by the minimum's list at it (tries); tolerances are chosen among fractions of bounded denominator (choices).
+#![tactic(auto)]
+
 ghost use Rattle.std.specs.Prelude.{◌≡◌, ◌≤◌, length};
 ghost use Rattle.lists.specs.Overwrite.{Wrote};
 ghost use Rattle.trace.specs.Link.{Bounded, limited, criterion};
@@ -11,21 +13,21 @@ use ratio::Ratio;
 use trace::Criterion;
 
 // Whether the minimum's list at a tolerance has at most m samples, and then its error.
-#[derive(Drop)]
+#[derive(Clone, Copy)]
 pub struct Trial {
     pub fits: bool,
     pub error: Ratio,
 }
 
 // Where a search stands: `low` is 0 or a tolerance at which no list fits, `high` the error of a list that fits.
-#[derive(Drop)]
+#[derive(Clone, Copy)]
 pub struct Interval {
     pub low: Ratio,
     pub high: Ratio,
 }
 
 // The kept number of the list found, and its error.
-#[derive(Drop)]
+#[derive(Clone, Copy)]
 pub struct Found {
     pub kept: usize,
     pub error: Ratio,

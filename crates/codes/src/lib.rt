@@ -1,5 +1,7 @@
 // Range codes (document 01): one byte a sample, whose value is worked out from the code's two parts (document 02, "Smaller
 // firmware image"). Tables that the caller brings are in the module `tables`.
+#![tactic(auto)]
+
 ghost use Rattle.std.specs.Prelude.{◌≡◌, ◌≤◌, ◌<◌, pos, length, get_or, set};
 ghost use Rattle.lists.specs.Overwrite.{overwrite};
 ghost use Rattle.codes.specs.Code.{code_value, code_values};

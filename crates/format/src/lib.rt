@@ -1,5 +1,7 @@
 // The record of a reduced trace (document 01, "The record"; document 02, "Above and below"): the types of its format, and what reader and
 // writer share. specs/ holds the format itself, and proofs/ its laws.
+#![tactic(auto)]
+
 ghost use Rattle.std.specs.Prelude.{◌≡◌, ◌≤◌, ◌<◌};
 ghost use Rattle.format.specs.Number.{flip16 as flip16_of, flip8 as flip8_of};
 ghost use Rattle.format.specs.Format.{short};
@@ -8,7 +10,7 @@ use ratio::Ratio;
 use tolerance::Parts;
 
 // One command. A value is held as its level, the value + 32,768, and a change of value as the change + 128 (offset binary).
-#[derive(Drop)]
+#[derive(Clone, Copy)]
 pub enum Command {
     // The ratio of both parts.
     Tolerance(Ratio),
@@ -27,7 +29,7 @@ pub enum Command {
 }
 
 // Where the next command starts; the first tick; the tick and the level of the last sample; the number of samples so far.
-#[derive(Drop)]
+#[derive(Clone, Copy)]
 pub struct Cursor {
     pub at: usize,
     pub first: u64,
@@ -37,7 +39,7 @@ pub struct Cursor {
 }
 
 // What the command at a cursor does: it leads to a sample, ends the record, or is at fault.
-#[derive(Drop)]
+#[derive(Clone, Copy)]
 pub enum Step {
     Sample(Cursor),
     End,
@@ -45,7 +47,7 @@ pub enum Step {
 }
 
 // The tolerance, and a cursor after the first sample; or the fault's byte.
-#[derive(Drop)]
+#[derive(Clone, Copy)]
 pub enum Header {
     Start(Parts, Cursor),
     Fault(usize),

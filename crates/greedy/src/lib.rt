@@ -1,6 +1,8 @@
 // Judge's second question (document 02, "Lists from other labs"): whether a proposed list is greedy, each of its links valid and each stop but
 // the last sample followed by an invalid link from the same start to the next sample. One pass over the trace: the cone of each link tests its
 // end and the sample after it.
+#![tactic(auto)]
+
 ghost use Rattle.std.specs.Prelude.{◌≡◌, ◌+◌, ◌-◌, ◌≤◌, ◌<◌, length};
 ghost use Rattle.kept.specs.Kept.{KeptList};
 ghost use Rattle.trace.specs.Trace.{Trace};
@@ -17,7 +19,7 @@ use trace::gaps::links_end;
 
 // What `judge_greedy` answers: the list is greedy; or not, with the first position at fault, where the link is invalid, or where the link is
 // valid and its stop is followed by a valid link; or a refusal.
-#[derive(Drop)]
+#[derive(Clone, Copy)]
 pub enum GreedyVerdict {
     Yes,
     Link(usize),
@@ -26,7 +28,7 @@ pub enum GreedyVerdict {
 }
 
 // What the test of a link says: it is valid; and so is the one from the same start to the sample after its end.
-#[derive(Drop)]
+#[derive(Clone, Copy)]
 pub struct Tested {
     pub valid: bool,
     pub further: bool,

@@ -1,4 +1,6 @@
 // The C interface: each export is a public call of `engine` or of a product above it, with the numbers and structs of `border` for its enums.
+#![tactic(auto)]
+
 ghost use Rattle.reporting.specs.Report.{Surveyed};
 ghost use Rattle.border.specs.Border.{limits_of};
 ghost use Rattle.kovrelna.specs.Exports.{HoldExport, MeasureExport, JudgeExport, JudgeGreedyExport, WalkExport, ScanExport, GallopExport, MinimumExport, LeastExport, ViewBeginExport, ViewAddExport, SumExport, ExpandExport, ExpandWithExport, WriteExport, ReadExport, SameExport, ReportExport, PedestalsExport};

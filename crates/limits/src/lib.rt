@@ -1,4 +1,6 @@
 // Limits, and what the calls on a trace with limits have in common: the checks 1 to 4 and 15, and 10 for those that write a list.
+#![tactic(auto)]
+
 ghost use Rattle.std.specs.Prelude.{◌≡◌};
 ghost use Rattle.limits.specs.Prepare.{gap_row, Under, Prepared, Allowed, OutputPrepared};
 
@@ -7,14 +9,14 @@ use tolerance::{Meaning, Parts, Tolerance};
 use trace::Criterion;
 
 // What links are asked to meet: a tolerance, and a gap limit in ticks from 1 to 1,048,575.
-#[derive(Drop)]
+#[derive(Clone, Copy)]
 pub struct Limits {
     pub tolerance: Tolerance,
     pub gap: u32,
 }
 
 // What the checks of a trace and its limits find: the criterion that the limits set, or a refusal.
-#[derive(Drop)]
+#[derive(Clone, Copy)]
 pub enum Ready {
     At(Criterion),
     Refused(Refusal),

@@ -1,4 +1,6 @@
 // Links of a trace: the test of one, in one pass over its samples. The definitions and their laws are those of `trace`.
+#![tactic(auto)]
+
 ghost use Rattle.std.specs.Prelude.{◌≡◌, ◌*◌, ◌≤◌, leb};
 ghost use Rattle.trace.specs.Link.{Linked, Bounds, Bounded, all_within, valid};
 ghost use Rattle.trace.specs.Edge.{Slope, distance_of, in_parts};

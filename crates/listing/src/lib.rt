@@ -1,4 +1,6 @@
 // The two lists of channels that a comparison of pedestal runs makes: those that have moved, and those that are noisy.
+#![tactic(auto)]
+
 ghost use Rattle.std.specs.Prelude.{◌≤◌, ◌<◌, length};
 ghost use Rattle.channels.specs.Channels.{part};
 ghost use Rattle.verdicts.specs.Sums.{Judged};
@@ -8,7 +10,7 @@ use ratio::Ratio;
 use verdicts::{Verdict, verdict_of};
 
 // How many channels have moved, and how many are noisy.
-#[derive(Drop)]
+#[derive(Clone, Copy)]
 pub struct Counts {
     pub moved: usize,
     pub noisy: usize,

@@ -9,7 +9,7 @@ use ratio::Ratio;
 use ratio::order::at_most;
 
 // The entry that costs least so far, by its position less one, and what it costs, which need not be in lowest terms.
-#[derive(Drop)]
+#[derive(Clone, Copy)]
 pub struct Best {
     pub at: usize,
     pub error: Ratio,

@@ -1,4 +1,6 @@
 // The live view of a growing trace (document 02, "Live view"): its state, the checks, and what an addition makes of a state, by value.
+#![tactic(auto)]
+
 ghost use Rattle.std.specs.Prelude.{◌≡◌};
 ghost use Rattle.proposed.specs.Proposed.{list_row};
 ghost use Rattle.live.specs.Live.{fresh, begun_of, passes, is_view, state_row, add_rows, AddOutcome};
@@ -8,7 +10,7 @@ use refusal::{Checked, Refusal};
 // k, how many samples are kept, and their numbers: both ends and at most 2k inner samples, k at most 32. No padding lies between or behind
 // the fields.
 #[repr(C)]
-#[derive(Drop)]
+#[derive(Clone, Copy)]
 pub struct View {
     pub k: u32,
     pub count: u32,
@@ -16,7 +18,7 @@ pub struct View {
 }
 
 // What the checks of a call found, and the state after it.
-#[derive(Drop)]
+#[derive(Clone, Copy)]
 pub struct Viewed {
     pub checked: Checked,
     pub view: View,

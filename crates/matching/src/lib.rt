@@ -1,4 +1,6 @@
 // Whether the ticks of two traces agree: check 17.
+#![tactic(auto)]
+
 ghost use Rattle.std.specs.Prelude.{◌≡◌, false, min, length};
 ghost use Rattle.lists.specs.First.{first, Clear};
 ghost use Rattle.matching.specs.Match.{differ_at, mismatch_row};

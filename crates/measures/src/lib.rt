@@ -1,4 +1,6 @@
 // Where links stray: the greatest deviation of a link, its first sample and its side, found in one pass over the link's samples.
+#![tactic(auto)]
+
 ghost use Rattle.std.specs.Prelude.{◌≡◌, ◌≤◌, cond, leb};
 ghost use Rattle.trace.specs.Link.{Linked, Bounded, criterion, deviation, side_of};
 ghost use Rattle.trace.specs.Edge.{Slope, edge_side};
@@ -11,7 +13,7 @@ use trace::gaps::first_hole;
 use trace::{Criterion, Edge, Side};
 
 // A deviation p/q, which need not be in lowest terms, and its sample.
-#[derive(Drop)]
+#[derive(Clone, Copy)]
 pub struct Stray {
     pub p: u64,
     pub q: u64,
@@ -19,7 +21,7 @@ pub struct Stray {
 }
 
 // A link's error in lowest terms, the first sample where it occurs, and its side.
-#[derive(Drop)]
+#[derive(Clone, Copy)]
 pub struct Measure {
     pub error: Ratio,
     pub sample: usize,

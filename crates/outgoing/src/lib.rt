@@ -1,5 +1,7 @@
 // The links from one sample of a trace: each is tested, and each sample taken in, in constant time. Walk's stop from that sample is in stops,
 // and entries of the list in entries.
+#![tactic(auto)]
+
 ghost use Rattle.std.specs.Prelude.{◌≡◌, false, ◌+◌, ◌≤◌, ◌<◌, length};
 ghost use Rattle.trace.specs.Trace.{Trace};
 ghost use Rattle.trace.specs.Link.{Bounded, valid, links_end};
@@ -11,7 +13,7 @@ use trace::{Cone, Criterion, Start};
 
 // The links from one sample: the sample, the cone of what the samples taken in leave open, and the last sample to which links obey the
 // gap limit.
-#[derive(Drop)]
+#[derive(Clone, Copy)]
 pub struct Links {
     pub from: Start,
     pub cone: Cone,

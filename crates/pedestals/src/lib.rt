@@ -1,4 +1,6 @@
 // The comparison of two pedestal runs of a crate: a product above the engine, from its public calls alone.
+#![tactic(auto)]
+
 ghost use Rattle.std.specs.Prelude.{◌≡◌};
 ghost use Rattle.pedestals.specs.Compare.{cause_number, cause_value, run_of, CompareOutcome};
 
@@ -8,35 +10,35 @@ use refusal::Refusal;
 use tolerance::Tolerance;
 
 // Why a comparison is refused: a cause of the call; or a channel's trace is refused, with a cause of its own.
-#[derive(Drop)]
+#[derive(Clone, Copy)]
 pub enum Cause {
     Call(Refusal),
     Trace(usize, Refusal),
 }
 
 // What the checks find: the first cause that applies, or none.
-#[derive(Drop)]
+#[derive(Clone, Copy)]
 pub enum Check {
     Fine,
     Refused(Cause),
 }
 
 // What check 4 finds: the ratio of both parts of the tolerance, or a refusal.
-#[derive(Drop)]
+#[derive(Clone, Copy)]
 enum Single {
     At(Ratio),
     Refused(Refusal),
 }
 
 // What the checks of a whole call find: the ratio that the tolerance is held as, or a cause.
-#[derive(Drop)]
+#[derive(Clone, Copy)]
 enum Ready {
     At(Ratio),
     Refused(Cause),
 }
 
 // What `compare` answers: the lengths of both lists, or why it is refused.
-#[derive(Drop)]
+#[derive(Clone, Copy)]
 pub enum Compared {
     Listed(Counts),
     Refused(Cause),

@@ -1,4 +1,6 @@
 // Gallop's search from one sample, by doubling and bisection. A probe goes on from the links of the last yes.
+#![tactic(auto)]
+
 ghost use Rattle.std.specs.Prelude.{◌≡◌, ◌+◌, ◌-◌, ◌*◌, ◌≤◌, ◌<◌, length};
 ghost use Rattle.kept.specs.Gallop.{found, doubling, bisection, gallop_search};
 ghost use Rattle.trace.specs.Trace.{Trace};
@@ -10,7 +12,7 @@ use outgoing::{Links, links_past, passes, reaches, taken, taken_to};
 use trace::Criterion;
 
 // A search from a sample: the offset of its last yes, the probes made, and the links with the samples up to that offset taken in.
-#[derive(Drop)]
+#[derive(Clone, Copy)]
 pub struct Probing {
     pub low: usize,
     pub probes: usize,

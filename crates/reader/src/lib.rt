@@ -1,5 +1,7 @@
 // Reads records (document 01, "The record"): checks one (check), reads one into lent lists (read), compares two (same). Their commands are
 // read in the crate `commands`.
+#![tactic(auto)]
+
 ghost use Rattle.std.specs.Prelude.{◌≡◌};
 ghost use Rattle.lists.specs.Decides.{Decides};
 ghost use Rattle.format.specs.Format.{header_of};
@@ -12,14 +14,14 @@ use refusal::{Checked, Refusal};
 use tolerance::Parts;
 
 // What reading answers: the number of samples and the tolerance in its two parts, or why it declined.
-#[derive(Drop)]
+#[derive(Clone, Copy)]
 pub enum Answer {
     Samples(usize, Parts),
     Refused(Refusal),
 }
 
 // What a comparison answers.
-#[derive(Drop)]
+#[derive(Clone, Copy)]
 pub enum Comparison {
     Same,
     Different,

@@ -1,5 +1,7 @@
 // The program reduce: reads one record from standard input, treats its samples as a trace, and prints what walk, gallop and minimum keep of it.
 // Each printing function says whether all was written; what is cut off is reported on standard error.
+#![tactic(auto)]
+
 ghost use Rattle.std.specs.Prelude.{◌≤◌};
 
 use engine::{Probed, Reduced};

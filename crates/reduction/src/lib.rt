@@ -1,7 +1,8 @@
 // Reductions of a checked trace: walk (walks) and gallop (gallops).
+#![tactic(auto)]
 
 // How many samples gallop kept, and the probes that it made.
-#[derive(Drop)]
+#[derive(Clone, Copy)]
 pub struct Galloped {
     pub kept: usize,
     pub probes: usize,

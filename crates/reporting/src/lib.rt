@@ -1,4 +1,6 @@
 // The report on a crate by value, which the engine makes public: its checks, and a row for each channel (document 02, "Whole-crate report").
+#![tactic(auto)]
+
 ghost use Rattle.std.specs.Prelude.{◌≡◌};
 ghost use Rattle.refusal.specs.declared.Checked.TheVariants.{Fine};
 ghost use Rattle.channels.specs.Channels.{crate_row};

@@ -1,6 +1,8 @@
 // The report on a crate: a row for each channel, totals, and the lent list that receives the rows.
 // The sheet goes by value through functions that the borrow checker covers; `fill` alone has the list, as `&mut [Summary]`, and is proved
 // by hand.
+#![tactic(auto)]
+
 ghost use Rattle.std.specs.Prelude.{◌≡◌, ◌+◌, ◌≤◌, ◌<◌, length};
 ghost use Rattle.channels.specs.Channels.{Divided};
 ghost use Rattle.trace.specs.Trace.{Trace};
@@ -15,7 +17,7 @@ use trace::Criterion;
 // A channel's row: its samples, walk's kept number, its error p/q and the sample where it occurs first under the number 0; or a refusal's
 // number beside zeros and 0/1.
 #[repr(C)]
-#[derive(Drop)]
+#[derive(Clone, Copy)]
 pub struct Summary {
     pub samples: usize,
     pub kept: usize,
@@ -26,7 +28,7 @@ pub struct Summary {
 }
 
 // The samples and kept numbers of all channels, and the largest error p/q.
-#[derive(Drop)]
+#[derive(Clone, Copy)]
 pub struct Totals {
     pub samples: usize,
     pub kept: usize,
@@ -35,14 +37,14 @@ pub struct Totals {
 }
 
 // What a report answers: the totals, or a refusal.
-#[derive(Drop)]
+#[derive(Clone, Copy)]
 pub enum Reported {
     Counted(Totals),
     Refused(Refusal),
 }
 
 // A whole report by value: the first `count` of `rows`, and the answer.
-#[derive(Drop)]
+#[derive(Clone, Copy)]
 pub struct Sheet {
     pub rows: [Summary; 64],
     pub count: usize,

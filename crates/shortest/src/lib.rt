@@ -1,4 +1,6 @@
 // The reduction minimum: the shortest kept list of valid links, and of several the latest.
+#![tactic(auto)]
+
 ghost use Rattle.std.specs.Prelude.{◌≡◌, true, ◌+◌, ◌-◌, ◌≤◌, ◌<◌, length, get_or};
 ghost use Rattle.lists.specs.Overwrite.{Wrote};
 ghost use Rattle.kept.specs.Stops.{list_by};

@@ -1,5 +1,7 @@
 // Summed channels: two traces with the same ticks added sample by sample (adding), and their two kept lists joined (joining); the checks of
 // all that.
+#![tactic(auto)]
+
 ghost use Rattle.std.specs.Prelude.{◌≡◌};
 ghost use Rattle.refusal.specs.Table.{room_row, ◌then_check◌};
 ghost use Rattle.summed.specs.Sum.{sum_rows};

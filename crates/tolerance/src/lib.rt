@@ -1,25 +1,27 @@
 // Tolerances in four forms, and the parts in lowest terms that each means: one for samples above the line, one for those below.
+#![tactic(auto)]
+
 ghost use Rattle.std.specs.Prelude.{◌≡◌, ℕ, ◌^◌, ◌≤◌};
 ghost use Rattle.tolerance.specs.Meaning.{meaning, steps_of, allowed_ratio, alike as alike_of, agree as agree_of};
 
 use ratio::Ratio;
 
 // A channel's noise, in ADC counts, and the multiple of it that is wanted.
-#[derive(Drop)]
+#[derive(Clone, Copy)]
 pub struct Noise {
     pub noise: f64,
     pub multiple: f64,
 }
 
 // The part for samples above the line, and the part for those below (document 02, "Above and below": U and D).
-#[derive(Drop)]
+#[derive(Clone, Copy)]
 pub struct Parts {
     pub up: Ratio,
     pub down: Ratio,
 }
 
 // The first three forms mean the same above and below.
-#[derive(Drop)]
+#[derive(Clone, Copy)]
 pub enum Tolerance {
     Ratio(u64, u64),
     Counts(f64),
@@ -27,14 +29,14 @@ pub enum Tolerance {
     Parts(Parts),
 }
 
-#[derive(Drop)]
+#[derive(Clone, Copy)]
 pub enum Meaning {
     Exact(Parts),
     NotAllowed,
 }
 
 // A whole number of steps, or not that.
-#[derive(Drop)]
+#[derive(Clone, Copy)]
 pub enum Steps {
     Whole(u64),
     Other,

@@ -1,4 +1,6 @@
 // Several tolerances under one gap limit, and the checks of a call on a trace that takes them: 1, 2, 3, 19, 4, 15 and 10.
+#![tactic(auto)]
+
 ghost use Rattle.std.specs.Prelude.{◌≡◌, ◌≤◌, ◌<◌};
 ghost use Rattle.refusal.specs.declared.Checked.TheVariants.{Fine, Refused};
 ghost use Rattle.tolerances.specs.Tolerances.{count_row, held_rows, put_parts, Holds, SeveralPrepared, ScanPrepared};
@@ -8,13 +10,13 @@ use refusal::{Checked, Refusal};
 use tolerance::{Meaning, Parts, Tolerance};
 
 // A tolerance in a list.
-#[derive(Drop)]
+#[derive(Clone, Copy)]
 pub struct Entry {
     pub tolerance: Tolerance,
 }
 
 // Up to 16 tolerances: the first `count` of `list`.
-#[derive(Drop)]
+#[derive(Clone, Copy)]
 pub struct Tolerances {
     pub count: usize,
     pub list: [Entry; 16],
@@ -22,14 +24,14 @@ pub struct Tolerances {
 
 // The parts in lowest terms under which each of the first `held` tolerances is held: of tolerance a the part above as p and q in the entries a
 // and a + 16, and the part below in a + 32 and a + 48.
-#[derive(Drop)]
+#[derive(Clone, Copy)]
 pub struct Held {
     pub held: usize,
     pub parts: [u64; 64],
 }
 
 // What the checks of a call find, and if they pass the parts of its tolerances, in the same entries.
-#[derive(Drop)]
+#[derive(Clone, Copy)]
 pub struct Ready {
     pub checked: Checked,
     pub parts: [u64; 64],

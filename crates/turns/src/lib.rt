@@ -1,5 +1,7 @@
 // One tolerance's turn: the new sample is taken in, or the sample before is kept and the open link starts from it. Samples by value are in
 // samples, edges held in lists of numbers in bounds.
+#![tactic(auto)]
+
 ghost use Rattle.std.specs.Prelude.{◌≡◌, ◌<◌, length, get_or};
 ghost use Rattle.trace.specs.Link.{Bounded};
 ghost use Rattle.turns.specs.Sample.{Ahead};
@@ -13,7 +15,7 @@ use trace::cones::{admits, cone_of};
 use trace::{Cone, Criterion};
 
 // A sample by value: its tick, and its value as an unsigned level.
-#[derive(Drop)]
+#[derive(Clone, Copy)]
 pub struct Sample {
     pub tick: u64,
     pub level: u64,

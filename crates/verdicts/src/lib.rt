@@ -1,4 +1,6 @@
 // The sums of a trace's values, and the two tests. Values are signed up to the sums; all else is in unsigned 64 bits.
+#![tactic(auto)]
+
 ghost use Rattle.std.specs.Prelude.{◌≡◌, ◌*◌, ◌-◌, ◌≤◌, ltb, ◌+ℤ◌, ◌-ℤ◌, nat_abs, length};
 ghost use Rattle.tolerance.specs.Meaning.{Held};
 ghost use Rattle.verdicts.specs.Sums.{Summed, Sized, spread_in, Comparable, Judged};
@@ -6,14 +8,14 @@ ghost use Rattle.verdicts.specs.Sums.{Summed, Sized, spread_in, Comparable, Judg
 use ratio::Ratio;
 
 // The sum of a trace's values and the sum of their squares.
-#[derive(Drop)]
+#[derive(Clone, Copy)]
 struct Sums {
     sum: i32,
     squares: u64,
 }
 
 // What the comparison says of a channel.
-#[derive(Drop)]
+#[derive(Clone, Copy)]
 pub struct Verdict {
     pub moved: bool,
     pub noisy: bool,

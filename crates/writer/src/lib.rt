@@ -1,5 +1,7 @@
 // Writes the record of the samples that a list keeps of a trace (document 01, "The record"; document 02, "Above and below") into an event
 // buffer. Commands are written in commands, and kept samples are read in samples.
+#![tactic(auto)]
+
 ghost use Rattle.std.specs.Prelude.{◌≡◌, ◌&&◌, ◌+◌, ◌-◌, ◌≤◌, leb, length};
 ghost use Rattle.lists.specs.Overwrite.{overwrite};
 ghost use Rattle.tolerance.specs.Meaning.{HeldParts};
@@ -13,14 +15,14 @@ use samples::sample_at;
 use tolerance::Parts;
 
 // What writing answers: the record's length, or why it declined.
-#[derive(Drop)]
+#[derive(Clone, Copy)]
 pub enum Answer {
     Written(usize),
     Refused(Refusal),
 }
 
 // A sample: its tick and its level, the value + 32,768.
-#[derive(Drop)]
+#[derive(Clone, Copy)]
 pub struct Sample {
     pub tick: u64,
     pub level: u64,

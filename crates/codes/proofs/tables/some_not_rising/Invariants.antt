@@ -1,0 +1,11 @@
+-- `codes::tables::some_not_rising` meets its contract. Assumes nothing.
+use Prim.Native.Nat.{◌-◌}
+use Rattle.lists.proofs.FirstLaws.{Passing}
+use Rattle.codes.specs.RangeTable.{not_rising}
+use Rattle.codes.proofs.tables.some_not_rising.Given as goal
+
+abbrev pub invariant-loop-c : goal.invariant-loop-c
+invariant-loop-c l = Passing (not_rising l.table) 1 256 l.some l.c
+
+abbrev pub decreases-loop-c : goal.decreases-loop-c
+decreases-loop-c l = 256 - l.c

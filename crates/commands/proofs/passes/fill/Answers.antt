@@ -1,0 +1,46 @@
+-- `commands::passes::fill` meets its contract: at each turn the samples passed are written over the lists, and with those to come they are the
+-- whole. Assumes nothing.
+use mathlib.Core.Path.{◌≡◌}
+use Prim.Native.Nat.{◌-◌}
+use lib.ListN.{length}
+use Rattle.format.specs.Number.{Bytes}
+use Rattle.commands.proofs.PassLaws.{copying_begins, falls, entry, stored_lengths, fills, filled, more_follow}
+use Rattle.commands.proofs.passes.fill.Goals as goal
+
+-- in a turn, once the sample at the cursor is stored
+module _ (c : goal.After-struct_known-1) where
+  abbrev put : goal.After-put_sample
+  put = c.before.before.before.before
+
+  abbrev head : goal.At-loop-c
+  head = put.before.before.before
+
+  by : Bytes head.before.before.before.args.bytes.now
+  by = record { byte = λ i. (head.before.before.shared-slice-known.given i).fits }
+
+  lengths : (length put.put-sample.last.0 ≡ length head.before.before.before.args.ticks.now) × (length put.put-sample.last.1.0 ≡ length head.before.before.before.args.values.now)
+  lengths = stored_lengths head.loop.inv.2 put.put-sample.ensures.0 put.put-sample.ensures.1
+
+pub loop-c-init : goal.loop-c-init
+loop-c-init c = (_, _, copying_begins c.requires.0 c.requires.1)
+
+pub put_sample-requires : goal.put_sample-requires
+put_sample-requires c = entry c.loop-c.invariant.2
+
+pub shape_of-ticks-then-n-c : goal.shape_of-ticks-then-n-c
+shape_of-ticks-then-n-c c = (lengths c.before).0
+
+pub shape_of-values-then-n-c : goal.shape_of-values-then-n-c
+shape_of-values-then-n-c c = (lengths c.before).1
+
+pub returns-then-n-c : goal.returns-then-n-c
+returns-then-n-c c = let s = c.before in filled (head s).loop.invariant.2 (put s).put-sample.ensures.0 (put s).put-sample.ensures.1 (by s) c.if-n-c.true
+
+pub next_sample-c-requires : goal.next_sample-c-requires
+next_sample-c-requires c = let f = (head c.before).loop.inv.2 in (f.passed.ready, more_follow f c.if-n-c.false)
+
+pub loop-c-smaller : goal.loop-c-smaller
+loop-c-smaller c = let s = c.before.before in falls (head s).loop.invariant.2.passed (by s) c.next_sample-c.ensures
+
+pub loop-c-preserved : goal.loop-c-preserved
+loop-c-preserved c = let s = c.before.before in (_, _, fills (head s).loop.invariant.2 (put s).put-sample.ensures.0 (put s).put-sample.ensures.1 (by s) c.next_sample-c.ensures)

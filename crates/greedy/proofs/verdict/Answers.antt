@@ -1,0 +1,64 @@
+-- `greedy::verdict` meets its contract. The loop's invariant: no link before position k is at fault, and `limit` is where links from that position's sample
+-- end, if it lies beyond. Assumes nothing.
+use mathlib.Core.Path.{◌≡◌, ◌∙◌}
+use Prim.Native.Nat.{suc, ◌-◌}
+use native.Mathlib.Numerals.{add-one}
+use native.Mathlib.Omega.{arith}
+use borrow.Author.Tests.{not-true, not-false}
+use Rattle.lists.proofs.FirstLaws.{searching_none}
+use Rattle.trace.specs.Link.{Linked}
+use Rattle.trace.proofs.Holes.{end_same}
+use Rattle.proposed.specs.Proposed.{entry}
+use Rattle.proposed.proofs.ProposedLaws.{kept_link}
+use Rattle.greedy.specs.Greedy.{test_of}
+use Rattle.greedy.proofs.GreedyLaws.{found_none, found_link, found_stop, sound_more}
+use Rattle.greedy.proofs.verdict.Goals as goal
+
+-- the link at position k
+link : (c : goal.In-loop-k) → let a = c.args in Linked a.ticks.now a.values.now (entry a.list.now c.loop-k.k) (entry a.list.now (suc c.loop-k.k))
+link c =
+    kept_link c.loop-k.k c.requires.0 c.requires.2 (omega (arith, c.loop-k-test.true))
+
+-- what its test tells
+tested : (c : goal.After-test-tested) → let a = c.args in
+    c.test-tested.result ≡ test_of a.ticks.now a.values.now a.c (entry a.list.now c.loop-k.k) (entry a.list.now (suc c.loop-k.k))
+tested c = c.test-tested.ensures ∙ rw c.ends_at-link.ensures
+
+pub loop-k-init : goal.loop-k-init
+loop-k-init c = (searching_none (omega arith), λ lt. absurd (omega arith))
+
+pub limit_from-limit-requires : goal.limit_from-limit-requires
+limit_from-limit-requires c =
+    let l = link c.before in
+    (l.trace, rw c.ends_at-link.ensures (omega (arith, l.forward, l.inside)), rw c.ends_at-link.ensures c.loop-k.invariant.1)
+
+pub test-tested-requires : goal.test-tested-requires
+test-tested-requires c =
+    let e = c.ends_at-link.ensures in
+    (rw e (link c.before.before), c.requires.1, c.limit_from-limit.ensures)
+
+pub returns-then-not-tested : goal.returns-then-not-tested
+returns-then-not-tested c =
+    let t = c.before.before in
+    let a = t.args in
+    found_link a.ticks.now a.values.now a.list.now a.c t.loop-k.invariant.0 (omega (arith, t.loop-k-test.true)) (tested t) (not-true _ c.if-not-tested.true)
+
+pub returns-then-tested : goal.returns-then-tested
+returns-then-tested c =
+    let t = c.before.before.before in
+    let a = t.args in
+    found_stop a.ticks.now a.values.now a.list.now a.c t.loop-k.invariant.0 (omega (arith, t.loop-k-test.true)) (tested t) (not-false _ c.if-not-tested.false) c.if-tested.true
+
+pub loop-k-preserved : goal.loop-k-preserved
+loop-k-preserved c =
+    let t = c.before.before.before in
+    let a = t.args in
+    let l = link t.before.before.before in (
+      sound_more a.ticks.now a.values.now a.list.now a.c t.loop-k.invariant.0 (omega (arith, t.loop-k-test.true)) (tested t) (not-false _ c.if-not-tested.false) c.if-tested.false,
+      rw (add-one t.loop-k.k) (λ lt. (end_same a.ticks.now a.c.gap {i = entry a.list.now t.loop-k.k} (omega (arith, l.forward, l.inside)) (t.limit_from-limit.ensures ∙ rw t.ends_at-link.ensures) (omega (arith, l.forward)) lt).1),
+    )
+
+pub returns : goal.returns
+returns c =
+    let a = c.args in
+    found_none a.ticks.now a.values.now a.list.now a.c c.loop-k.invariant.0 (omega (arith, c.loop-k-test.false))

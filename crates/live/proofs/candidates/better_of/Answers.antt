@@ -1,0 +1,10 @@
+-- `live::candidates::better_of` meets its contract. Assumes nothing.
+use mathlib.Core.Path.{sym, ◌∙◌}
+use Rattle.live.proofs.CandidateLaws.{better_left, better_right}
+use Rattle.live.proofs.candidates.better_of.Goals as goal
+
+pub returns-then-at_most : goal.returns-then-at_most
+returns-then-at_most c = (better_left _ _ _ (sym c.at_most.ensures ∙ c.if-at_most.true), c.requires.0)
+
+pub returns : goal.returns
+returns c = (better_right _ _ _ (sym c.at_most.ensures ∙ c.if-at_most.false), c.requires.1)

@@ -1,0 +1,18 @@
+-- `live::states::grow` meets its contract. Assumes nothing.
+use native.Mathlib.Omega.{arith}
+use Rattle.live.proofs.Full.{full}
+use Rattle.live.proofs.LiveLaws.{ready_candidates, grown_all, grown_thinned}
+use Rattle.live.proofs.states.grow.Goals as goal
+
+pub returns-then-view : goal.returns-then-view
+returns-then-view c =
+    grown_all c.requires (full c.args.view c.well_formed.0) (omega (arith, c.if-view.true)) c.narrow-new.ensures c.appended.ensures
+
+pub cheapest_at-at-requires : goal.cheapest_at-at-requires
+cheapest_at-at-requires c =
+    (ready_candidates c.requires (full c.args.view c.well_formed.0), omega (arith, c.if-view.false))
+
+pub returns : goal.returns
+returns c =
+    grown_thinned c.requires (full c.args.view c.well_formed.0) (omega (arith, c.if-view.false)) c.narrow-new.ensures c.cheapest_at-at.ensures.0
+    c.cheapest_at-at.ensures.1 c.shifted.ensures

@@ -1,0 +1,14 @@
+-- `probing::search` meets its contract: a search is a doubling and then a bisection. Assumes nothing.
+use Rattle.probing.proofs.ProbingLaws.{yes_own, searched, searched_bounds}
+use Rattle.probing.proofs.search.Goals as goal
+
+pub bisect-requires : goal.bisect-requires
+bisect-requires c =
+    let pre = c.requires in
+    (pre.0, pre.1, yes_own c.double-up.ensures.0.0, c.double-up.ensures.0.1)
+
+pub returns : goal.returns
+returns c =
+    let y = c.double-up.ensures.0.0 in
+    let d = c.double-up.ensures.1 in
+    (searched y d c.bisect.ensures, searched_bounds y d c.bisect.ensures c.requires.2 c.requires.3)

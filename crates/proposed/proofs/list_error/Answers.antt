@@ -1,0 +1,7 @@
+-- `proposed::list_error` meets its contract. Assumes nothing.
+use mathlib.Core.Path.{ap}
+use Rattle.measures.specs.Measure.{deviation_of}
+use Rattle.proposed.proofs.list_error.Goals as goal
+
+pub returns : goal.returns
+returns c = let s = c.list_stray-worst.ensures in (ap deviation_of s.0, s.1)

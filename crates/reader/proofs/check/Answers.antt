@@ -1,0 +1,21 @@
+-- `reader::check` meets its contract: the header and the count of samples are the record's verdict. Assumes nothing.
+use mathlib.Core.Path.{sym, ◌∙◌, ap}
+use Rattle.format.specs.Number.{Bytes}
+use Rattle.commands.specs.Passing.{record_verdict}
+use Rattle.reader.proofs.ReadingLaws.{parse_start, parse_fault, header_after_first, verdict}
+use Rattle.reader.proofs.check.Goals as goal
+
+by : (c : goal.After-shared_slice_known-1) → Bytes c.args.bytes.now
+by c = record { byte = λ i. (c.shared_slice_known-1.given i).fits }
+
+pub count_samples-requires : goal.count_samples-requires
+count_samples-requires c =
+    header_after_first (by c.before) (sym c.read_header-h.ensures ∙ c.in-Start.is)
+
+pub returns-in-Start : goal.returns-in-Start
+returns-in-Start c =
+    verdict (by c.before) (c.count_samples.ensures ∙ sym (ap record_verdict (parse_start _ (sym c.read_header-h.ensures ∙ c.in-Start.is))))
+
+pub returns-in-Fault : goal.returns-in-Fault
+returns-in-Fault c =
+    parse_fault c.args.bytes.now (sym c.read_header-h.ensures ∙ c.in-Fault.is)

@@ -1,0 +1,70 @@
+-- `writer::commands::put_operands` meets its contract: the kind is written over the part's first byte, and each operand over the part after
+-- what is written. Assumes nothing.
+use mathlib.Core.Path.{◌≡◌, refl, sym, ap, ◌∙◌}
+use mathlib.Core.List.{List, [], ◌∷◌}
+use Prim.Native.Nat.{ℕ, ◌+◌, ◌-◌, ◌≤◌}
+use native.Mathlib.Omega.{arith}
+use lib.ListN.{length, take, drop, set, length-set}
+use borrow.Rule.Slice.PartMut.{put_mid}
+use Rattle.lists.specs.Overwrite.{overwrite}
+use Rattle.lists.proofs.OverwriteLaws.{overwrite_length}
+use Rattle.lists.proofs.PartLaws.{overwrite_first, part_length, written_part}
+use Rattle.format.specs.Number.{bytes_onto}
+use Rattle.format.proofs.NumberLaws.{bytes_append, bytes_length}
+use Rattle.writer.proofs.commands.put_operands.Goals as goal
+
+-- a part o, with the kind at its start
+module _ (o : List ℕ) (kind i a j b : ℕ) (room : 1 + i + j ≤ length o) where
+  abbrev zero : List ℕ
+  zero = set o 0 kind
+
+  module _ (ys : List ℕ) (ey : ys ≡ overwrite (bytes_onto i a []) (take (length zero - 1) (drop 1 zero))) where
+    abbrev one : List ℕ
+    one = put_mid 1 (length zero - 1) zero ys
+
+    one-is : one ≡ overwrite (kind ∷ bytes_onto i a []) o
+    one-is = written_part zero o (kind ∷ []) (bytes_onto i a []) ys 1 (overwrite_first o kind (omega arith)) refl ey
+
+    one-length : length one ≡ length o
+    one-length = ap length one-is ∙ overwrite_length (kind ∷ bytes_onto i a []) o (omega (arith, bytes_length i a []))
+
+    second_room : j ≤ length (take (length one - (1 + i)) (drop (1 + i) one))
+    second_room = rw (part_length one (1 + i), one-length) (omega arith)
+
+    module _ (zs : List ℕ) (ez : zs ≡ overwrite (bytes_onto j b []) (take (length one - (1 + i)) (drop (1 + i) one))) where
+      two_is : put_mid (1 + i) (length one - (1 + i)) one zs ≡ overwrite (kind ∷ bytes_onto i a (bytes_onto j b [])) o
+      two_is =
+          written_part one o (kind ∷ bytes_onto i a []) (bytes_onto j b []) zs (1 + i) one-is (omega (arith, bytes_length i a [])) ez
+          ∙ ap (λ (x : List ℕ). overwrite (kind ∷ x) o) (sym (bytes_append i a [] (bytes_onto j b [])))
+
+      two-length : length (put_mid (1 + i) (length one - (1 + i)) one zs) ≡ length o
+      two-length = ap length two_is ∙ overwrite_length (kind ∷ bytes_onto i a (bytes_onto j b [])) o (omega (arith, bytes_length i a (bytes_onto j b []), bytes_length j b []))
+
+pub slice_bounds-put_number-count : goal.slice_bounds-put_number-count
+slice_bounds-put_number-count c = simp length-set (omega arith)
+
+pub slice_bounds-put_number-start : goal.slice_bounds-put_number-start
+slice_bounds-put_number-start c = simp length-set (omega arith)
+
+pub put_number-requires : goal.put_number-requires
+put_number-requires c = let a = c.args in rw (part_length (set a.part.now 0 a.kind) 1, length-set) (omega arith)
+
+pub slice_bounds-put_number-count-2 : goal.slice_bounds-put_number-count-2
+slice_bounds-put_number-count-2 c =
+    rw (one-length c.args.part.now c.args.kind c.args.i c.args.a c.args.j c.args.b c.requires.0 c.put_number.new.part c.put_number.ensures) (omega arith)
+
+pub slice_bounds-put_number-start-2 : goal.slice_bounds-put_number-start-2
+slice_bounds-put_number-start-2 c =
+    rw (one-length c.args.part.now c.args.kind c.args.i c.args.a c.args.j c.args.b c.requires.0 c.put_number.new.part c.put_number.ensures) (omega arith)
+
+pub put_number-requires-2 : goal.put_number-requires-2
+put_number-requires-2 c =
+    second_room c.args.part.now c.args.kind c.args.i c.args.a c.args.j c.args.b c.requires.0 c.put_number.new.part c.put_number.ensures
+
+pub shape_of-part : goal.shape_of-part
+shape_of-part c =
+    two-length c.args.part.now c.args.kind c.args.i c.args.a c.args.j c.args.b c.requires.0 c.put_number.new.part c.put_number.ensures c.put_number-2.new.part c.put_number-2.ensures
+
+pub returns : goal.returns
+returns c =
+    two_is c.args.part.now c.args.kind c.args.i c.args.a c.args.j c.args.b c.requires.0 c.put_number.new.part c.put_number.ensures c.put_number-2.new.part c.put_number-2.ensures

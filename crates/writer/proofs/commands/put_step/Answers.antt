@@ -1,0 +1,58 @@
+-- `writer::commands::put_step` meets its contract. Assumes nothing.
+use mathlib.Core.Path.{◌≡◌, sym, ◌∙◌}
+use mathlib.Core.Bool.{true, false}
+use Prim.Native.Nat.{◌+◌, ◌-◌, ◌≤◌}
+use native.Mathlib.Omega.{arith}
+use lib.ListN.{length}
+use Rattle.format.specs.Format.{short}
+use Rattle.format.proofs.RuleLaws.{short_le}
+use Rattle.writer.proofs.WritingLaws.{operand_is}
+use Rattle.writer.proofs.commands.put_step.Goals as goal
+
+abbrev start : goal.After-is_short → goal.Start
+start c = c.before.before.before.before
+
+-- the step is short
+module _ (c : goal.Then-is_short) where
+  abbrev s : goal.Start
+  s = start c.before
+
+  is_short : short s.args.a.level (s.args.b.tick - s.args.a.tick) s.args.b.level ≡ true
+  is_short = sym c.is_short.ensures ∙ c.if-is_short.true
+
+  bounds : (s.args.b.tick - s.args.a.tick ≤ 255) × (s.args.a.level ≤ s.args.b.level + 128) × (s.args.b.level ≤ s.args.a.level + 127)
+  bounds = short_le s.args.a.level (s.args.b.tick - s.args.a.tick) s.args.b.level is_short
+
+-- it is long
+is_long : (c : goal.Else-is_short) → short (start c.before).args.a.level ((start c.before).args.b.tick - (start c.before).args.a.tick) (start c.before).args.b.level ≡ false
+is_long c = sym c.is_short.ensures ∙ c.if-is_short.false
+
+pub overflow_sub-to : goal.overflow_sub-to
+overflow_sub-to c = omega (arith, bounds c.before)
+
+pub flip8-requires : goal.flip8-requires
+flip8-requires c = omega (arith, bounds c.before)
+
+pub put_operands-requires : goal.put_operands-requires
+put_operands-requires c =
+    let t = c.before.before in
+    let w : 3 ≤ length (start t.before).args.part.now = rw (is_short t) at (start t.before).requires.1 in
+    (omega arith, omega arith, omega arith)
+
+pub returns-then-is_short : goal.returns-then-is_short
+returns-then-is_short c =
+    let t = c.before.before in
+    let a = (s t).args in
+    (rw (is_short t) (operand_is a.part.now 0x53 1 (a.b.tick - a.a.tick) 1 c.flip8.ensures c.put_operands.ensures), rw (is_short t), omega arith)
+
+pub put_operands-requires-2 : goal.put_operands-requires-2
+put_operands-requires-2 c =
+    let t = c.before.before in
+    let w : 6 ≤ length (start t.before).args.part.now = rw (is_long t) at (start t.before).requires.1 in
+    (omega arith, omega arith, omega arith)
+
+pub returns : goal.returns
+returns c =
+    let t = c.before.before in
+    let a = (start t.before).args in
+    (rw (is_long t) (operand_is a.part.now 0x4C 3 (a.b.tick - a.a.tick) 2 c.flip16.ensures c.put_operands-2.ensures), rw (is_long t), omega arith)

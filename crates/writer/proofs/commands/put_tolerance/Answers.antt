@@ -1,0 +1,34 @@
+-- `writer::commands::put_tolerance` meets its contract: each way writes the command that says its parts. Assumes nothing.
+use mathlib.Core.Path.{◌≡◌, sym, ◌∙◌}
+use Prim.Native.Nat.{◌≤◌}
+use native.Mathlib.Omega.{arith}
+use lib.ListN.{length}
+use Rattle.format.specs.declared.Command.TheVariants.{Tolerance, Sides}
+use Rattle.format.specs.Format.{tolerance_command}
+use Rattle.format.proofs.HeaderLaws.{agree_command, sides_command}
+use Rattle.writer.proofs.commands.put_tolerance.Goals as goal
+
+one : (c : goal.Then-agree) → tolerance_command c.args.x ≡ Tolerance c.args.x.up
+one c = agree_command _ (sym c.agree.ensures ∙ c.if-agree.true)
+
+two : (c : goal.Else-agree) → tolerance_command c.args.x ≡ Sides c.args.x
+two c = sides_command _ (sym c.agree.ensures ∙ c.if-agree.false)
+
+pub put_operands-requires : goal.put_operands-requires
+put_operands-requires c =
+    let t = c.before.before in
+    let w : 9 ≤ length t.args.part.now = rw (one t) at t.requires in
+    (omega arith, omega arith, omega arith)
+
+pub returns-then-agree : goal.returns-then-agree
+returns-then-agree c =
+    let t = c.before.before.before in
+    (rw (one t) c.put_operands.ensures, rw (one t))
+
+pub put_sides-requires : goal.put_sides-requires
+put_sides-requires c = let e = c.before in rw (two e) at e.requires
+
+pub returns : goal.returns
+returns c =
+    let e = c.before.before in
+    (rw (two e) c.put_sides.ensures, rw (two e))

@@ -1,0 +1,105 @@
+-- `writer::put_steps` meets its contract: at each turn the steps up to a kept sample, w, are written over the part. Assumes nothing.
+use mathlib.Core.Path.{◌≡◌, ap, ◌∙◌}
+use mathlib.Core.List.{List, []}
+use Prim.Native.Nat.{ℕ, ◌+◌, ◌-◌, ◌≤◌}
+use native.Mathlib.Omega.{arith}
+use lib.ListN.{length}
+use borrow.Rule.Slice.PartMut.{put_mid}
+use Rattle.lists.specs.Overwrite.{overwrite}
+use Rattle.lists.proofs.OverwriteLaws.{overwrite_length}
+use Rattle.lists.proofs.PartLaws.{part_length}
+use Rattle.format.specs.Command.{size_of}
+use Rattle.writer.specs.Writing.{kept_ticks, kept_values, step_from, rest_of}
+use Rattle.writer.proofs.SelectedLaws.{list_few, step_between}
+use Rattle.writer.proofs.WritingLaws.{count_begins, counts, count_ends, put_begins, same_long, step_room, puts, end_room, put_ends}
+use Rattle.writer.proofs.put_steps.Goals as goal
+
+abbrev start : goal.At-loop-i → goal.Start
+start c = c.before.before.before.before
+
+-- in a turn there is room for the step
+room : (c : goal.After-sample_at-to) → c.loop-i.at + size_of (step_from c.loop-i.s c.sample_at-to.result) ≤ length c.loop-i.part
+room c = step_room (start c.before.before).pre.0 c.loop-i.invariant.1 c.loop-i-test.true c.sample_at-to.ensures
+
+-- after the loop there is room for the end
+last-room : (c : goal.After-loop-i) → c.loop-i.at + 3 ≤ length c.loop-i.part
+last-room c = end_room (start c.before).pre.0 c.loop-i.invariant.1 c.loop-i-test.false
+
+-- the part, once the end is written
+module _ (c : goal.After-slice_known-2-1) where
+  abbrev l : goal.At-loop-i
+  l = c.before.before.before.before.before
+
+  abbrev rest : List ℕ
+  rest = rest_of (kept_ticks (start l).args.ticks.now (start l).args.list.now) (kept_values (start l).args.values.now (start l).args.list.now) 0
+
+  ended : put_mid l.loop.at (length l.loop.part - l.loop.at) l.loop.part c.put_end.new.part ≡ overwrite rest (start l).args.part.now
+  ended = put_ends (start l).pre.0 l.loop.inv.1 c.loop-i-test.false c.put_end.ensures
+
+pub loop-i-init : goal.loop-i-init
+loop-i-init c = ([], put_begins c.requires.0 c.requires.1 c.requires.2, count_begins c.requires.0 c.requires.1)
+
+pub overflow_add-i : goal.overflow_add-i
+overflow_add-i c = omega (arith, c.loop-i.invariant.1.within, list_few (start c).requires.0)
+
+pub overflow_add-i-in-loop-i : goal.overflow_add-i-in-loop-i
+overflow_add-i-in-loop-i c = omega (arith, c.loop-i.invariant.1.within, list_few (start c.before).pre.0)
+
+pub sample_at-to-requires : goal.sample_at-to-requires
+sample_at-to-requires c = ((start c.before).pre.0, c.loop-i-test.true)
+
+pub slice_bounds-put_step-count : goal.slice_bounds-put_step-count
+slice_bounds-put_step-count c = omega (arith, room c)
+
+pub slice_bounds-put_step-start : goal.slice_bounds-put_step-start
+slice_bounds-put_step-start c = omega (arith, room c)
+
+pub put_step-at-requires : goal.put_step-at-requires
+put_step-at-requires c =
+    let a = c.before in
+    let l = a.before.before in (
+      step_between (start l).requires.0 a.loop-i-test.true l.loop-i.invariant.1.sample a.sample_at-to.ensures,
+      rw (part_length l.loop-i.part l.loop-i.at) (omega (arith, room a)),
+    )
+
+pub overflow_add-at : goal.overflow_add-at
+overflow_add-at c =
+    let a = c.before.before in
+    let l = a.before.before in
+    omega (arith, room a, same_long (start l).requires.0 l.loop-i.invariant.1, c.put_step-at.ensures.1, (start l).well-formed.0.0)
+
+pub overflow_add-i-in-loop-i-2 : goal.overflow_add-i-in-loop-i-2
+overflow_add-i-in-loop-i-2 c =
+    let l = c.before.before.before.before.before.before in
+    omega (arith, l.loop-i.invariant.1.within, list_few (start l).requires.0)
+
+pub loop-i-smaller : goal.loop-i-smaller
+loop-i-smaller c = omega (arith, c.loop-i-test.true)
+
+pub loop-i-preserved : goal.loop-i-preserved
+loop-i-preserved c =
+    let l = c.before.before in (
+      _,
+      puts (start l).requires.0 l.loop-i.invariant.1 c.loop-i-test.true c.sample_at-to.ensures c.put_step-at.ensures.1 c.put_step-at.ensures.0,
+      counts (start l).requires.0 l.loop-i.invariant.2 c.loop-i-test.true c.sample_at-to.ensures c.put_step-at.ensures.1 c.put_step-at.ensures.2,
+    )
+
+pub slice_bounds-put_end-count : goal.slice_bounds-put_end-count
+slice_bounds-put_end-count c = omega (arith, last-room c)
+
+pub slice_bounds-put_end-start : goal.slice_bounds-put_end-start
+slice_bounds-put_end-start c = omega (arith, last-room c)
+
+pub put_end-requires : goal.put_end-requires
+put_end-requires c =
+    let e = c.before in
+    rw (part_length e.loop-i.part e.loop-i.at) (omega (arith, last-room e))
+
+pub overflow_add-result : goal.overflow_add-result
+overflow_add-result c = omega (arith, last-room c.before.before.before.before, same_long (start (l c)).pre.0 (l c).loop.invariant.1, (start (l c)).good.0.0)
+
+pub shape_of-part : goal.shape_of-part
+shape_of-part c = ap length (ended c) ∙ overwrite_length (rest c) (start (l c)).args.part.now (start (l c)).pre.2
+
+pub returns : goal.returns
+returns c = (ended c, count_ends (start (l c)).pre.0 (l c).loop.invariant.2 c.loop-i-test.false)

@@ -1,0 +1,42 @@
+-- `writer::write_counted` meets its contract: there is room for the record from the place on, and it is written over that part; or nothing is.
+-- Assumes nothing.
+use mathlib.Core.Path.{◌≡◌, refl}
+use native.Mathlib.Omega.{arith}
+use lib.ListN.{length}
+use Rattle.lists.proofs.PartLaws.{part_length}
+use Rattle.format.specs.Format.{Content, Legal, encode}
+use Rattle.format.proofs.ParseEncode.{record_long}
+use Rattle.writer.specs.Writing.{selected}
+use Rattle.writer.proofs.SelectedLaws.{selected_legal}
+use Rattle.writer.proofs.WritingLaws.{no_room, wrote}
+use Rattle.writer.proofs.write_counted.Goals as goal
+
+-- what is written, and its length
+module _ (c : goal.After-record_length-n) where
+  abbrev s : goal.Start
+  s = c.before.before.before.before
+
+  abbrev x : Content
+  x = selected s.args.held s.args.ticks.now s.args.values.now s.args.list.now
+
+  long : c.record_length-n.result ≡ length (encode x)
+  long = c.record_length-n.ensures.is
+
+  legal : Legal x
+  legal = selected_legal s.pre.0 s.args.held s.pre.1 (λ k. omega (arith, c.shared_slice_known-1.given k)) c.record_length-n.ensures.range
+
+pub returns-then-buffer-place : goal.returns-then-buffer-place
+returns-then-buffer-place c = let a = c.before in record { rows = no_room (x a) (s a).args.buffer.now (s a).args.place (long a) (omega (arith, c.if-buffer-place.true, long a, record_long (x a))); content = refl }
+
+pub returns-then-buffer-place-2 : goal.returns-then-buffer-place-2
+returns-then-buffer-place-2 c = let a = c.before.before in record { rows = no_room (x a) (s a).args.buffer.now (s a).args.place (long a) c.if-buffer-place-2.true; content = refl }
+
+pub put_record-requires : goal.put_record-requires
+put_record-requires c =
+    let a = c.before.before.before in
+    ((s a).requires.0, simp part_length (omega (arith, long a, c.if-buffer-place-2.false)))
+
+pub returns : goal.returns
+returns c =
+    let a = c.before.before in
+    wrote (x a) (s a).args.buffer.now (s a).args.place (long a) (legal a) c.if-buffer-place.false c.if-buffer-place-2.false c.put_record.ensures.0
