@@ -9,9 +9,15 @@ use Rattle.lists.proofs.PartLaws.{Writing, writing_none, writing_more, writing_a
 use Rattle.tolerances.specs.declared.Entry.{Entry}
 use Rattle.border.specs.Border.{entry_of}
 use Rattle.border.proofs.tolerances_of.Goals as goal
+use Rattle.border.proofs.tolerances_of.Lts as lts
+use Rattle.border.proofs.tolerances_of.Tie as tie
+use Rattle.border.proofs.tolerances_of.Reads as reads
+
+abbrev Start : Type 0
+Start = lts.Start tie.the-claims reads.Pre reads.Post goal.the-invariant-loop-k goal.the-decreases-loop-k
 
 -- that the array has 16 entries stands in what owning it tells
-sized : (c : goal.Start) → length (map entry_of c.args.t.list) ≡ 16
+sized : (c : Start) → length (map entry_of c.args.t.list) ≡ 16
 sized c = length-map c.args.t.list entry_of ∙ sym (length-map c.args.t.list _) ∙ c.well_formed.0.1.1.1.0.1.0.1
 
 -- all 16 are written

@@ -8,4 +8,4 @@ use Rattle.codes.proofs.put.Goals as goal
 
 pub returns : goal.returns
 returns c =
-    ap (λ (v : ℤ). set c.args.out.now c.args.i v) (to_z-of_z w16 c.value.result (record { sfits = c.value.type-inv }) ∙ c.value.ensures)
+    ap (λ (v : ℤ). set c.args.out.now c.args.i v) (to_z-of_z w16 c.value.result (record { sfits = c.value.type_inv }) ∙ c.value.ensures)

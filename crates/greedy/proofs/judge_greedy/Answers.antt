@@ -5,9 +5,15 @@ use Rattle.limits.specs.Prepare.{Prepared, ReadyAt}
 use Rattle.greedy.specs.Greedy.{greedy_at}
 use Rattle.greedy.proofs.GreedyLaws.{common_fine, common_refused, greedy_outcome}
 use Rattle.greedy.proofs.judge_greedy.Goals as goal
+use Rattle.greedy.proofs.judge_greedy.Lts as lts
+use Rattle.greedy.proofs.judge_greedy.Tie as tie
+use Rattle.greedy.proofs.judge_greedy.Reads as reads
+
+abbrev In-At-2 : Type 0
+In-At-2 = lts.Past-After-ready tie.the-claims reads.Pre reads.Post
 
 -- what the checks give where they pass
-ready : (c : goal.In-At-2) → let a = c.args in
+ready : (c : In-At-2) → let a = c.args in
     ReadyAt a.ticks.now a.values.now a.t c.in-At.c
 ready c =
     let a = c.args in

@@ -2,7 +2,6 @@
 use mathlib.Core.Path.{◌≡◌, sym, subst, ◌∙◌}
 use Prim.Native.Nat.{ℕ, ◌+◌, ◌<◌}
 use native.Mathlib.Omega.{arith}
-use borrow.Author.Tests.{not-true, not-false}
 use Rattle.trace.specs.Link.{links_end}
 use Rattle.trace.proofs.Validity.{step_valid}
 use Rattle.outgoing.specs.Outgoing.{TakenIn, Next}
@@ -64,7 +63,7 @@ reaches-requires-2 c = next c
 pub returns-then-not-reaches : goal.returns-then-not-reaches
 returns-then-not-reaches c =
     let t = c.before.before in
-    test_invalid t.args.c t.requires.0 (sym (valid_at (at_end t) t.args.j c.reaches-2.ensures) ∙ not-true _ c.if-not-reaches.true)
+    test_invalid t.args.c t.requires.0 (sym (valid_at (at_end t) t.args.j c.reaches-2.ensures) ∙ c.if-not-reaches.true)
 
 pub taken-through-requires : goal.taken-through-requires
 taken-through-requires c = next c.before.before
@@ -81,4 +80,4 @@ reaches-requires-3 c =
 pub returns : goal.returns
 returns c =
     let t = c.before.before.before.before in
-    test_valid t.args.c t.requires.0 (before t.before.before.before) (sym (valid_at (at_end t) t.args.j c.reaches-2.ensures) ∙ not-false _ c.if-not-reaches.false) (valid_at (through c.before) (t.args.j + 1) c.reaches-3.ensures)
+    test_valid t.args.c t.requires.0 (before t.before.before.before) (sym (valid_at (at_end t) t.args.j c.reaches-2.ensures) ∙ c.if-not-reaches.false) (valid_at (through c.before) (t.args.j + 1) c.reaches-3.ensures)

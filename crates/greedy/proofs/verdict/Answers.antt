@@ -4,7 +4,6 @@ use mathlib.Core.Path.{◌≡◌, ◌∙◌}
 use Prim.Native.Nat.{suc, ◌-◌}
 use native.Mathlib.Numerals.{add-one}
 use native.Mathlib.Omega.{arith}
-use borrow.Author.Tests.{not-true, not-false}
 use Rattle.lists.proofs.FirstLaws.{searching_none}
 use Rattle.trace.specs.Link.{Linked}
 use Rattle.trace.proofs.Holes.{end_same}
@@ -13,6 +12,12 @@ use Rattle.proposed.proofs.ProposedLaws.{kept_link}
 use Rattle.greedy.specs.Greedy.{test_of}
 use Rattle.greedy.proofs.GreedyLaws.{found_none, found_link, found_stop, sound_more}
 use Rattle.greedy.proofs.verdict.Goals as goal
+use Rattle.greedy.proofs.verdict.Lts as lts
+use Rattle.greedy.proofs.verdict.Tie as tie
+use Rattle.greedy.proofs.verdict.Reads as reads
+
+abbrev After-test-tested : Type 0
+After-test-tested = lts.After-test tie.the-claims reads.Pre reads.Post goal.the-invariant-loop-k goal.the-decreases-loop-k
 
 -- the link at position k
 link : (c : goal.In-loop-k) → let a = c.args in Linked a.ticks.now a.values.now (entry a.list.now c.loop-k.k) (entry a.list.now (suc c.loop-k.k))
@@ -20,7 +25,7 @@ link c =
     kept_link c.loop-k.k c.requires.0 c.requires.2 (omega (arith, c.loop-k-test.true))
 
 -- what its test tells
-tested : (c : goal.After-test-tested) → let a = c.args in
+tested : (c : After-test-tested) → let a = c.args in
     c.test-tested.result ≡ test_of a.ticks.now a.values.now a.c (entry a.list.now c.loop-k.k) (entry a.list.now (suc c.loop-k.k))
 tested c = c.test-tested.ensures ∙ rw c.ends_at-link.ensures
 
@@ -41,20 +46,20 @@ pub returns-then-not-tested : goal.returns-then-not-tested
 returns-then-not-tested c =
     let t = c.before.before in
     let a = t.args in
-    found_link a.ticks.now a.values.now a.list.now a.c t.loop-k.invariant.0 (omega (arith, t.loop-k-test.true)) (tested t) (not-true _ c.if-not-tested.true)
+    found_link a.ticks.now a.values.now a.list.now a.c t.loop-k.invariant.0 (omega (arith, t.loop-k-test.true)) (tested t) (c.if-not-tested.true)
 
 pub returns-then-tested : goal.returns-then-tested
 returns-then-tested c =
     let t = c.before.before.before in
     let a = t.args in
-    found_stop a.ticks.now a.values.now a.list.now a.c t.loop-k.invariant.0 (omega (arith, t.loop-k-test.true)) (tested t) (not-false _ c.if-not-tested.false) c.if-tested.true
+    found_stop a.ticks.now a.values.now a.list.now a.c t.loop-k.invariant.0 (omega (arith, t.loop-k-test.true)) (tested t) (c.if-not-tested.false) c.if-tested.true
 
 pub loop-k-preserved : goal.loop-k-preserved
 loop-k-preserved c =
     let t = c.before.before.before in
     let a = t.args in
     let l = link t.before.before.before in (
-      sound_more a.ticks.now a.values.now a.list.now a.c t.loop-k.invariant.0 (omega (arith, t.loop-k-test.true)) (tested t) (not-false _ c.if-not-tested.false) c.if-tested.false,
+      sound_more a.ticks.now a.values.now a.list.now a.c t.loop-k.invariant.0 (omega (arith, t.loop-k-test.true)) (tested t) (c.if-not-tested.false) c.if-tested.false,
       rw (add-one t.loop-k.k) (λ lt. (end_same a.ticks.now a.c.gap {i = entry a.list.now t.loop-k.k} (omega (arith, l.forward, l.inside)) (t.limit_from-limit.ensures ∙ rw t.ends_at-link.ensures) (omega (arith, l.forward)) lt).1),
     )
 

@@ -3,9 +3,15 @@ use mathlib.Core.Path.{refl, subst}
 use Rattle.limits.specs.Prepare.{Prepared, ReadyAt}
 use Rattle.limits.proofs.PrepareLaws.{room_refused, room_fine, output_refused}
 use Rattle.limits.proofs.prepare_output.Goals as goal
+use Rattle.limits.proofs.prepare_output.Lts as lts
+use Rattle.limits.proofs.prepare_output.Tie as tie
+use Rattle.limits.proofs.prepare_output.Reads as reads
+
+abbrev In-At-2 : Type 0
+In-At-2 = lts.Past-After-ready tie.the-claims reads.Pre reads.Post
 
 -- what the checks 1 to 4 give where they pass
-ready : (c : goal.In-At-2) → let a = c.args in
+ready : (c : In-At-2) → let a = c.args in
     ReadyAt a.ticks.now a.values.now a.t c.in-At.c
 ready c =
     let a = c.args in

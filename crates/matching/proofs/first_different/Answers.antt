@@ -1,5 +1,5 @@
 -- `matching::first_different` meets its contract: it searches only where some ticks differ. Assumes nothing.
-use borrow.Author.Tests.{not-true, eq-eqb, ne_eqb}
+use borrow.Author.Tests.{eq-eqb, ne_eqb}
 use mathlib.Core.Path.{◌≡◌, sym, ◌∙◌, ap}
 use mathlib.Core.Bool.{not}
 use Prim.Native.Nat.{◌-◌}
@@ -10,16 +10,22 @@ use Rattle.trace.specs.Trace.{tick}
 use Rattle.matching.specs.Match.{differ_at}
 use Rattle.matching.proofs.MatchLaws.{differ_test}
 use Rattle.matching.proofs.first_different.Goals as goal
+use Rattle.matching.proofs.first_different.Lts as lts
+use Rattle.matching.proofs.first_different.Tie as tie
+use Rattle.matching.proofs.first_different.Reads as reads
+
+abbrev Start : Type 0
+Start = lts.Start tie.the-claims reads.Pre reads.Post goal.the-invariant-loop-k goal.the-decreases-loop-k
 
 -- the test of sample k
-abbrev start : goal.In-loop-k → goal.Start
+abbrev start : goal.In-loop-k → Start
 start c = c.before.before.before.before.before.before
 
 test : (c : goal.In-loop-k) → not (eqb (tick (start c).args.ticks1.now c.loop-k.k) (tick (start c).args.ticks2.now c.loop-k.k)) ≡ differ_at (start c).args.ticks1.now (start c).args.ticks2.now c.loop-k.k
 test c = differ_test (start c).args.ticks1.now (start c).args.ticks2.now c.loop-k.k (omega (arith, c.loop-k-test.true, (start c).requires))
 
 pub returns-then-not-some_differ : goal.returns-then-not-some_differ
-returns-then-not-some_differ c = sym (first_none (omega arith) (c.some_differ.ensures (not-true _ c.if-not-some_differ.true)))
+returns-then-not-some_differ c = sym (first_none (omega arith) (c.some_differ.ensures (c.if-not-some_differ.true)))
 
 pub loop-k-init : goal.loop-k-init
 loop-k-init c = searching_none (omega arith)

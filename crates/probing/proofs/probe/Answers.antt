@@ -1,7 +1,6 @@
 -- `probing::probe` meets its contract: each way out is a law of the probe. Assumes nothing.
 use Prim.Native.Nat.{◌+◌}
 use native.Mathlib.Omega.{arith}
-use borrow.Author.Tests.{not-true, not-false}
 use Rattle.outgoing.specs.Outgoing.{Next}
 use Rattle.probing.proofs.ProbingLaws.{inside, probes_later, probes_next, far_next, probed_past, probed_fails, probed_invalid, probed_yes}
 use Rattle.probing.proofs.probe.Goals as goal
@@ -20,7 +19,7 @@ passes-requires c = probes_later c.requires c.if-links-end.false
 
 pub returns-then-not-passes : goal.returns-then-not-passes
 returns-then-not-passes c =
-    probed_fails c.requires c.if-links-end.false (c.passes.ensures (not-true _ c.if-not-passes.true))
+    probed_fails c.requires c.if-links-end.false (c.passes.ensures (c.if-not-passes.true))
 
 pub taken_to-far-requires : goal.taken_to-far-requires
 taken_to-far-requires c =
@@ -32,7 +31,7 @@ reaches-requires c = far c
 
 pub returns-then-not-reaches : goal.returns-then-not-reaches
 returns-then-not-reaches c =
-    probed_invalid c.requires c.if-links-end.false c.taken_to-far.ensures (not-true _ c.if-not-reaches.true) c.reaches.ensures
+    probed_invalid c.requires c.if-links-end.false c.taken_to-far.ensures (c.if-not-reaches.true) c.reaches.ensures
 
 pub taken-requires : goal.taken-requires
 taken-requires c = far c.before.before
@@ -40,4 +39,4 @@ taken-requires c = far c.before.before
 pub returns : goal.returns
 returns c =
     let pre = c.requires in
-    probed_yes pre c.if-links-end.false c.taken_to-far.ensures (not-false _ c.if-not-reaches.false) c.reaches.ensures c.taken.ensures
+    probed_yes pre c.if-links-end.false c.taken_to-far.ensures (c.if-not-reaches.false) c.reaches.ensures c.taken.ensures

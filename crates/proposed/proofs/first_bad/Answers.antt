@@ -3,12 +3,11 @@ use Prim.Native.Nat.{◌-◌}
 use mathlib.Core.Path.{sym, ◌∙◌}
 use native.Mathlib.Omega.{arith}
 use borrow.Author.Rules.{rules}
-use borrow.Author.Tests.{not-true}
 use Rattle.lists.proofs.FirstLaws.{first_none, searching_none, searching_more, searched_at, searched_none}
 use Rattle.proposed.proofs.first_bad.Goals as goal
 
 pub returns-then-not-some_bad : goal.returns-then-not-some_bad
-returns-then-not-some_bad c = sym (first_none (omega arith) (c.some_bad.ensures (not-true _ c.if-not-some_bad.true)))
+returns-then-not-some_bad c = sym (first_none (omega arith) (c.some_bad.ensures (c.if-not-some_bad.true)))
 
 pub loop-k-init : goal.loop-k-init
 loop-k-init c = searching_none (omega arith)

@@ -5,11 +5,17 @@ use Rattle.format.specs.Number.{Bytes}
 use Rattle.reader.specs.Reading.{same_rows}
 use Rattle.reader.proofs.ReadingLaws.{same_yes, same_no}
 use Rattle.reader.proofs.compare.Goals as goal
+use Rattle.reader.proofs.compare.Lts as lts
+use Rattle.reader.proofs.compare.Tie as tie
+use Rattle.reader.proofs.compare.Reads as reads
 
-first : (c : goal.After-shared_slice_known-2-1) → Bytes c.args.a.now
+abbrev After-shared_slice_known-2-1 : Type 0
+After-shared_slice_known-2-1 = lts.After-shared_slice_known2 tie.the-claims reads.Pre reads.Post
+
+first : (c : After-shared_slice_known-2-1) → Bytes c.args.a.now
 first c = record { byte = λ i. (c.shared_slice_known-1.given i).fits }
 
-second : (c : goal.After-shared_slice_known-2-1) → Bytes c.args.b.now
+second : (c : After-shared_slice_known-2-1) → Bytes c.args.b.now
 second c = record { byte = λ i. (c.shared_slice_known-2-1.given i).fits }
 
 fine : (c : goal.In-Fine) → same_rows c.args.a.now c.args.b.now ≡ Fine

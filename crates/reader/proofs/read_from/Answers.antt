@@ -6,15 +6,27 @@ use Rattle.commands.specs.Passing.{record_verdict}
 use Rattle.reader.specs.Reading.{Said, CheckOutcome}
 use Rattle.reader.proofs.ReadingLaws.{parse_start, header_after_first, verdict, no_room, room, read_back, read_fault}
 use Rattle.reader.proofs.read_from.Goals as goal
+use Rattle.reader.proofs.read_from.Lts as lts
+use Rattle.reader.proofs.read_from.Tie as tie
+use Rattle.reader.proofs.read_from.Reads as reads
 
-by : (c : goal.After-shared_slice_known-1) → Bytes c.args.bytes.now
+abbrev After-shared_slice_known-1 : Type 0
+After-shared_slice_known-1 = lts.After-shared_slice_known tie.the-claims reads.Pre reads.Post
+
+abbrev After-count_samples-v : Type 0
+After-count_samples-v = lts.After-count_samples tie.the-claims reads.Pre reads.Post
+
+abbrev In-Samples-2 : Type 0
+In-Samples-2 = lts.Past-After-v tie.the-claims reads.Pre reads.Post
+
+by : (c : After-shared_slice_known-1) → Bytes c.args.bytes.now
 by c = record { byte = λ i. (c.shared_slice_known-1.given i).fits }
 
-counted : (c : goal.After-count_samples-v) → CheckOutcome c.args.bytes.now c.count_samples-v.result
+counted : (c : After-count_samples-v) → CheckOutcome c.args.bytes.now c.count_samples-v.result
 counted c = verdict (by c.before.before) (c.count_samples-v.ensures ∙ sym (ap record_verdict (parse_start _ c.requires)))
 
 -- an accepted record
-said : (c : goal.In-Samples-2) → Said c.args.bytes.now c.in-Samples.n c.in-Samples.t
+said : (c : In-Samples-2) → Said c.args.bytes.now c.in-Samples.n c.in-Samples.t
 said c = subst (CheckOutcome c.args.bytes.now) c.in-Samples.is (counted c.before.before)
 
 pub count_samples-v-requires : goal.count_samples-v-requires

@@ -4,9 +4,15 @@ use Rattle.channels.proofs.ChannelLaws.{crate_divided}
 use Rattle.limits.specs.Prepare.{Sets, Allowed}
 use Rattle.reporting.proofs.ReportLaws.{sheet_refused, limits_refused, room_refused, sheet_counted}
 use Rattle.reporting.proofs.allowed_sheet.Goals as goal
+use Rattle.reporting.proofs.allowed_sheet.Lts as lts
+use Rattle.reporting.proofs.allowed_sheet.Tie as tie
+use Rattle.reporting.proofs.allowed_sheet.Reads as reads
+
+abbrev In-At-2 : Type 0
+In-At-2 = lts.Past-After-ready tie.the-claims reads.Pre reads.Post
 
 -- the criterion that an allowed tolerance sets
-sets : (c : goal.In-At-2) → Sets c.args.t c.in-At.c
+sets : (c : In-At-2) → Sets c.args.t c.in-At.c
 sets c = subst (Allowed c.args.t) c.in-At.is c.criterion-ready.ensures
 
 pub returns-then-room-m : goal.returns-then-room-m

@@ -8,8 +8,14 @@ use Rattle.matching.specs.Match.{mismatch_row}
 use Rattle.summed.specs.Sum.{overflow_row}
 use Rattle.summed.proofs.RowLaws.{trace1_refused, trace2_refused, list1_refused, list2_refused, ticks_refused, values_refused, values_fine, same_counts}
 use Rattle.summed.proofs.check.Goals as goal
+use Rattle.summed.proofs.check.Lts as lts
+use Rattle.summed.proofs.check.Tie as tie
+use Rattle.summed.proofs.check.Reads as reads
 
-abbrev start : goal.In_default → goal.Start
+abbrev Start : Type 0
+Start = lts.Start tie.the-claims reads.Pre reads.Post
+
+abbrev start : goal.In_default → Start
 start c = c.before.before.before.before.before.before.before
 
 passed1 : (c : goal.In_default) → trace_rows 4096 (start c).args.ticks1.now (start c).args.values1.now ≡ Fine

@@ -9,6 +9,18 @@ use Rattle.tolerance.specs.Meaning.{in_steps, alike}
 use Rattle.tolerance.specs.declared.Meaning.TheVariants.{Exact}
 use Rattle.tolerance.proofs.Values.{Is, product, mul_is, above, below, whole_part, read_whole, read_other}
 use Rattle.tolerance.proofs.of_noise.Goals as goal
+use Rattle.tolerance.proofs.of_noise.Lts as lts
+use Rattle.tolerance.proofs.of_noise.Tie as tie
+use Rattle.tolerance.proofs.of_noise.Reads as reads
+
+abbrev After-take_steps-b : Type 0
+After-take_steps-b = lts.After-take_steps2 tie.the-claims reads.Pre reads.Post
+
+abbrev In-Whole : Type 0
+In-Whole = lts.Past-After-enum_told tie.the-claims reads.Pre reads.Post
+
+abbrev In-Whole-b : Type 0
+In-Whole-b = lts.Past-After-enum_told2 tie.the-claims reads.Pre reads.Post
 
 -- 512.0, by its bits as MIR has it
 abbrev scale : Float
@@ -29,25 +41,25 @@ module _ (x y : Float) (a b : ℕ) (hx : Is x a 64) (lx : a ≤ 1023 * 64) (hy :
   same = sym (product (num x) (den x) (num y) (den y) a 64 b 8 (a * b) 512 (lit< tt) (lit< tt) hx.1 hy.1 (omega arith))
 
 -- the two numbers of steps, where both answers are whole
-abbrev rec : goal.After-take_steps-b → N.Noise
+abbrev rec : After-take_steps-b → N.Noise
 rec c = c.before.before.args.r
 
-abbrev steps-a : goal.In-Whole → ℕ
+abbrev steps-a : In-Whole → ℕ
 steps-a c = c.enum_told.given.0.0
 
-abbrev steps-b : goal.In-Whole-b → ℕ
+abbrev steps-b : In-Whole-b → ℕ
 steps-b c = c.enum-told2.given.0.0
 
-abbrev noise-of : goal.In-Whole → Float
+abbrev noise-of : In-Whole → Float
 noise-of c = (rec c.before.before).noise
 
-abbrev multiple-of : goal.In-Whole-b → Float
+abbrev multiple-of : In-Whole-b → Float
 multiple-of c = (rec c.before.before.before.before).multiple
 
-first : (c : goal.In-Whole) → (in_steps 64 1023 (noise-of c) ≡ true) × Is (noise-of c) (steps-a c) 64 × (steps-a c ≤ 1023 * 64)
+first : (c : In-Whole) → (in_steps 64 1023 (noise-of c) ≡ true) × Is (noise-of c) (steps-a c) 64 × (steps-a c ≤ 1023 * 64)
 first c = read_whole (noise-of c) 64 1023 (steps-a c) (sym c.take_steps-a.ensures ∙ c.in-Whole.is)
 
-second : (c : goal.In-Whole-b) → (in_steps 8 63 (multiple-of c) ≡ true) × Is (multiple-of c) (steps-b c) 8 × (steps-b c ≤ 63 * 8)
+second : (c : In-Whole-b) → (in_steps 8 63 (multiple-of c) ≡ true) × Is (multiple-of c) (steps-b c) 8 × (steps-b c ≤ 63 * 8)
 second c = read_whole (multiple-of c) 8 63 (steps-b c) (sym c.take_steps-b.ensures ∙ c.in-Whole-b.is)
 
 pub take_steps-a-requires : goal.take_steps-a-requires

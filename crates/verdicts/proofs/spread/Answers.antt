@@ -5,9 +5,15 @@ use lib.IntN.{nat_abs}
 use Rattle.verdicts.proofs.SignedLaws.{plain}
 use Rattle.verdicts.proofs.SumLaws.{sized_squares, sized_spread}
 use Rattle.verdicts.proofs.spread.Goals as goal
+use Rattle.verdicts.proofs.spread.Lts as lts
+use Rattle.verdicts.proofs.spread.Tie as tie
+use Rattle.verdicts.proofs.spread.Reads as reads
+
+abbrev After-size-s : Type 0
+After-size-s = lts.After-size tie.the-claims reads.Pre reads.Post
 
 -- the size of the sum
-sized : (c : goal.After-size-s) → c.size-s.result ≡ nat_abs c.args.x.sum
+sized : (c : After-size-s) → c.size-s.result ≡ nat_abs c.args.x.sum
 sized c = let small = c.requires.sum in c.size-s.ensures ∙ ap nat_abs (plain c.args.x.sum (omega arith))
 
 pub size-s-requires : goal.size-s-requires

@@ -12,10 +12,19 @@ use Rattle.format.proofs.CommandLaws.{command_length}
 use Rattle.writer.specs.Writing.{kept_samples}
 use Rattle.writer.proofs.WritingLaws.{record_parts, record_length, whole_length}
 use Rattle.writer.proofs.put_record.Goals as goal
+use Rattle.writer.proofs.put_record.Lts as lts
+use Rattle.writer.proofs.put_record.Tie as tie
+use Rattle.writer.proofs.put_record.Reads as reads
+
+abbrev After-put_tolerance-at : Type 0
+After-put_tolerance-at = lts.After-put_tolerance tie.the-claims reads.Pre reads.Post
+
+abbrev Start : Type 0
+Start = lts.Start tie.the-claims reads.Pre reads.Post
 
 -- the tolerance is written
-module _ (c : goal.After-put_tolerance-at) where
-  abbrev s : goal.Start
+module _ (c : After-put_tolerance-at) where
+  abbrev s : Start
   s = c.before.before.before.before.before
 
   abbrev samples : List ℕ

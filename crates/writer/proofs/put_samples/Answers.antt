@@ -15,10 +15,19 @@ use Rattle.writer.specs.Writing.{kept_ticks, kept_values, kept_samples, rest_of}
 use Rattle.writer.proofs.SelectedLaws.{list_some}
 use Rattle.writer.proofs.WritingLaws.{kept_parts, kept_length, samples_length}
 use Rattle.writer.proofs.put_samples.Goals as goal
+use Rattle.writer.proofs.put_samples.Lts as lts
+use Rattle.writer.proofs.put_samples.Tie as tie
+use Rattle.writer.proofs.put_samples.Reads as reads
+
+abbrev After-sample_at-s : Type 0
+After-sample_at-s = lts.After-sample_at tie.the-claims reads.Pre reads.Post
+
+abbrev Start : Type 0
+Start = lts.Start tie.the-claims reads.Pre reads.Post
 
 -- the samples' commands, in parts
-module _ (c : goal.After-sample_at-s) where
-  abbrev s : goal.Start
+module _ (c : After-sample_at-s) where
+  abbrev s : Start
   s = c.before.before.before.before
 
   abbrev first : Command

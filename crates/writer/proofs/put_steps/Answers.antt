@@ -1,20 +1,25 @@
 -- `writer::put_steps` meets its contract: at each turn the steps up to a kept sample, w, are written over the part. Assumes nothing.
-use mathlib.Core.Path.{◌≡◌, ap, ◌∙◌}
-use mathlib.Core.List.{List, []}
-use Prim.Native.Nat.{ℕ, ◌+◌, ◌-◌, ◌≤◌}
+use mathlib.Core.Path.{ap, ◌∙◌}
+use mathlib.Core.List.{[]}
+use Prim.Native.Nat.{◌+◌, ◌-◌, ◌≤◌}
 use native.Mathlib.Omega.{arith}
 use lib.ListN.{length}
-use borrow.Rule.Slice.PartMut.{put_mid}
-use Rattle.lists.specs.Overwrite.{overwrite}
 use Rattle.lists.proofs.OverwriteLaws.{overwrite_length}
 use Rattle.lists.proofs.PartLaws.{part_length}
 use Rattle.format.specs.Command.{size_of}
-use Rattle.writer.specs.Writing.{kept_ticks, kept_values, step_from, rest_of}
+use Rattle.writer.specs.Writing.{step_from}
 use Rattle.writer.proofs.SelectedLaws.{list_few, step_between}
-use Rattle.writer.proofs.WritingLaws.{count_begins, counts, count_ends, put_begins, same_long, step_room, puts, end_room, put_ends}
+use Rattle.writer.proofs.WritingLaws.{count_begins, counts, count_ends, put_begins, same_long, step_room, puts, end_room}
+use Rattle.writer.proofs.put_steps.Invariants.{l, rest, ended}
 use Rattle.writer.proofs.put_steps.Goals as goal
+use Rattle.writer.proofs.put_steps.Lts as lts
+use Rattle.writer.proofs.put_steps.Tie as tie
+use Rattle.writer.proofs.put_steps.Reads as reads
 
-abbrev start : goal.At-loop-i → goal.Start
+abbrev Start : Type 0
+Start = lts.Start tie.the-claims reads.Pre reads.Post goal.the-invariant-loop-i goal.the-decreases-loop-i
+
+abbrev start : goal.At-loop-i → Start
 start c = c.before.before.before.before
 
 -- in a turn there is room for the step
@@ -24,17 +29,6 @@ room c = step_room (start c.before.before).pre.0 c.loop-i.invariant.1 c.loop-i-t
 -- after the loop there is room for the end
 last-room : (c : goal.After-loop-i) → c.loop-i.at + 3 ≤ length c.loop-i.part
 last-room c = end_room (start c.before).pre.0 c.loop-i.invariant.1 c.loop-i-test.false
-
--- the part, once the end is written
-module _ (c : goal.After-slice_known-2-1) where
-  abbrev l : goal.At-loop-i
-  l = c.before.before.before.before.before
-
-  abbrev rest : List ℕ
-  rest = rest_of (kept_ticks (start l).args.ticks.now (start l).args.list.now) (kept_values (start l).args.values.now (start l).args.list.now) 0
-
-  ended : put_mid l.loop.at (length l.loop.part - l.loop.at) l.loop.part c.put_end.new.part ≡ overwrite rest (start l).args.part.now
-  ended = put_ends (start l).pre.0 l.loop.inv.1 c.loop-i-test.false c.put_end.ensures
 
 pub loop-i-init : goal.loop-i-init
 loop-i-init c = ([], put_begins c.requires.0 c.requires.1 c.requires.2, count_begins c.requires.0 c.requires.1)

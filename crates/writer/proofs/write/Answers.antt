@@ -12,10 +12,16 @@ use Rattle.writer.specs.Writing.{selected, most_bytes}
 use Rattle.writer.proofs.SelectedLaws.{list_few, selected_legal}
 use Rattle.writer.proofs.WritingLaws.{record_most, wrote}
 use Rattle.writer.proofs.write.Goals as goal
+use Rattle.writer.proofs.write.Lts as lts
+use Rattle.writer.proofs.write.Tie as tie
+use Rattle.writer.proofs.write.Reads as reads
+
+abbrev Start : Type 0
+Start = lts.Start tie.the-claims reads.Pre reads.Post
 
 -- there is room for any record of so many samples
 module _ (c : goal.Then-has_room) where
-  abbrev start : goal.Start
+  abbrev start : Start
   start = c.before.before.before.before.before.before
 
   abbrev x : Content

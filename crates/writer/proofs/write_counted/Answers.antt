@@ -10,10 +10,19 @@ use Rattle.writer.specs.Writing.{selected}
 use Rattle.writer.proofs.SelectedLaws.{selected_legal}
 use Rattle.writer.proofs.WritingLaws.{no_room, wrote}
 use Rattle.writer.proofs.write_counted.Goals as goal
+use Rattle.writer.proofs.write_counted.Lts as lts
+use Rattle.writer.proofs.write_counted.Tie as tie
+use Rattle.writer.proofs.write_counted.Reads as reads
+
+abbrev After-record_length-n : Type 0
+After-record_length-n = lts.After-record_length tie.the-claims reads.Pre reads.Post
+
+abbrev Start : Type 0
+Start = lts.Start tie.the-claims reads.Pre reads.Post
 
 -- what is written, and its length
-module _ (c : goal.After-record_length-n) where
-  abbrev s : goal.Start
+module _ (c : After-record_length-n) where
+  abbrev s : Start
   s = c.before.before.before.before
 
   abbrev x : Content

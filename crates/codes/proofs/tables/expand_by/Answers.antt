@@ -27,7 +27,7 @@ loop-i-preserved c =
     let i = c.loop-i.i in
     let lt = c.loop-i-test.true in
     let n = count c.args.table.now c.args.codes.now in
-    let v = to_z-of_z w16 c.value_in.result (record { sfits = c.value_in.type-inv }) ∙ c.value_in.ensures in
+    let v = to_z-of_z w16 c.value_in.result (record { sfits = c.value_in.type_inv }) ∙ c.value_in.ensures in
     writing_more c.loop-i.invariant (pos 0) (omega (arith, n)) (omega (arith, n, c.requires.1)) (v ∙ sym (select_at (pos 0) c.args.table.now c.args.codes.now i lt))
 
 pub shape_of-out : goal.shape_of-out

@@ -8,10 +8,16 @@ use Rattle.format.specs.Number.{field}
 use Rattle.format.specs.Format.{step_of, end_step}
 use Rattle.commands.proofs.CommandsAt.{cut, other, no_end, end_here}
 use Rattle.commands.proofs.passes.close.Goals as goal
+use Rattle.commands.proofs.passes.close.Lts as lts
+use Rattle.commands.proofs.passes.close.Tie as tie
+use Rattle.commands.proofs.passes.close.Reads as reads
+
+abbrev Start : Type 0
+Start = lts.Start tie.the-claims reads.Pre reads.Post
 
 -- a whole end command
 module _ (c : goal.Else-kind-ne69) where
-  abbrev s : goal.Start
+  abbrev s : Start
   s = c.before.before.before.before
 
   ended : step_of s.args.bytes.now s.args.c ≡ end_step (length s.args.bytes.now) s.args.c (field s.args.bytes.now (s.args.c.at + 1) 2)

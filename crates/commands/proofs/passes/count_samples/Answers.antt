@@ -2,7 +2,6 @@
 -- Assumes nothing.
 use mathlib.Core.Path.{sym, ◌∙◌}
 use Prim.Native.Nat.{◌-◌}
-use borrow.Author.Tests.{not-true, not-false}
 use Rattle.format.specs.Number.{Bytes}
 use Rattle.commands.proofs.PassLaws.{begins, falls, goes_on_lem, closes}
 use Rattle.commands.proofs.passes.count_samples.Goals as goal
@@ -17,14 +16,14 @@ pub is_step-requires : goal.is_step-requires
 is_step-requires c = c.loop-x.invariant.2.ready
 
 pub close-requires : goal.close-requires
-close-requires c = (c.loop-x.invariant.2.ready, sym c.is_step.ensures ∙ not-true _ c.if-not-is_step.true)
+close-requires c = (c.loop-x.invariant.2.ready, sym c.is_step.ensures ∙ c.if-not-is_step.true)
 
 pub returns-then-not-is_step : goal.returns-then-not-is_step
 returns-then-not-is_step c =
-    c.close.ensures ∙ closes c.loop-x.invariant.2 _ (sym c.is_step.ensures ∙ not-true _ c.if-not-is_step.true)
+    c.close.ensures ∙ closes c.loop-x.invariant.2 _ (sym c.is_step.ensures ∙ c.if-not-is_step.true)
 
 pub next_sample-c-requires : goal.next_sample-c-requires
-next_sample-c-requires c = (c.loop-x.invariant.2.ready, sym c.is_step.ensures ∙ not-false _ c.if-not-is_step.false)
+next_sample-c-requires c = (c.loop-x.invariant.2.ready, sym c.is_step.ensures ∙ c.if-not-is_step.false)
 
 pub loop-x-smaller : goal.loop-x-smaller
 loop-x-smaller c = falls c.loop-x.invariant.2 (by c.before) c.next_sample-c.ensures

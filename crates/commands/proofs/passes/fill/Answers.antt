@@ -6,13 +6,25 @@ use lib.ListN.{length}
 use Rattle.format.specs.Number.{Bytes}
 use Rattle.commands.proofs.PassLaws.{copying_begins, falls, entry, stored_lengths, fills, filled, more_follow}
 use Rattle.commands.proofs.passes.fill.Goals as goal
+use Rattle.commands.proofs.passes.fill.Lts as lts
+use Rattle.commands.proofs.passes.fill.Tie as tie
+use Rattle.commands.proofs.passes.fill.Reads as reads
+
+abbrev After-struct_known-1 : Type 0
+After-struct_known-1 = lts.After-struct_known tie.the-claims reads.Pre reads.Post goal.the-invariant-loop-c goal.the-decreases-loop-c
+
+abbrev After-put_sample : Type 0
+After-put_sample = lts.After-put_sample tie.the-claims reads.Pre reads.Post goal.the-invariant-loop-c goal.the-decreases-loop-c
+
+abbrev At-loop-c : Type 0
+At-loop-c = lts.At-loop tie.the-claims reads.Pre reads.Post goal.the-invariant-loop-c goal.the-decreases-loop-c
 
 -- in a turn, once the sample at the cursor is stored
-module _ (c : goal.After-struct_known-1) where
-  abbrev put : goal.After-put_sample
+module _ (c : After-struct_known-1) where
+  abbrev put : After-put_sample
   put = c.before.before.before.before
 
-  abbrev head : goal.At-loop-c
+  abbrev head : At-loop-c
   head = put.before.before.before
 
   by : Bytes head.before.before.before.args.bytes.now

@@ -6,15 +6,21 @@ use native.Mathlib.Omega.{arith}
 use lib.ListN.{length, get_or}
 use Rattle.commands.proofs.CommandsAt.{enough, long_kind, short_known, long_known}
 use Rattle.commands.proofs.steps.next_sample.Goals as goal
+use Rattle.commands.proofs.steps.next_sample.Lts as lts
+use Rattle.commands.proofs.steps.next_sample.Tie as tie
+use Rattle.commands.proofs.steps.next_sample.Reads as reads
+
+abbrev Start : Type 0
+Start = lts.Start tie.the-claims reads.Pre reads.Post
 
 -- the command is whole
-module _ (s : goal.Start) where
+module _ (s : Start) where
   three : s.args.c.at + 3 ≤ length s.args.bytes.now
   three = enough s.args.bytes.now s.args.c s.requires.1
 
 -- a long step
 module _ (c : goal.Else-kind-eq83) where
-  abbrev s : goal.Start
+  abbrev s : Start
   s = c.before.before.before
 
   long : (get_or s.args.bytes.now s.args.c.at 0 ≡ 0x4C) × (s.args.c.at + 6 ≤ length s.args.bytes.now)

@@ -6,9 +6,15 @@ use Rattle.allowance.specs.Rows.{least_rows}
 use Rattle.allowance.proofs.RowLaws.{least_task}
 use Rattle.engine.proofs.LeastLaws.{least_kept}
 use Rattle.engine.proofs.least.least.Goals as goal
+use Rattle.engine.proofs.least.least.Lts as lts
+use Rattle.engine.proofs.least.least.Tie as tie
+use Rattle.engine.proofs.least.least.Reads as reads
+
+abbrev In-Fine : Type 0
+In-Fine = lts.Past-After-enum_told tie.the-claims reads.Pre reads.Post
 
 -- the checks pass
-passed : (c : goal.In-Fine) → let a = c.args in
+passed : (c : In-Fine) → let a = c.args in
     least_rows a.ticks.now a.values.now a.gap a.m (length a.out.now) ≡ Fine
 passed c = sym c.check-checked.ensures ∙ c.in-Fine.is
 

@@ -6,12 +6,21 @@ use Rattle.summed.specs.Sum.{sum_rows}
 use Rattle.summed.proofs.RowLaws.{rows_addable}
 use Rattle.engine.proofs.SumLaws.{sum_outcome}
 use Rattle.engine.proofs.sum.sum.Goals as goal
+use Rattle.engine.proofs.sum.sum.Lts as lts
+use Rattle.engine.proofs.sum.sum.Tie as tie
+use Rattle.engine.proofs.sum.sum.Reads as reads
 
-abbrev start : goal.In-Fine → goal.Start
+abbrev In-Fine : Type 0
+In-Fine = lts.Past-After-enum_told tie.the-claims reads.Pre reads.Post
+
+abbrev Start : Type 0
+Start = lts.Start tie.the-claims reads.Pre reads.Post
+
+abbrev start : In-Fine → Start
 start c = c.before.before.before.before.before.before.before.before
 
 -- no row applies
-passed : (c : goal.In-Fine) → sum_rows (start c).args.ticks1.now (start c).args.values1.now (start c).args.ticks2.now (start c).args.values2.now (start c).args.list1.now (start c).args.list2.now (length (start c).args.sums.now) (length (start c).args.joined.now) ≡ Fine
+passed : (c : In-Fine) → sum_rows (start c).args.ticks1.now (start c).args.values1.now (start c).args.ticks2.now (start c).args.values2.now (start c).args.list1.now (start c).args.list2.now (length (start c).args.sums.now) (length (start c).args.joined.now) ≡ Fine
 passed c = sym c.check-checked.ensures ∙ c.in-Fine.is
 
 pub add-requires : goal.add-requires

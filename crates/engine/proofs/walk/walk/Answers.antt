@@ -4,9 +4,15 @@ use lib.ListN.{length}
 use Rattle.limits.specs.Prepare.{OutputPrepared, OutputReady}
 use Rattle.engine.proofs.ReduceLaws.{walk_kept}
 use Rattle.engine.proofs.walk.walk.Goals as goal
+use Rattle.engine.proofs.walk.walk.Lts as lts
+use Rattle.engine.proofs.walk.walk.Tie as tie
+use Rattle.engine.proofs.walk.walk.Reads as reads
+
+abbrev In-At-2 : Type 0
+In-At-2 = lts.Past-After-ready tie.the-claims reads.Pre reads.Post
 
 -- what the checks give where they pass
-ready : (c : goal.In-At-2) → let a = c.args in
+ready : (c : In-At-2) → let a = c.args in
     OutputReady a.ticks.now a.values.now a.t (length a.out.now) c.in-At.c
 ready c =
     let a = c.args in

@@ -5,9 +5,15 @@ use Rattle.limits.specs.Prepare.{Prepared, ReadyAt}
 use Rattle.judging.specs.Judge.{judged_at}
 use Rattle.judging.proofs.JudgeLaws.{common_fine, judge_refused, judge_outcome}
 use Rattle.judging.proofs.judge.judge.Goals as goal
+use Rattle.judging.proofs.judge.judge.Lts as lts
+use Rattle.judging.proofs.judge.judge.Tie as tie
+use Rattle.judging.proofs.judge.judge.Reads as reads
+
+abbrev In-At-2 : Type 0
+In-At-2 = lts.Past-After-ready tie.the-claims reads.Pre reads.Post
 
 -- what the checks give where they pass
-ready : (c : goal.In-At-2) → let a = c.args in
+ready : (c : In-At-2) → let a = c.args in
     ReadyAt a.ticks.now a.values.now a.t c.in-At.c
 ready c =
     let a = c.args in

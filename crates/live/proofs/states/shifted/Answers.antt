@@ -10,7 +10,7 @@ use Rattle.live.proofs.states.shifted.Lts as lts
 use Rattle.live.proofs.states.shifted.Goals as goal
 
 room : (s : lts.Start reads.Pre reads.Post invariant-loop decreases-loop) → s.args.view.count ≤ length s.args.view.samples
-room s = omega (arith, full s.args.view s.well-formed.0)
+room s = omega (arith, full s.args.view s.well_formed.0)
 
 pub loop-i-init : goal.loop-i-init
 loop-i-init c =

@@ -1,6 +1,5 @@
 -- `outgoing::stops::stop_after` meets its contract. The loop's invariant: `at` is reached by valid links. Assumes nothing.
 use Prim.Native.Nat.{◌-◌}
-use borrow.Author.Tests.{not-true, not-false}
 use Rattle.outgoing.proofs.StopLaws.{walked_first, walked_next, walked_valid, walked_invalid, walked_last, walked_bounds}
 use Rattle.outgoing.proofs.stops.stop_after.Goals as goal
 
@@ -15,7 +14,7 @@ reaches-requires c =
 pub returns-then-not-reaches : goal.returns-then-not-reaches
 returns-then-not-reaches c =
     let pre = c.requires in (
-      walked_invalid c.loop-at.invariant pre.3 c.loop-at-test.true (not-true _ c.if-not-reaches.true) c.reaches.ensures,
+      walked_invalid c.loop-at.invariant pre.3 c.loop-at-test.true (c.if-not-reaches.true) c.reaches.ensures,
       walked_bounds c.loop-at.invariant pre.3,
     )
 
@@ -26,7 +25,7 @@ taken-links-requires c =
 
 pub loop-at-preserved : goal.loop-at-preserved
 loop-at-preserved c =
-    walked_valid c.loop-at.invariant c.requires.3 c.loop-at-test.true (not-false _ c.if-not-reaches.false) c.reaches.ensures c.taken-links.ensures
+    walked_valid c.loop-at.invariant c.requires.3 c.loop-at-test.true (c.if-not-reaches.false) c.reaches.ensures c.taken-links.ensures
 
 pub returns : goal.returns
 returns c =

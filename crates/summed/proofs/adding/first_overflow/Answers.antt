@@ -1,5 +1,4 @@
 -- `summed::adding::first_overflow` meets its contract: it searches only where some sum overflows. Assumes nothing.
-use borrow.Author.Tests.{not-true}
 use mathlib.Core.Path.{sym, ◌∙◌}
 use Prim.Native.Nat.{◌-◌}
 use native.Mathlib.Omega.{arith}
@@ -7,7 +6,7 @@ use Rattle.lists.proofs.FirstLaws.{first_none, searching_none, searching_more, s
 use Rattle.summed.proofs.adding.first_overflow.Goals as goal
 
 pub returns-then-not-some_overflow : goal.returns-then-not-some_overflow
-returns-then-not-some_overflow c = sym (first_none (omega arith) (c.some_overflow.ensures (not-true _ c.if-not-some_overflow.true)))
+returns-then-not-some_overflow c = sym (first_none (omega arith) (c.some_overflow.ensures (c.if-not-some_overflow.true)))
 
 pub loop-k-init : goal.loop-k-init
 loop-k-init c = searching_none (omega arith)

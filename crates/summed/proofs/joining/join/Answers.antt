@@ -5,8 +5,14 @@ use native.Mathlib.Omega.{arith}
 use lib.ListN.{length}
 use Rattle.summed.proofs.JoinLaws.{joining_none, joining_inside, joining_few, joining_from, joining_more, joining_same, joining_ends}
 use Rattle.summed.proofs.joining.join.Goals as goal
+use Rattle.summed.proofs.joining.join.Lts as lts
+use Rattle.summed.proofs.joining.join.Tie as tie
+use Rattle.summed.proofs.joining.join.Reads as reads
 
-abbrev start : goal.In-loop-next → goal.Start
+abbrev Start : Type 0
+Start = lts.Start tie.the-claims reads.Pre reads.Post goal.the-invariant-loop-next goal.the-decreases-loop-next
+
+abbrev start : goal.In-loop-next → Start
 start c = c.before.before.before.before.before
 
 -- positions and the number of entries, where the loop goes on

@@ -9,4 +9,4 @@ pub overflow_sub-result : goal.overflow_sub-result
 overflow_sub-result c = rw (climb_is c.args.rise c.requires) (climb_fits c.args.rise c.requires)
 
 pub returns : goal.returns
-returns c = to_z-of_z w64 _ (sub-result c) ∙ climb_is c.args.rise c.requires
+returns c = to_z-of_z w64 _ (overflow_sub-result c) ∙ climb_is c.args.rise c.requires

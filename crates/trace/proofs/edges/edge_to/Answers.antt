@@ -27,4 +27,4 @@ returns c =
     let pre = c.requires in
     rw c.wide.ensures
     (edge_made pre.start pre.q_bound c.level_at.ensures c.scaled.ensures.0 c.scaled-2.ensures.0
-    (to_z-of_z w64 c.climb_to-climb.result (record { sfits = c.climb_to-climb.type-inv }) ∙ c.climb_to-climb.ensures))
+    (to_z-of_z w64 c.climb_to-climb.result (record { sfits = c.climb_to-climb.type_inv }) ∙ c.climb_to-climb.ensures))

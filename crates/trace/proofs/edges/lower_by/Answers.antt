@@ -18,5 +18,5 @@ pub returns : goal.returns
 returns c =
     let a = c.args in
     let pre = c.requires in
-    let e = to_z-of_z w64 _ (sub-t5 c) ∙ lower_is a.e.rise a.p pre.low pre.high pre.climb in
+    let e = to_z-of_z w64 _ (overflow_sub-result-2 c) ∙ lower_is a.e.rise a.p pre.low pre.high pre.climb in
     rw e (refl, edge_slope refl (omega (arith, pre.high)) pre.run_bound)

@@ -3,12 +3,12 @@ use Prim.Native.Nat.{◌-◌}
 use mathlib.Core.Path.{sym}
 use borrow.Author.Rules.{rules}
 use Rattle.lists.proofs.FirstLaws.{first_none, searching_none, searching_more, searched_at, searched_none}
-use borrow.Author.Tests.{not-true, le-leb, lt-leb}
+use borrow.Author.Tests.{le-leb, lt-leb}
 use Rattle.trace.proofs.limits.first_fall.Goals as goal
 
 pub returns-then-not-some_fall : goal.returns-then-not-some_fall
 returns-then-not-some_fall c =
-    sym (first_none c.requires (c.some_fall.ensures (not-true _ c.if-not-some_fall.true)))
+    sym (first_none c.requires (c.some_fall.ensures (c.if-not-some_fall.true)))
 
 pub loop-k-init : goal.loop-k-init
 loop-k-init c = searching_none c.requires

@@ -12,4 +12,4 @@ pub returns : goal.returns
 returns c =
     let x = c.climb_over in
     let y = c.climb_over-2 in
-    to_z-of_z w64 _ (sub-result c) ∙ rw (to_z-of_z w64 x.result (record { sfits = x.type-inv }), to_z-of_z w64 y.result (record { sfits = y.type-inv }), x.ensures, y.ensures)
+    to_z-of_z w64 _ (overflow_sub-result c) ∙ rw (to_z-of_z w64 x.result (record { sfits = x.type_inv }), to_z-of_z w64 y.result (record { sfits = y.type_inv }), x.ensures, y.ensures)

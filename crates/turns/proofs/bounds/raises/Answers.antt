@@ -21,5 +21,5 @@ returns c =
     let a = c.args in
     let pre = c.requires in
     let x = c.margin in
-    rw (to_z_pos w64 (a.p * a.low.run) (omega (arith, product_bound pre.0 pre.1)), to_z-of_z w64 x.result (record { sfits = x.type-inv }), x.ensures)
+    rw (to_z_pos w64 (a.p * a.low.run) (omega (arith, product_bound pre.0 pre.1)), to_z-of_z w64 x.result (record { sfits = x.type_inv }), x.ensures)
     (raises_is a.low a.to pre.1)

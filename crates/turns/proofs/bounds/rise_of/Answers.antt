@@ -10,7 +10,7 @@ pub overflow_add-result : goal.overflow_add-result
 overflow_add-result c = rw (rise_is c.requires) (record { sfits = omega (arith, c.requires.bound) })
 
 pub overflow_cast-result : goal.overflow_cast-result
-overflow_cast-result c = rw (to_z-of_z w64 _ (add-result c) ∙ rise_is c.requires) (tt, omega (arith, c.requires.bound))
+overflow_cast-result c = rw (to_z-of_z w64 _ (overflow_add-result c) ∙ rise_is c.requires) (tt, omega (arith, c.requires.bound))
 
 pub returns : goal.returns
-returns c = rw (to_z-of_z w64 _ (add-result c) ∙ rise_is c.requires)
+returns c = rw (to_z-of_z w64 _ (overflow_add-result c) ∙ rise_is c.requires)

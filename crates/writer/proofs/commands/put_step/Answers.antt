@@ -8,13 +8,28 @@ use Rattle.format.specs.Format.{short}
 use Rattle.format.proofs.RuleLaws.{short_le}
 use Rattle.writer.proofs.WritingLaws.{operand_is}
 use Rattle.writer.proofs.commands.put_step.Goals as goal
+use Rattle.writer.proofs.commands.put_step.Lts as lts
+use Rattle.writer.proofs.commands.put_step.Tie as tie
+use Rattle.writer.proofs.commands.put_step.Reads as reads
 
-abbrev start : goal.After-is_short → goal.Start
+abbrev After-is_short : Type 0
+After-is_short = lts.After-is_short tie.the-claims reads.Pre reads.Post
+
+abbrev Start : Type 0
+Start = lts.Start tie.the-claims reads.Pre reads.Post
+
+abbrev Then-is_short : Type 0
+Then-is_short = lts.Then1 tie.the-claims reads.Pre reads.Post
+
+abbrev Else-is_short : Type 0
+Else-is_short = lts.Else1 tie.the-claims reads.Pre reads.Post
+
+abbrev start : After-is_short → Start
 start c = c.before.before.before.before
 
 -- the step is short
-module _ (c : goal.Then-is_short) where
-  abbrev s : goal.Start
+module _ (c : Then-is_short) where
+  abbrev s : Start
   s = start c.before
 
   is_short : short s.args.a.level (s.args.b.tick - s.args.a.tick) s.args.b.level ≡ true
@@ -24,7 +39,7 @@ module _ (c : goal.Then-is_short) where
   bounds = short_le s.args.a.level (s.args.b.tick - s.args.a.tick) s.args.b.level is_short
 
 -- it is long
-is_long : (c : goal.Else-is_short) → short (start c.before).args.a.level ((start c.before).args.b.tick - (start c.before).args.a.tick) (start c.before).args.b.level ≡ false
+is_long : (c : Else-is_short) → short (start c.before).args.a.level ((start c.before).args.b.tick - (start c.before).args.a.tick) (start c.before).args.b.level ≡ false
 is_long c = sym c.is_short.ensures ∙ c.if-is_short.false
 
 pub overflow_sub-to : goal.overflow_sub-to

@@ -7,11 +7,20 @@ use Rattle.format.specs.declared.Command.TheVariants.{Tolerance, Sides}
 use Rattle.format.specs.Format.{tolerance_command}
 use Rattle.format.proofs.HeaderLaws.{agree_command, sides_command}
 use Rattle.writer.proofs.commands.put_tolerance.Goals as goal
+use Rattle.writer.proofs.commands.put_tolerance.Lts as lts
+use Rattle.writer.proofs.commands.put_tolerance.Tie as tie
+use Rattle.writer.proofs.commands.put_tolerance.Reads as reads
 
-one : (c : goal.Then-agree) → tolerance_command c.args.x ≡ Tolerance c.args.x.up
+abbrev Then-agree : Type 0
+Then-agree = lts.Then1 tie.the-claims reads.Pre reads.Post
+
+abbrev Else-agree : Type 0
+Else-agree = lts.Else1 tie.the-claims reads.Pre reads.Post
+
+one : (c : Then-agree) → tolerance_command c.args.x ≡ Tolerance c.args.x.up
 one c = agree_command _ (sym c.agree.ensures ∙ c.if-agree.true)
 
-two : (c : goal.Else-agree) → tolerance_command c.args.x ≡ Sides c.args.x
+two : (c : Else-agree) → tolerance_command c.args.x ≡ Sides c.args.x
 two c = sides_command _ (sym c.agree.ensures ∙ c.if-agree.false)
 
 pub put_operands-requires : goal.put_operands-requires
