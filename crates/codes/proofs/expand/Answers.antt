@@ -2,7 +2,7 @@
 -- and nothing behind them. Assumes nothing.
 use Prim.Native.Nat.{◌-◌}
 use native.Mathlib.Omega.{arith}
-use Rattle.codes.proofs.expand.Invariants.{long, starts, puts, ends, next, met}
+use Rattle.codes.proofs.expand.Invariants.{starts, puts, ends, next, met}
 use Rattle.codes.proofs.expand.Goals as goal
 
 pub loop-i-init : goal.loop-i-init

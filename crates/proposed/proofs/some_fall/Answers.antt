@@ -12,4 +12,4 @@ pub loop-k-preserved : goal.loop-k-preserved
 loop-k-preserved c = passing_more c.loop-k.invariant c.loop-k-test.true
 
 pub returns : goal.returns
-returns c = (passed c.loop-k.invariant c.loop-k-test.false).holds (ap not h)
+returns c h = (passed c.loop-k.invariant c.loop-k-test.false).holds (ap not h)

@@ -8,7 +8,7 @@ use Rattle.tolerance.proofs.Values.{read_whole, read_other}
 use Rattle.tolerance.proofs.of_counts.Goals as goal
 
 pub take_steps-s-requires : goal.take_steps-s-requires
-take_steps-s-requires c = ((6, refl, lit≤ tt), lit≤ tt)
+take_steps-s-requires c = record { by_index = (6, refl, lit≤ tt); most_bound = lit≤ tt }
 
 pub returns-in-Whole : goal.returns-in-Whole
 returns-in-Whole c =

@@ -4,25 +4,18 @@ use Rattle.tolerance.specs.Meaning.{allowed_ratio}
 use Rattle.tolerance.proofs.Meanings.{allowed_pos}
 use Rattle.tolerance.proofs.of_parts.Goals as goal
 
-allowed-up : (c : goal.Then-is_allowed) → allowed_ratio c.args.x.up.p c.args.x.up.q ≡ true
-allowed-up c = sym c.is_allowed.ensures ∙ c.if-is_allowed.true
-
-allowed-down : (c : goal.Then-is_allowed-2) → allowed_ratio c.args.x.down.p c.args.x.down.q ≡ true
-allowed-down c = sym c.is_allowed-then-is_allowed.ensures ∙ c.if-is_allowed-2.true
-
 pub reduce-above-requires : goal.reduce-above-requires
-reduce-above-requires c = allowed_pos _ _ (allowed-up c.before.before)
+reduce-above-requires c = allowed_pos _ _ (sym c.is_allowed.ensures ∙ c.if-is_allowed.true)
 
 pub reduce-below-requires : goal.reduce-below-requires
-reduce-below-requires c = allowed_pos _ _ (allowed-down c.before)
+reduce-below-requires c = allowed_pos _ _ (sym c.is_allowed-then-is_allowed.ensures ∙ c.if-is_allowed-2.true)
 
 pub returns-then-is_allowed-2 : goal.returns-then-is_allowed-2
 returns-then-is_allowed-2 c =
-    let at = c.before.before in
-    simp (allowed-up at.before.before, allowed-down at, c.reduce-above.ensures, c.reduce-below.ensures)
+    simp (sym c.is_allowed.ensures ∙ c.if-is_allowed.true, sym c.is_allowed-then-is_allowed.ensures ∙ c.if-is_allowed-2.true, c.reduce-above.ensures, c.reduce-below.ensures)
 
 pub returns-else-is_allowed-2 : goal.returns-else-is_allowed-2
-returns-else-is_allowed-2 c = simp (allowed-up c.before.before, sym c.is_allowed-then-is_allowed.ensures ∙ c.if-is_allowed-2.false)
+returns-else-is_allowed-2 c = simp (sym c.is_allowed.ensures ∙ c.if-is_allowed.true, sym c.is_allowed-then-is_allowed.ensures ∙ c.if-is_allowed-2.false)
 
 pub returns-else-is_allowed : goal.returns-else-is_allowed
 returns-else-is_allowed c = simp (sym c.is_allowed.ensures ∙ c.if-is_allowed.false)

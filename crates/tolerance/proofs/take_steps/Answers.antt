@@ -38,19 +38,19 @@ in-float n h = le→leb n (2 ^ 53) h
 
 pub int_to_float-scale : goal.int_to_float-scale
 int_to_float-scale c =
-    in-float c.args.k (omega (arith, k-le c.args.k c.args.most c.requires.0 c.requires.1))
+    in-float c.args.k (omega (arith, k-le c.args.k c.args.most c.requires.by_index c.requires.most_bound))
 
 pub truncating_f64_to_u64-n-requires : goal.truncating_f64_to_u64-n-requires
 unfolding of_bits neg
-truncating_f64_to_u64-n-requires c = (subst T (sym c.if-y.true) tt, subst T (sym c.if-y-2.true) tt)
+truncating_f64_to_u64-n-requires c = record { lower_bound = subst T (sym c.if-y.true) tt; upper_bound = subst T (sym c.if-y-2.true) tt }
 
 pub overflow_mul-most : goal.overflow_mul-most
 overflow_mul-most c =
-    record { fits = omega (arith, most-le c.args.k c.args.most c.requires.0 c.requires.1) }
+    record { fits = omega (arith, most-le c.args.k c.args.most c.requires.by_index c.requires.most_bound) }
 
 pub int_to_float-n : goal.int_to_float-n
 int_to_float-n c =
-    in-float c.truncating_f64_to_u64-n.result (omega (arith, most-le c.args.k c.args.most c.requires.0 c.requires.1))
+    in-float c.truncating_f64_to_u64-n.result (omega (arith, most-le c.args.k c.args.most c.requires.by_index c.requires.most_bound))
 
 pub returns-then-n-scale : goal.returns-then-n-scale
 returns-then-n-scale c =
@@ -58,8 +58,8 @@ returns-then-n-scale c =
     let most = c.args.most in
     let n = c.truncating_f64_to_u64-n.result in
     let l : n ≤ most * k = c.if-n-most.true in
-    let h = eq_is (div binary64 (float n) (float k)) c.args.x n k (back k most c.requires.0 c.requires.1 n l) (subst T (sym c.if-n-scale.true) tt) in
-    sym (steps_whole c.args.x k most n (k-pos k most c.requires.0 c.requires.1) h l)
+    let h = eq_is (div binary64 (float n) (float k)) c.args.x n k (back k most c.requires.by_index c.requires.most_bound n l) (subst T (sym c.if-n-scale.true) tt) in
+    sym (steps_whole c.args.x k most n (k-pos k most c.requires.by_index c.requires.most_bound) h l)
 
 pub returns-else-n-scale : goal.returns-else-n-scale
 returns-else-n-scale c =
@@ -69,8 +69,8 @@ returns-else-n-scale c =
     let r = c.truncating_f64_to_u64-n.result in
     let e : r ≡ to_unsigned 64 (mul binary64 x (float k)) = c.truncating_f64_to_u64-n.ensures in
     sym (steps_other x k most (λ n h l.
-    let f = is_eq (div binary64 (float n) (float k)) x n k (k-pos k most c.requires.0 c.requires.1) (back k most c.requires.0 c.requires.1 n l) h in
-    subst T c.if-n-scale.false (rw (e, part k most c.requires.0 c.requires.1 x n h l) f)))
+    let f = is_eq (div binary64 (float n) (float k)) x n k (k-pos k most c.requires.by_index c.requires.most_bound) (back k most c.requires.by_index c.requires.most_bound n l) h in
+    subst T c.if-n-scale.false (rw (e, part k most c.requires.by_index c.requires.most_bound x n h l) f)))
 
 pub returns-else-n-most : goal.returns-else-n-most
 returns-else-n-most c =
@@ -78,7 +78,7 @@ returns-else-n-most c =
     let k = c.args.k in
     let most = c.args.most in
     let e = c.truncating_f64_to_u64-n.ensures in
-    sym (steps_other x k most (λ n h l. omega (arith, c.if-n-most.false, e ∙ part k most c.requires.0 c.requires.1 x n h l)))
+    sym (steps_other x k most (λ n h l. omega (arith, c.if-n-most.false, e ∙ part k most c.requires.by_index c.requires.most_bound x n h l)))
 
 pub returns-else-y-2 : goal.returns-else-y-2
 unfolding of_bits neg
@@ -86,7 +86,7 @@ returns-else-y-2 c =
     let x = c.args.x in
     let k = c.args.k in
     let most = c.args.most in
-    sym (steps_other x k most (λ n h l. subst T c.if-y-2.false (below (mul binary64 x (float k)) n (omega (arith, most-le k most c.requires.0 c.requires.1)) (scaled k most c.requires.0 c.requires.1 x n h l))))
+    sym (steps_other x k most (λ n h l. subst T c.if-y-2.false (below (mul binary64 x (float k)) n (omega (arith, most-le k most c.requires.by_index c.requires.most_bound)) (scaled k most c.requires.by_index c.requires.most_bound x n h l))))
 
 pub returns-else-y : goal.returns-else-y
 unfolding of_bits neg
@@ -94,4 +94,4 @@ returns-else-y c =
     let x = c.args.x in
     let k = c.args.k in
     let most = c.args.most in
-    sym (steps_other x k most (λ n h l. subst T c.if-y.false (above (mul binary64 x (float k)) n (scaled k most c.requires.0 c.requires.1 x n h l))))
+    sym (steps_other x k most (λ n h l. subst T c.if-y.false (above (mul binary64 x (float k)) n (scaled k most c.requires.by_index c.requires.most_bound x n h l))))

@@ -1,6 +1,7 @@
 -- `codes::tables::first_not_rising` meets its contract: it searches only where there is something to find. Assumes nothing.
 use Prim.Native.Nat.{◌-◌}
-use mathlib.Core.Path.{sym, ◌∙◌}
+use mathlib.Core.Path.{sym, ap, ◌∙◌}
+use mathlib.Core.Bool.{not}
 use native.Mathlib.Omega.{arith}
 use borrow.Author.Rules.{rules}
 use Rattle.lists.proofs.FirstLaws.{first_none, searching_none, searching_more, searched_at, searched_none}
@@ -8,7 +9,7 @@ use Rattle.codes.specs.RangeTable.{not_rising}
 use Rattle.codes.proofs.tables.first_not_rising.Goals as goal
 
 pub returns-then-not-some_not_rising : goal.returns-then-not-some_not_rising
-returns-then-not-some_not_rising c = sym (first_none (omega arith) (c.some_not_rising.ensures.holds c.if-not-some_not_rising.true))
+returns-then-not-some_not_rising c = sym (first_none (omega arith) (c.some_not_rising.ensures.holds (ap not c.if-not-some_not_rising.true)))
 
 pub loop-c-init : goal.loop-c-init
 loop-c-init c = searching_none (omega arith)

@@ -18,4 +18,4 @@ loop-k-preserved c =
     rw c.hole_after-far.ensures (passing_more l.invariant c.loop-k-test.true)
 
 pub returns : goal.returns
-returns c = (passed c.loop-k.invariant c.loop-k-test.false).holds (ap not h)
+returns c h = (passed c.loop-k.invariant c.loop-k-test.false).holds (ap not h)
