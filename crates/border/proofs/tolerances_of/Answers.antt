@@ -29,8 +29,8 @@ loop-k-init c = writing_none _ _
 
 pub loop-k-preserved : goal.loop-k-preserved
 loop-k-preserved c =
-    let s = sized c.before.before.before.before.before in
+    let s = sized c.before.before.before.before.before.before in
     writing_more c.loop-k.invariant _ (omega (arith, c.loop-k-test.true)) (omega arith) (c.entry_of-entry.ensures ∙ sym (get_or-map entry_of c.args.t.list _ _))
 
 pub returns : goal.returns
-returns c = rw (whole c.loop-k.invariant (sized c.before.before.before) (omega (arith, c.loop-k-test.false)) (omega arith))
+returns c = rw (whole c.loop-k.invariant (sized c.before.before.before.before) (omega (arith, c.loop-k-test.false)) (omega arith))

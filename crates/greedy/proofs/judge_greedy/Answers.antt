@@ -21,12 +21,12 @@ ready c =
 
 pub judge_at-requires : goal.judge_at-requires
 judge_at-requires c =
-    let r = ready c.before in
+    let r = ready c.before.before in
     (r.trace, r.bounded)
 
 pub returns-in-At : goal.returns-in-At
 returns-in-At c =
-    let r = ready c.before.before in
+    let r = ready c.before.before.before in
     let a = c.args in
     greedy_outcome a.ticks.now a.values.now a.list.now a.t
     (c.judge_at.ensures ∙ ap (λ (x : Criterion). greedy_at a.ticks.now a.values.now a.list.now x) r.is ∙ common_fine a.ticks.now a.values.now a.list.now a.t r.rows)

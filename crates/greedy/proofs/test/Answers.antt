@@ -37,19 +37,19 @@ returns-then-limit-j c =
 
 pub reaches-requires : goal.reaches-requires
 reaches-requires c =
-    next_ready c.args.c c.requires.0 (before c.before.before) c.requires.1 (one-step c)
+    next_ready c.args.c c.requires.0 (before c.before.before.before) c.requires.1 (one-step c.before)
 
 pub returns-then-j-i : goal.returns-then-j-i
 returns-then-j-i c =
     let a = c.args in
-    test_valid a.c c.requires.0 (before c.before.before.before) (step_valid a.ticks.now a.values.now a.c a.i a.j c.if-j-i.true) (valid_at (one-step c.before) (a.j + 1) c.reaches.ensures)
+    test_valid a.c c.requires.0 (before c.before.before.before.before) (step_valid a.ticks.now a.values.now a.c a.i a.j c.if-j-i.true) (valid_at (one-step c.before.before) (a.j + 1) c.reaches.ensures)
 
 pub taken_to-links-requires : goal.taken_to-links-requires
 taken_to-links-requires c =
     let a = c.args in
     let link = c.requires.0 in
     let e : a.i + 1 + 1 ≡ a.i + 2 = omega arith in
-    let long = before c.before.before in (
+    let long = before c.before.before.before in (
       next_at (subst (λ (n : ℕ). TakenIn a.ticks.now a.values.now a.c a.i n c.links_past-next.result) e c.links_past-next.ensures)
           link.trace c.requires.1 (omega arith) (omega (arith, c.if-j-i.false, link.forward)) (omega (arith, c.if-j-i.false, link.forward, link.inside)),
       omega (arith, c.if-j-i.false, link.forward),
@@ -58,15 +58,14 @@ taken_to-links-requires c =
     )
 
 pub reaches-requires-2 : goal.reaches-requires-2
-reaches-requires-2 c = next c
+reaches-requires-2 c = next c.before
 
 pub returns-then-not-reaches : goal.returns-then-not-reaches
 returns-then-not-reaches c =
-    let t = c.before.before in
-    test_invalid t.args.c t.requires.0 (sym (valid_at (at_end t) t.args.j c.reaches-2.ensures) ∙ c.if-not-reaches.true)
+    test_invalid c.args.c c.requires.0 (sym (valid_at (at_end c.before.before.before) c.args.j c.reaches-2.ensures) ∙ c.if-not-reaches.true)
 
 pub taken-through-requires : goal.taken-through-requires
-taken-through-requires c = next c.before.before
+taken-through-requires c = next c.before.before.before
 
 pub overflow_add-j-2 : goal.overflow_add-j-2
 overflow_add-j-2 c =
@@ -75,9 +74,8 @@ overflow_add-j-2 c =
 
 pub reaches-requires-3 : goal.reaches-requires-3
 reaches-requires-3 c =
-    next_ready c.args.c c.requires.0 (before c.before.before.before.before.before.before) c.requires.1 (through c)
+    next_ready c.args.c c.requires.0 (before c.before.before.before.before.before.before.before) c.requires.1 (through c.before)
 
 pub returns : goal.returns
 returns c =
-    let t = c.before.before.before.before in
-    test_valid t.args.c t.requires.0 (before t.before.before.before) (sym (valid_at (at_end t) t.args.j c.reaches-2.ensures) ∙ c.if-not-reaches.false) (valid_at (through c.before) (t.args.j + 1) c.reaches-3.ensures)
+    test_valid c.args.c c.requires.0 (before c.before.before.before.before.before.before.before.before) (sym (valid_at (at_end c.before.before.before.before.before) c.args.j c.reaches-2.ensures) ∙ c.if-not-reaches.false) (valid_at (through c.before.before) (c.args.j + 1) c.reaches-3.ensures)

@@ -34,33 +34,30 @@ loop-k-init c = (searching_none (omega arith), λ lt. absurd (omega arith))
 
 pub limit_from-limit-requires : goal.limit_from-limit-requires
 limit_from-limit-requires c =
-    let l = link c.before in
+    let l = link c.before.before in
     (l.trace, rw c.ends_at-link.ensures (omega (arith, l.forward, l.inside)), rw c.ends_at-link.ensures c.loop-k.invariant.1)
 
 pub test-tested-requires : goal.test-tested-requires
 test-tested-requires c =
     let e = c.ends_at-link.ensures in
-    (rw e (link c.before.before), c.requires.1, c.limit_from-limit.ensures)
+    (rw e (link c.before.before.before), c.requires.1, c.limit_from-limit.ensures)
 
 pub returns-then-not-tested : goal.returns-then-not-tested
 returns-then-not-tested c =
-    let t = c.before.before in
-    let a = t.args in
-    found_link a.ticks.now a.values.now a.list.now a.c t.loop-k.invariant.0 (omega (arith, t.loop-k-test.true)) (tested t) (c.if-not-tested.true)
+    let a = c.args in
+    found_link a.ticks.now a.values.now a.list.now a.c c.loop-k.invariant.0 (omega (arith, c.loop-k-test.true)) (tested c.before.before.before) (c.if-not-tested.true)
 
 pub returns-then-tested : goal.returns-then-tested
 returns-then-tested c =
-    let t = c.before.before.before in
-    let a = t.args in
-    found_stop a.ticks.now a.values.now a.list.now a.c t.loop-k.invariant.0 (omega (arith, t.loop-k-test.true)) (tested t) (c.if-not-tested.false) c.if-tested.true
+    let a = c.args in
+    found_stop a.ticks.now a.values.now a.list.now a.c c.loop-k.invariant.0 (omega (arith, c.loop-k-test.true)) (tested c.before.before.before.before) (c.if-not-tested.false) c.if-tested.true
 
 pub loop-k-preserved : goal.loop-k-preserved
 loop-k-preserved c =
-    let t = c.before.before.before in
-    let a = t.args in
-    let l = link t.before.before.before in (
-      sound_more a.ticks.now a.values.now a.list.now a.c t.loop-k.invariant.0 (omega (arith, t.loop-k-test.true)) (tested t) (c.if-not-tested.false) c.if-tested.false,
-      rw (add-one t.loop-k.k) (λ lt. (end_same a.ticks.now a.c.gap {i = entry a.list.now t.loop-k.k} (omega (arith, l.forward, l.inside)) (t.limit_from-limit.ensures ∙ rw t.ends_at-link.ensures) (omega (arith, l.forward)) lt).1),
+    let a = c.args in
+    let l = link c.before.before.before.before.before.before.before in (
+      sound_more a.ticks.now a.values.now a.list.now a.c c.loop-k.invariant.0 (omega (arith, c.loop-k-test.true)) (tested c.before.before.before.before) (c.if-not-tested.false) c.if-tested.false,
+      rw (add-one c.loop-k.k) (λ lt. (end_same a.ticks.now a.c.gap {i = entry a.list.now c.loop-k.k} (omega (arith, l.forward, l.inside)) (c.limit_from-limit.ensures ∙ rw c.ends_at-link.ensures) (omega (arith, l.forward)) lt).1),
     )
 
 pub returns : goal.returns

@@ -20,12 +20,12 @@ ready c =
 pub returns-then-room-n : goal.returns-then-room-n
 returns-then-room-n c =
     let a = c.args in
-    room_refused a.ticks.now a.values.now a.t a.room refl (ready c.before.before).rows c.if-room-n.true
+    room_refused a.ticks.now a.values.now a.t a.room refl (ready c.before.before.before).rows c.if-room-n.true
 
 pub returns-else-room-n : goal.returns-else-room-n
 returns-else-room-n c =
     let a = c.args in
-    room_fine a.ticks.now a.values.now a.t a.room (ready c.before.before) c.if-room-n.false
+    room_fine a.ticks.now a.values.now a.t a.room (ready c.before.before.before) c.if-room-n.false
 
 pub returns-in-Refused : goal.returns-in-Refused
 returns-in-Refused c =

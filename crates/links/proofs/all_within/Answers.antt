@@ -41,10 +41,10 @@ in_parts-requires c =
     (slopes.0, slopes.1, slopes.2, pre.1)
 
 pub returns-then-not-in_parts : goal.returns-then-not-in_parts
-returns-then-not-in_parts c = sym (failed c.loop-k.invariant c.loop-k-test.true (within_false _ _ _ _ _ _ (sym (tested c.before) ∙ c.if-not-in_parts.true)))
+returns-then-not-in_parts c = sym (failed c.loop-k.invariant c.loop-k-test.true (within_false _ _ _ _ _ _ (sym (tested c.before.before) ∙ c.if-not-in_parts.true)))
 
 pub loop-k-preserved : goal.loop-k-preserved
-loop-k-preserved c = passed_more c.loop-k.invariant c.loop-k-test.true (within_true _ _ _ _ _ _ (sym (tested c.before) ∙ c.if-not-in_parts.false))
+loop-k-preserved c = passed_more c.loop-k.invariant c.loop-k-test.true (within_true _ _ _ _ _ _ (sym (tested c.before.before) ∙ c.if-not-in_parts.false))
 
 pub returns : goal.returns
 returns c = sym (passed_all c.loop-k.invariant c.loop-k-test.false)

@@ -37,10 +37,10 @@ pub bounds-ticks2-k : goal.bounds-ticks2-k
 bounds-ticks2-k c = omega (arith, c.loop-k-test.true, c.requires)
 
 pub returns-then-ticks1-k : goal.returns-then-ticks1-k
-returns-then-ticks1-k c = searched_at c.loop-k.invariant c.loop-k-test.true (sym (test c.before.before.before) ∙ ap not (ne_eqb _ _ c.if-ticks1-k.true))
+returns-then-ticks1-k c = searched_at c.loop-k.invariant c.loop-k-test.true (sym (test c.before.before.before.before) ∙ ap not (ne_eqb _ _ c.if-ticks1-k.true))
 
 pub loop-k-preserved : goal.loop-k-preserved
-loop-k-preserved c = searching_more c.loop-k.invariant c.loop-k-test.true (sym (test c.before.before.before) ∙ ap not (eq-eqb _ _ c.if-ticks1-k.false))
+loop-k-preserved c = searching_more c.loop-k.invariant c.loop-k-test.true (sym (test c.before.before.before.before) ∙ ap not (eq-eqb _ _ c.if-ticks1-k.false))
 
 pub returns : goal.returns
 returns c = searched_none c.loop-k.invariant c.loop-k-test.false

@@ -21,15 +21,13 @@ passed c =
 
 pub list_channels-requires : goal.list_channels-requires
 list_channels-requires c =
-    let r = c.before.before.before in
-    let a = r.args in
-    passed_ready (run_of a.ticks1.now a.values1.now a.lengths1.now) (run_of a.ticks2.now a.values2.now a.lengths2.now) a.t a.k a.moved.now a.noisy.now (passed r)
+    let a = c.args in
+    passed_ready (run_of a.ticks1.now a.values1.now a.lengths1.now) (run_of a.ticks2.now a.values2.now a.lengths2.now) a.t a.k a.moved.now a.noisy.now (passed c.before.before.before.before)
 
 pub returns-in-At : goal.returns-in-At
 returns-in-At c =
-    let r = c.before.before.before.before in
-    let a = r.args in
-    both_listed (run_of a.ticks1.now a.values1.now a.lengths1.now) (run_of a.ticks2.now a.values2.now a.lengths2.now) a.t a.k a.moved.now a.noisy.now (passed r) c.list_channels.ensures
+    let a = c.args in
+    both_listed (run_of a.ticks1.now a.values1.now a.lengths1.now) (run_of a.ticks2.now a.values2.now a.lengths2.now) a.t a.k a.moved.now a.noisy.now (passed c.before.before.before.before.before.before.before.before.before) c.list_channels.ensures
 
 pub returns-in-Refused : goal.returns-in-Refused
 returns-in-Refused c =

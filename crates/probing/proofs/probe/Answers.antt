@@ -27,14 +27,14 @@ taken_to-far-requires c =
     (probes_next pre c.if-links-end.false, omega (arith, pre.further), c.if-links-end.false, inside pre c.if-links-end.false)
 
 pub reaches-requires : goal.reaches-requires
-reaches-requires c = far c
+reaches-requires c = far c.before
 
 pub returns-then-not-reaches : goal.returns-then-not-reaches
 returns-then-not-reaches c =
     probed_invalid c.requires c.if-links-end.false c.taken_to-far.ensures (c.if-not-reaches.true) c.reaches.ensures
 
 pub taken-requires : goal.taken-requires
-taken-requires c = far c.before.before
+taken-requires c = far c.before.before.before
 
 pub returns : goal.returns
 returns c =

@@ -11,12 +11,12 @@ first c = subst (CheckOutcome c.args.a.now) c.in-Samples.is c.check-x.ensures
 pub returns-in-Samples-y : goal.returns-in-Samples-y
 returns-in-Samples-y c =
     let b = c.args.b.now in
-    sym (both_fine (first c.before) (subst (CheckOutcome b) c.in-Samples-y.is c.check-y.ensures))
+    sym (both_fine (first c.before.before.before.before) (subst (CheckOutcome b) c.in-Samples-y.is c.check-y.ensures))
 
 pub returns-in-Fault-y : goal.returns-in-Fault-y
 returns-in-Fault-y c =
     let b = c.args.b.now in
-    sym (second_fault (first c.before) b (subst (CheckOutcome b) c.in-Fault-y.is c.check-y.ensures))
+    sym (second_fault (first c.before.before.before.before.before) b (subst (CheckOutcome b) c.in-Fault-y.is c.check-y.ensures))
 
 pub returns-in-Fault : goal.returns-in-Fault
 returns-in-Fault c =

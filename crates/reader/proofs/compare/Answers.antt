@@ -23,15 +23,11 @@ fine c = sym c.requires ∙ c.in-Fine.is
 
 pub returns-then-equal : goal.returns-then-equal
 returns-then-equal c =
-    let t = c.before.before in
-    let s = t.before.before in
-    same_yes (first s) (second s) (fine t) (c.equal.ensures.holds c.if-equal.true)
+    same_yes (first c.before.before.before.before.before) (second c.before.before.before.before.before) (fine c.before.before.before) (c.equal.ensures.holds c.if-equal.true)
 
 pub returns-else-equal : goal.returns-else-equal
 returns-else-equal c =
-    let t = c.before.before in
-    let s = t.before.before in
-    same_no (first s) (second s) (fine t) (c.equal.ensures.fails c.if-equal.false)
+    same_no (first c.before.before.before.before.before) (second c.before.before.before.before.before) (fine c.before.before.before) (c.equal.ensures.fails c.if-equal.false)
 
 pub returns-in-Refused : goal.returns-in-Refused
 returns-in-Refused c = sym c.requires ∙ c.in-Refused.is

@@ -30,29 +30,27 @@ said : (c : In-Samples-2) → Said c.args.bytes.now c.in-Samples.n c.in-Samples.
 said c = subst (CheckOutcome c.args.bytes.now) c.in-Samples.is (counted c.before.before)
 
 pub count_samples-v-requires : goal.count_samples-v-requires
-count_samples-v-requires c = header_after_first (by c.before) c.requires
+count_samples-v-requires c = header_after_first (by c.before.before) c.requires
 
 pub returns-then-ticks-n : goal.returns-then-ticks-n
-returns-then-ticks-n c = record { rows = no_room (said c.before.before) _ _ (rw (lt-leb _ _ c.if-ticks-n.true)); ticks = refl; values = refl }
+returns-then-ticks-n c = record { rows = no_room (said c.before.before.before) _ _ (rw (lt-leb _ _ c.if-ticks-n.true)); ticks = refl; values = refl }
 
 pub returns-then-values-n : goal.returns-then-values-n
 returns-then-values-n c = record {
-  rows = no_room (said c.before.before.before) _ _ (rw (le-leb _ _ c.if-ticks-n.false, lt-leb _ _ c.if-values-n.true));
+  rows = no_room (said c.before.before.before.before) _ _ (rw (le-leb _ _ c.if-ticks-n.false, lt-leb _ _ c.if-values-n.true));
   ticks = refl;
   values = refl;
 }
 
 pub fill-requires : goal.fill-requires
 fill-requires c =
-    (header_after_first (by c.before.before) c.requires, room (said c.before.before.before) c.requires c.args.ticks.now c.args.values.now c.if-ticks-n.false c.if-values-n.false)
+    (header_after_first (by c.before.before.before.before.before.before.before.before.before.before) c.requires, room (said c.before.before.before.before.before.before) c.requires c.args.ticks.now c.args.values.now c.if-ticks-n.false c.if-values-n.false)
 
 pub returns-else-values-n : goal.returns-else-values-n
 returns-else-values-n c =
-    let v = c.before.before.before in
-    read_back (said v) v.requires _ _ c.if-ticks-n.false c.if-values-n.false c.fill.ensures
+    read_back (said c.before.before.before.before.before.before.before.before.before.before) c.requires _ _ c.if-ticks-n.false c.if-values-n.false c.fill.ensures
 
 pub returns-in-Fault : goal.returns-in-Fault
 returns-in-Fault c =
-    let k = c.before.before.before in
-    let b = k.args.bytes.now in
-    record { rows = read_fault b _ _ (subst (CheckOutcome b) c.in-Fault.is (counted k)); ticks = refl; values = refl }
+    let b = c.args.bytes.now in
+    record { rows = read_fault b _ _ (subst (CheckOutcome b) c.in-Fault.is (counted c.before.before.before.before)); ticks = refl; values = refl }

@@ -18,17 +18,17 @@ sets c = subst (Allowed c.args.t) c.in-At.is c.criterion-ready.ensures
 pub returns-then-room-m : goal.returns-then-room-m
 returns-then-room-m c =
     let a = c.args in
-    sheet_refused a.ticks.now a.values.now a.lengths.now a.t a.room (room_refused a.ticks.now a.values.now a.lengths.now a.t a.room c.requires (sets c.before.before.before) c.if-room-m.true) c.refuse.ensures
+    sheet_refused a.ticks.now a.values.now a.lengths.now a.t a.room (room_refused a.ticks.now a.values.now a.lengths.now a.t a.room c.requires (sets c.before.before.before.before) c.if-room-m.true) c.refuse.ensures
 
 pub survey-requires : goal.survey-requires
 survey-requires c =
     let a = c.args in
-    ((sets c.before.before).bounded, crate_divided a.ticks.now a.values.now a.lengths.now c.requires)
+    ((sets c.before.before.before).bounded, crate_divided a.ticks.now a.values.now a.lengths.now c.requires)
 
 pub returns-else-room-m : goal.returns-else-room-m
 returns-else-room-m c =
     let a = c.args in
-    sheet_counted a.ticks.now a.values.now a.lengths.now a.t a.room c.requires (sets c.before.before.before) c.if-room-m.false c.survey.ensures
+    sheet_counted a.ticks.now a.values.now a.lengths.now a.t a.room c.requires (sets c.before.before.before.before) c.if-room-m.false c.survey.ensures
 
 pub returns-in-Refused : goal.returns-in-Refused
 returns-in-Refused c =

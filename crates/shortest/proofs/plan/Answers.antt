@@ -49,16 +49,16 @@ next_stop-b-requires c =
     )
 
 pub offset_bounds-links-b : goal.offset_bounds-links-b
-offset_bounds-links-b c = omega (arith, inside c)
+offset_bounds-links-b c = omega (arith, inside c.before)
 
 pub bounds-links-b : goal.bounds-links-b
-bounds-links-b c = omega (arith, inside c.before)
+bounds-links-b c = omega (arith, inside c.before.before)
 
 pub overflow_add-links : goal.overflow_add-links
-overflow_add-links c = omega (arith, inside c.before)
+overflow_add-links c = omega (arith, inside c.before.before)
 
 pub overflow_cast-next : goal.overflow_cast-next
-overflow_cast-next c = omega (arith, inside c.before)
+overflow_cast-next c = omega (arith, inside c.before.before)
 
 pub loop-i-preserved : goal.loop-i-preserved
 loop-i-preserved c =

@@ -40,22 +40,22 @@ pub returns-in-Refused : goal.returns-in-Refused
 returns-in-Refused c = trace1_refused _ _ _ _ _ _ _ _ (sym c.check-trace1.ensures ∙ c.in-Refused.is)
 
 pub returns-in-Refused-trace2 : goal.returns-in-Refused-trace2
-returns-in-Refused-trace2 c = let p = c.before.before.before.before in trace2_refused _ _ _ _ _ _ _ _ (passed1 p) (sym c.check-trace2.ensures ∙ c.in-Refused-trace2.is)
+returns-in-Refused-trace2 c = trace2_refused _ _ _ _ _ _ _ _ (passed1 c.before.before.before.before.before) (sym c.check-trace2.ensures ∙ c.in-Refused-trace2.is)
 
 pub returns-in-Refused-kept1 : goal.returns-in-Refused-kept1
-returns-in-Refused-kept1 c = let p = c.before.before.before.before in list1_refused _ _ _ _ _ _ _ _ (passed1 p.before.before.before) (passed2 p) (sym c.check-kept1.ensures ∙ c.in-Refused-kept1.is)
+returns-in-Refused-kept1 c = list1_refused _ _ _ _ _ _ _ _ (passed1 c.before.before.before.before.before.before.before.before) (passed2 c.before.before.before.before.before) (sym c.check-kept1.ensures ∙ c.in-Refused-kept1.is)
 
 pub returns-in-Refused-kept2 : goal.returns-in-Refused-kept2
-returns-in-Refused-kept2 c = let p = c.before.before.before.before in list2_refused _ _ _ _ _ _ _ _ (passed1 p.before.before.before.before.before.before) (passed2 p.before.before.before) (passed3 p) (sym c.check-kept2.ensures ∙ c.in-Refused-kept2.is)
+returns-in-Refused-kept2 c = list2_refused _ _ _ _ _ _ _ _ (passed1 c.before.before.before.before.before.before.before.before.before.before.before) (passed2 c.before.before.before.before.before.before.before.before) (passed3 c.before.before.before.before.before) (sym c.check-kept2.ensures ∙ c.in-Refused-kept2.is)
 
 pub returns-in-Refused-matched : goal.returns-in-Refused-matched
-returns-in-Refused-matched c = let p = c.before.before.before.before in ticks_refused _ _ _ _ _ _ _ _ (passed1 p.before.before.before.before.before.before.before.before.before) (passed2 p.before.before.before.before.before.before) (passed3 p.before.before.before) (passed4 p) (sym c.check-matched.ensures ∙ c.in-Refused-matched.is)
+returns-in-Refused-matched c = ticks_refused _ _ _ _ _ _ _ _ (passed1 c.before.before.before.before.before.before.before.before.before.before.before.before.before.before) (passed2 c.before.before.before.before.before.before.before.before.before.before.before) (passed3 c.before.before.before.before.before.before.before.before) (passed4 c.before.before.before.before.before) (sym c.check-matched.ensures ∙ c.in-Refused-matched.is)
 
 pub check-added-requires : goal.check-added-requires
-check-added-requires c = same_counts _ _ _ _ (passed1 c.before.before.before.before.before.before.before.before.before.before.before.before) (passed2 c.before.before.before.before.before.before.before.before.before) (passed5 c)
+check-added-requires c = same_counts _ _ _ _ (passed1 c.before.before.before.before.before.before.before.before.before.before.before.before.before) (passed2 c.before.before.before.before.before.before.before.before.before.before) (passed5 c.before)
 
 pub returns-in-Refused-added : goal.returns-in-Refused-added
-returns-in-Refused-added c = let p = c.before.before.before.before in values_refused _ _ _ _ _ _ _ _ (passed1 p.before.before.before.before.before.before.before.before.before.before.before.before) (passed2 p.before.before.before.before.before.before.before.before.before) (passed3 p.before.before.before.before.before.before) (passed4 p.before.before.before) (passed5 p) (sym c.check-added.ensures ∙ c.in-Refused-added.is)
+returns-in-Refused-added c = values_refused _ _ _ _ _ _ _ _ (passed1 c.before.before.before.before.before.before.before.before.before.before.before.before.before.before.before.before.before) (passed2 c.before.before.before.before.before.before.before.before.before.before.before.before.before.before) (passed3 c.before.before.before.before.before.before.before.before.before.before.before) (passed4 c.before.before.before.before.before.before.before.before) (passed5 c.before.before.before.before.before) (sym c.check-added.ensures ∙ c.in-Refused-added.is)
 
 pub returns : goal.returns
-returns c = let p = c.before in values_fine _ _ _ _ _ _ _ _ (passed1 p.before.before.before.before.before.before.before.before.before.before.before.before.before.before.before) (passed2 p.before.before.before.before.before.before.before.before.before.before.before.before) (passed3 p.before.before.before.before.before.before.before.before.before) (passed4 p.before.before.before.before.before.before) (passed5 p.before.before.before) (passed6 p) c.check_rooms.ensures
+returns c = values_fine _ _ _ _ _ _ _ _ (passed1 c.before.before.before.before.before.before.before.before.before.before.before.before.before.before.before.before.before) (passed2 c.before.before.before.before.before.before.before.before.before.before.before.before.before.before) (passed3 c.before.before.before.before.before.before.before.before.before.before.before) (passed4 c.before.before.before.before.before.before.before.before) (passed5 c.before.before.before.before.before) (passed6 c.before.before) c.check_rooms.ensures

@@ -28,10 +28,10 @@ overflow_mul-result c = omega (arith, sized_squares c.requires)
 pub overflow_mul-result-2 : goal.overflow_mul-result-2
 overflow_mul-result-2 c =
     let h = c.requires in
-    rw (sized c.before) (omega (arith, h.root, sized_squares h))
+    rw (sized c.before.before) (omega (arith, h.root, sized_squares h))
 
 pub overflow_sub-result : goal.overflow_sub-result
-overflow_sub-result c = rw (sized c.before) c.requires.root
+overflow_sub-result c = rw (sized c.before.before) c.requires.root
 
 pub returns : goal.returns
-returns c = rw (sized c.before) (refl, sized_spread c.requires)
+returns c = rw (sized c.before.before) (refl, sized_spread c.requires)

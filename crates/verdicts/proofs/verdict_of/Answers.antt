@@ -9,10 +9,10 @@ sized : (c : goal.After-sums_of-b) → let n = length c.args.today.now in Sized 
 sized c = let h = c.requires in both_sized c.sums_of-a.ensures c.sums_of-b.ensures h.same h.few
 
 pub moved-requires : goal.moved-requires
-moved-requires c = let s = sized c in (s.0, s.1, c.requires.held)
+moved-requires c = let s = sized c.before in (s.0, s.1, c.requires.held)
 
 pub noisy-requires : goal.noisy-requires
-noisy-requires c = let s = sized c.before in (s.0, s.1, c.requires.factor)
+noisy-requires c = let s = sized c.before.before in (s.0, s.1, c.requires.factor)
 
 pub returns : goal.returns
 returns c =

@@ -31,36 +31,33 @@ module _ (c : After-put_tolerance-at) where
   samples = kept_samples s.args.ticks.now s.args.values.now s.args.list.now
 
   room : c.put_tolerance-at.result + length samples ≤ length c.put_tolerance-at.new.part
-  room = omega (arith, record_length s.args.held s.args.ticks.now s.args.values.now s.args.list.now, c.put_tolerance-at.ensures.1, c.put_tolerance-at.auto.part, s.pre.1)
+  room = omega (arith, record_length s.args.held s.args.ticks.now s.args.values.now s.args.list.now, c.put_tolerance-at.ensures.1, c.put_tolerance-at.auto.part, s.requires.1)
 
 pub put_tolerance-at-requires : goal.put_tolerance-at-requires
 put_tolerance-at-requires c =
     omega (arith, record_length c.args.held c.args.ticks.now c.args.values.now c.args.list.now, c.requires.1)
 
 pub slice_bounds-put_samples-count : goal.slice_bounds-put_samples-count
-slice_bounds-put_samples-count c = omega (arith, room c.before.before)
+slice_bounds-put_samples-count c = omega (arith, room c.before.before.before)
 
 pub slice_bounds-put_samples-start : goal.slice_bounds-put_samples-start
-slice_bounds-put_samples-start c = omega (arith, room c.before.before)
+slice_bounds-put_samples-start c = omega (arith, room c.before.before.before)
 
 pub put_samples-rest-requires : goal.put_samples-rest-requires
 put_samples-rest-requires c =
-    let p = c.before.before.before in
-    ((s p).requires.0, rw (part_length p.put_tolerance-at.new.part p.put_tolerance-at.result) (omega (arith, room p)))
+    ((s c.before.before.before.before).requires.0, rw (part_length c.put_tolerance-at.new.part c.put_tolerance-at.result) (omega (arith, room c.before.before.before.before)))
 
 pub overflow_add-result : goal.overflow_add-result
 overflow_add-result c =
-    let p = c.before.before.before.before in
-    omega (arith, c.put_samples-rest.ensures.1.is, room p, p.put_tolerance-at.auto.part, (s p).well-formed.0.0)
+    omega (arith, c.put_samples-rest.ensures.1.is, room c.before.before.before.before.before.before.before, c.put_tolerance-at.auto.part, (s c.before.before.before.before.before.before.before).well_formed.0.0)
 
 pub returns : goal.returns
 returns c =
-    let p = c.before.before.before.before in
-    let a = (s p).args in
+    let a = (s c.before.before.before.before.before.before.before).args in
     let o = a.part.now in
     let m = tolerance_command a.held in
     let n = command_length m [] in (
-      written_part p.put_tolerance-at.new.part o (command_onto m []) (samples p) c.put_samples-rest.new.part p.put_tolerance-at.result p.put_tolerance-at.ensures.0 (omega (arith, n, p.put_tolerance-at.ensures.1)) c.put_samples-rest.ensures.0
+      written_part c.put_tolerance-at.new.part o (command_onto m []) (samples c.before.before.before.before.before.before.before) c.put_samples-rest.new.part c.put_tolerance-at.result c.put_tolerance-at.ensures.0 (omega (arith, n, c.put_tolerance-at.ensures.1)) c.put_samples-rest.ensures.0
           ∙ ap (λ (x : List ℕ). overwrite x o) (sym (record_parts a.held a.ticks.now a.values.now a.list.now)),
-      whole_length a.held p.put_tolerance-at.ensures.1 c.put_samples-rest.ensures.1 refl,
+      whole_length a.held c.put_tolerance-at.ensures.1 c.put_samples-rest.ensures.1 refl,
     )

@@ -37,40 +37,36 @@ module _ (c : After-sample_at-s) where
   rest = rest_of (kept_ticks s.args.ticks.now s.args.list.now) (kept_values s.args.values.now s.args.list.now) 0
 
   parts : kept_samples s.args.ticks.now s.args.values.now s.args.list.now ≡ command_onto first [] ++ rest
-  parts = kept_parts s.pre.0 c.sample_at-s.ensures
+  parts = kept_parts s.requires.0 c.sample_at-s.ensures
 
   room : 7 + length rest ≤ length s.args.part.now
-  room = omega (arith, kept_length s.pre.0, s.pre.1)
+  room = omega (arith, kept_length s.requires.0, s.requires.1)
 
 pub sample_at-s-requires : goal.sample_at-s-requires
 sample_at-s-requires c = let k = c.requires.0 in (k, list_some k)
 
 pub put_first-requires : goal.put_first-requires
 put_first-requires c =
-    let a = c.before in
-    (omega (arith, room a), short a.sample_at-s.ensures.level_is)
+    (omega (arith, room c.before.before), short c.sample_at-s.ensures.level_is)
 
 pub slice_bounds-put_steps-count : goal.slice_bounds-put_steps-count
-slice_bounds-put_steps-count c = omega (arith, room c.before.before, c.put_first.auto.part)
+slice_bounds-put_steps-count c = omega (arith, room c.before.before.before.before.before, c.put_first.auto.part)
 
 pub slice_bounds-put_steps-start : goal.slice_bounds-put_steps-start
-slice_bounds-put_steps-start c = omega (arith, room c.before.before, c.put_first.auto.part)
+slice_bounds-put_steps-start c = omega (arith, room c.before.before.before.before.before, c.put_first.auto.part)
 
 pub put_steps-rest-requires : goal.put_steps-rest-requires
 put_steps-rest-requires c =
-    let a = c.before.before in
-    ((s a).requires.0, a.sample_at-s.ensures, rw (part_length c.put_first.new.part 7) (omega (arith, room a, c.put_first.auto.part)))
+    ((s c.before.before.before.before.before.before).requires.0, c.sample_at-s.ensures, rw (part_length c.put_first.new.part 7) (omega (arith, room c.before.before.before.before.before.before, c.put_first.auto.part)))
 
 pub overflow_add-result : goal.overflow_add-result
 overflow_add-result c =
-    let a = c.before.before.before.before.before.before in
-    omega (arith, c.put_steps-rest.ensures.1.is, room a, (s a).well-formed.0.0)
+    omega (arith, c.put_steps-rest.ensures.1.is, room c.before.before.before.before.before.before.before.before.before, (s c.before.before.before.before.before.before.before.before.before).well_formed.0.0)
 
 pub returns : goal.returns
 returns c =
-    let a = c.before.before in
-    let o = (s a).args.part.now in (
-      written_part c.put_first.new.part o (command_onto (first a) []) (rest a) c.put_steps-rest.new.part 7 c.put_first.ensures (command_length (first a) []) c.put_steps-rest.ensures.0
-          ∙ ap (λ (x : List ℕ). overwrite x o) (sym (parts a)),
-      samples_length (s a).requires.0 c.put_steps-rest.ensures.1 refl,
+    let o = (s c.before.before.before.before.before.before.before.before.before).args.part.now in (
+      written_part c.put_first.new.part o (command_onto (first c.before.before.before.before.before.before.before.before.before) []) (rest c.before.before.before.before.before.before.before.before.before) c.put_steps-rest.new.part 7 c.put_first.ensures (command_length (first c.before.before.before.before.before.before.before.before.before) []) c.put_steps-rest.ensures.0
+          ∙ ap (λ (x : List ℕ). overwrite x o) (sym (parts c.before.before.before.before.before.before.before.before.before)),
+      samples_length (s c.before.before.before.before.before.before.before.before.before).requires.0 c.put_steps-rest.ensures.1 refl,
     )

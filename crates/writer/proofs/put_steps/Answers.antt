@@ -24,76 +24,69 @@ start c = c.before.before.before.before
 
 -- in a turn there is room for the step
 room : (c : goal.After-sample_at-to) → c.loop-i.at + size_of (step_from c.loop-i.s c.sample_at-to.result) ≤ length c.loop-i.part
-room c = step_room (start c.before.before).pre.0 c.loop-i.invariant.1 c.loop-i-test.true c.sample_at-to.ensures
+room c = step_room (start c.before.before).requires.0 c.loop-i.invariant.1 c.loop-i-test.true c.sample_at-to.ensures
 
 -- after the loop there is room for the end
 last-room : (c : goal.After-loop-i) → c.loop-i.at + 3 ≤ length c.loop-i.part
-last-room c = end_room (start c.before).pre.0 c.loop-i.invariant.1 c.loop-i-test.false
+last-room c = end_room (start c.before).requires.0 c.loop-i.invariant.1 c.loop-i-test.false
 
 pub loop-i-init : goal.loop-i-init
 loop-i-init c = ([], put_begins c.requires.0 c.requires.1 c.requires.2, count_begins c.requires.0 c.requires.1)
 
 pub overflow_add-i : goal.overflow_add-i
-overflow_add-i c = omega (arith, c.loop-i.invariant.1.within, list_few (start c).requires.0)
+overflow_add-i c = omega (arith, c.loop-i.invariant.1.within, list_few (start c.before).requires.0)
 
 pub overflow_add-i-in-loop-i : goal.overflow_add-i-in-loop-i
-overflow_add-i-in-loop-i c = omega (arith, c.loop-i.invariant.1.within, list_few (start c.before).pre.0)
+overflow_add-i-in-loop-i c = omega (arith, c.loop-i.invariant.1.within, list_few (start c.before.before).requires.0)
 
 pub sample_at-to-requires : goal.sample_at-to-requires
-sample_at-to-requires c = ((start c.before).pre.0, c.loop-i-test.true)
+sample_at-to-requires c = ((start c.before.before).requires.0, c.loop-i-test.true)
 
 pub slice_bounds-put_step-count : goal.slice_bounds-put_step-count
-slice_bounds-put_step-count c = omega (arith, room c)
+slice_bounds-put_step-count c = omega (arith, room c.before)
 
 pub slice_bounds-put_step-start : goal.slice_bounds-put_step-start
-slice_bounds-put_step-start c = omega (arith, room c)
+slice_bounds-put_step-start c = omega (arith, room c.before)
 
 pub put_step-at-requires : goal.put_step-at-requires
-put_step-at-requires c =
-    let a = c.before in
-    let l = a.before.before in (
-      step_between (start l).requires.0 a.loop-i-test.true l.loop-i.invariant.1.sample a.sample_at-to.ensures,
-      rw (part_length l.loop-i.part l.loop-i.at) (omega (arith, room a)),
-    )
+put_step-at-requires c = (
+  step_between (start c.before.before.before.before).requires.0 c.loop-i-test.true c.loop-i.invariant.1.sample c.sample_at-to.ensures,
+  rw (part_length c.loop-i.part c.loop-i.at) (omega (arith, room c.before.before)),
+)
 
 pub overflow_add-at : goal.overflow_add-at
 overflow_add-at c =
-    let a = c.before.before in
-    let l = a.before.before in
-    omega (arith, room a, same_long (start l).requires.0 l.loop-i.invariant.1, c.put_step-at.ensures.1, (start l).well-formed.0.0)
+    omega (arith, room c.before.before.before.before.before, same_long (start c.before.before.before.before.before.before.before).requires.0 c.loop-i.invariant.1, c.put_step-at.ensures.1, (start c.before.before.before.before.before.before.before).well_formed.0.0)
 
 pub overflow_add-i-in-loop-i-2 : goal.overflow_add-i-in-loop-i-2
 overflow_add-i-in-loop-i-2 c =
-    let l = c.before.before.before.before.before.before in
-    omega (arith, l.loop-i.invariant.1.within, list_few (start l).requires.0)
+    omega (arith, c.loop-i.invariant.1.within, list_few (start c.before.before.before.before.before.before.before).requires.0)
 
 pub loop-i-smaller : goal.loop-i-smaller
 loop-i-smaller c = omega (arith, c.loop-i-test.true)
 
 pub loop-i-preserved : goal.loop-i-preserved
-loop-i-preserved c =
-    let l = c.before.before in (
-      _,
-      puts (start l).requires.0 l.loop-i.invariant.1 c.loop-i-test.true c.sample_at-to.ensures c.put_step-at.ensures.1 c.put_step-at.ensures.0,
-      counts (start l).requires.0 l.loop-i.invariant.2 c.loop-i-test.true c.sample_at-to.ensures c.put_step-at.ensures.1 c.put_step-at.ensures.2,
-    )
+loop-i-preserved c = (
+  _,
+  puts (start c.before.before.before.before.before.before.before).requires.0 c.loop-i.invariant.1 c.loop-i-test.true c.sample_at-to.ensures c.put_step-at.ensures.1 c.put_step-at.ensures.0,
+  counts (start c.before.before.before.before.before.before.before).requires.0 c.loop-i.invariant.2 c.loop-i-test.true c.sample_at-to.ensures c.put_step-at.ensures.1 c.put_step-at.ensures.2,
+)
 
 pub slice_bounds-put_end-count : goal.slice_bounds-put_end-count
-slice_bounds-put_end-count c = omega (arith, last-room c)
+slice_bounds-put_end-count c = omega (arith, last-room c.before)
 
 pub slice_bounds-put_end-start : goal.slice_bounds-put_end-start
-slice_bounds-put_end-start c = omega (arith, last-room c)
+slice_bounds-put_end-start c = omega (arith, last-room c.before)
 
 pub put_end-requires : goal.put_end-requires
 put_end-requires c =
-    let e = c.before in
-    rw (part_length e.loop-i.part e.loop-i.at) (omega (arith, last-room e))
+    rw (part_length c.loop-i.part c.loop-i.at) (omega (arith, last-room c.before.before))
 
 pub overflow_add-result : goal.overflow_add-result
-overflow_add-result c = omega (arith, last-room c.before.before.before.before, same_long (start (l c)).pre.0 (l c).loop.invariant.1, (start (l c)).good.0.0)
+overflow_add-result c = omega (arith, last-room c.before.before.before.before.before, same_long (start (l c.before)).requires.0 (l c.before).loop.invariant.1, (start (l c.before)).good.0.0)
 
 pub shape_of-part : goal.shape_of-part
-shape_of-part c = ap length (ended c) ∙ overwrite_length (rest c) (start (l c)).args.part.now (start (l c)).pre.2
+shape_of-part c = ap length (ended c.before) ∙ overwrite_length (rest c.before) (start (l c.before)).args.part.now (start (l c.before)).requires.2
 
 pub returns : goal.returns
-returns c = (ended c, count_ends (start (l c)).pre.0 (l c).loop.invariant.2 c.loop-i-test.false)
+returns c = (ended c.before, count_ends (start (l c.before)).requires.0 (l c.before).loop.invariant.2 c.loop-i-test.false)

@@ -36,26 +36,25 @@ module _ (c : goal.Then-has_room) where
       (leb-true _ _ (and_first b _ t), omega (arith, n, m.ensures))
 
   enough : length (encode x) ≤ length start.args.buffer.now - start.args.place
-  enough = omega (arith, record_most start.pre.0 start.args.held, fits.1)
+  enough = omega (arith, record_most start.requires.0 start.args.held, fits.1)
 
 pub most_bytes-requires : goal.most_bytes-requires
 most_bytes-requires c = list_few c.requires.0
 
 pub slice_bounds-put_record-count : goal.slice_bounds-put_record-count
-slice_bounds-put_record-count c = omega (arith, (fits c).0)
+slice_bounds-put_record-count c = omega (arith, (fits c.before).0)
 
 pub slice_bounds-put_record-start : goal.slice_bounds-put_record-start
-slice_bounds-put_record-start c = omega (arith, (fits c).0)
+slice_bounds-put_record-start c = omega (arith, (fits c.before).0)
 
 pub put_record-n-requires : goal.put_record-n-requires
-put_record-n-requires c = let s = start c.before in (s.pre.0, simp part_length (omega (arith, enough c.before)))
+put_record-n-requires c = let s = start c.before.before in (s.requires.0, simp part_length (omega (arith, enough c.before.before)))
 
 pub returns-then-has_room : goal.returns-then-has_room
 returns-then-has_room c =
-    let t = c.before.before in
-    let s = start t in
+    let s = start c.before.before.before.before.before in
     let n = c.put_record-n.ensures.1 in
     let e = n.is in
-    wrote (x t) s.args.buffer.now s.args.place e
-    (selected_legal s.pre.0 s.args.held s.pre.1 (λ k. omega (arith, t.shared_slice_known-1.given k)) n.range)
-    (fits t).0 (omega (arith, e, enough t)) c.put_record-n.ensures.0
+    wrote (x c.before.before.before.before.before) s.args.buffer.now s.args.place e
+    (selected_legal s.requires.0 s.args.held s.requires.1 (λ k. omega (arith, c.shared_slice_known-1.given k)) n.range)
+    (fits c.before.before.before.before.before).0 (omega (arith, e, enough c.before.before.before.before.before)) c.put_record-n.ensures.0

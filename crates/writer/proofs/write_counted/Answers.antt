@@ -32,20 +32,18 @@ module _ (c : After-record_length-n) where
   long = c.record_length-n.ensures.is
 
   legal : Legal x
-  legal = selected_legal s.pre.0 s.args.held s.pre.1 (λ k. omega (arith, c.shared_slice_known-1.given k)) c.record_length-n.ensures.range
+  legal = selected_legal s.requires.0 s.args.held s.requires.1 (λ k. omega (arith, c.shared_slice_known-1.given k)) c.record_length-n.ensures.range
 
 pub returns-then-buffer-place : goal.returns-then-buffer-place
-returns-then-buffer-place c = let a = c.before in record { rows = no_room (x a) (s a).args.buffer.now (s a).args.place (long a) (omega (arith, c.if-buffer-place.true, long a, record_long (x a))); content = refl }
+returns-then-buffer-place c = record { rows = no_room (x c.before.before) (s c.before.before).args.buffer.now (s c.before.before).args.place (long c.before.before) (omega (arith, c.if-buffer-place.true, long c.before.before, record_long (x c.before.before))); content = refl }
 
 pub returns-then-buffer-place-2 : goal.returns-then-buffer-place-2
-returns-then-buffer-place-2 c = let a = c.before.before in record { rows = no_room (x a) (s a).args.buffer.now (s a).args.place (long a) c.if-buffer-place-2.true; content = refl }
+returns-then-buffer-place-2 c = record { rows = no_room (x c.before.before.before) (s c.before.before.before).args.buffer.now (s c.before.before.before).args.place (long c.before.before.before) c.if-buffer-place-2.true; content = refl }
 
 pub put_record-requires : goal.put_record-requires
 put_record-requires c =
-    let a = c.before.before.before in
-    ((s a).requires.0, simp part_length (omega (arith, long a, c.if-buffer-place-2.false)))
+    ((s c.before.before.before.before).requires.0, simp part_length (omega (arith, long c.before.before.before.before, c.if-buffer-place-2.false)))
 
 pub returns : goal.returns
 returns c =
-    let a = c.before.before in
-    wrote (x a) (s a).args.buffer.now (s a).args.place (long a) (legal a) c.if-buffer-place.false c.if-buffer-place-2.false c.put_record.ensures.0
+    wrote (x c.before.before.before.before.before.before.before) (s c.before.before.before.before.before.before.before).args.buffer.now (s c.before.before.before.before.before.before.before).args.place (long c.before.before.before.before.before.before.before) (legal c.before.before.before.before.before.before.before) c.if-buffer-place.false c.if-buffer-place-2.false c.put_record.ensures.0

@@ -18,10 +18,10 @@ pub loop-i-init : goal.loop-i-init
 loop-i-init c = filling_none _ _ c.args.out.now refl (omega (arith, c.requires))
 
 pub overflow_cast-out : goal.overflow_cast-out
-overflow_cast-out c = omega (arith, stop c, c.requires.0.few)
+overflow_cast-out c = omega (arith, stop c.before, c.requires.0.few)
 
 pub loop-i-smaller : goal.loop-i-smaller
-loop-i-smaller c = omega (arith, stop c, c.loop-i-test.true)
+loop-i-smaller c = omega (arith, stop c.before, c.loop-i-test.true)
 
 pub loop-i-preserved : goal.loop-i-preserved
 loop-i-preserved c = filling_more c.loop-i.invariant (obeying_stops c.args.ticks.now _) c.loop-i-test.true c.links_end-i.ensures

@@ -8,10 +8,10 @@ use Rattle.format.specs.Number.{number_from, field}
 use Rattle.commands.proofs.numbers.field.Given as goal
 
 pub record Going (s : List ℕ) (i k n j : ℕ) : Type 0 where
-  low : i ≤ j
-  high : j ≤ i + k
-  number : number_from n (slice j (i + k) s) ≡ field s i k
-  below : n < 256 ^ (j - i)
+  pub low : i ≤ j
+  pub high : j ≤ i + k
+  pub number : number_from n (slice j (i + k) s) ≡ field s i k
+  pub below : n < 256 ^ (j - i)
 
 abbrev pub invariant-loop-j : goal.invariant-loop-j
 invariant-loop-j l = Going l.s l.i l.k l.n l.j

@@ -21,7 +21,7 @@ module _ (c : goal.Else-kind-ne69) where
   s = c.before.before.before.before
 
   ended : step_of s.args.bytes.now s.args.c ≡ end_step (length s.args.bytes.now) s.args.c (field s.args.bytes.now (s.args.c.at + 1) 2)
-  ended = end_here s.args.bytes.now s.args.c c.if-kind-ne69.false (omega (arith, c.if-n-at-lt3.false, s.pre.0))
+  ended = end_here s.args.bytes.now s.args.c c.if-kind-ne69.false (omega (arith, c.if-n-at-lt3.false, s.requires.0))
 
 pub returns-then-n-at-lt3 : goal.returns-then-n-at-lt3
 returns-then-n-at-lt3 c =
@@ -35,12 +35,12 @@ returns-then-kind-ne69 c =
 
 pub returns-then-samples-c : goal.returns-then-samples-c
 unfolding end_step
-returns-then-samples-c c = rw (ended c.before.before, ← c.field-samples.ensures.0, ne_eqb _ _ c.if-samples-c.true)
+returns-then-samples-c c = rw (ended c.before.before.before, ← c.field-samples.ensures.0, ne_eqb _ _ c.if-samples-c.true)
 
 pub returns-then-at-n : goal.returns-then-at-n
 unfolding end_step
-returns-then-at-n c = rw (ended c.before.before.before, ← c.field-samples.ensures.0, eq-eqb _ _ c.if-samples-c.false, ne_eqb _ _ c.if-at-n.true)
+returns-then-at-n c = rw (ended c.before.before.before.before, ← c.field-samples.ensures.0, eq-eqb _ _ c.if-samples-c.false, ne_eqb _ _ c.if-at-n.true)
 
 pub returns : goal.returns
 unfolding end_step
-returns c = rw (ended c.before.before.before, ← c.field-samples.ensures.0, eq-eqb _ _ c.if-samples-c.false, eq-eqb _ _ c.if-at-n.false)
+returns c = rw (ended c.before.before.before.before, ← c.field-samples.ensures.0, eq-eqb _ _ c.if-samples-c.false, eq-eqb _ _ c.if-at-n.false)

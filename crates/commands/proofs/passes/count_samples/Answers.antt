@@ -26,7 +26,7 @@ pub next_sample-c-requires : goal.next_sample-c-requires
 next_sample-c-requires c = (c.loop-x.invariant.2.ready, sym c.is_step.ensures ∙ c.if-not-is_step.false)
 
 pub loop-x-smaller : goal.loop-x-smaller
-loop-x-smaller c = falls c.loop-x.invariant.2 (by c.before) c.next_sample-c.ensures
+loop-x-smaller c = falls c.loop-x.invariant.2 (by c.before.before.before.before.before) c.next_sample-c.ensures
 
 pub loop-x-preserved : goal.loop-x-preserved
-loop-x-preserved c = (_, _, goes_on_lem c.loop-x.invariant.2 (by c.before) c.next_sample-c.ensures)
+loop-x-preserved c = (_, _, goes_on_lem c.loop-x.invariant.2 (by c.before.before.before.before.before) c.next_sample-c.ensures)

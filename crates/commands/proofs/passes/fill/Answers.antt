@@ -40,19 +40,19 @@ pub put_sample-requires : goal.put_sample-requires
 put_sample-requires c = entry c.loop-c.invariant.2
 
 pub shape_of-ticks-then-n-c : goal.shape_of-ticks-then-n-c
-shape_of-ticks-then-n-c c = (lengths c.before).0
+shape_of-ticks-then-n-c c = (lengths c.before.before).0
 
 pub shape_of-values-then-n-c : goal.shape_of-values-then-n-c
-shape_of-values-then-n-c c = (lengths c.before).1
+shape_of-values-then-n-c c = (lengths c.before.before).1
 
 pub returns-then-n-c : goal.returns-then-n-c
-returns-then-n-c c = let s = c.before in filled (head s).loop.invariant.2 (put s).put-sample.ensures.0 (put s).put-sample.ensures.1 (by s) c.if-n-c.true
+returns-then-n-c c = filled (head c.before.before).loop.invariant.2 (put c.before.before).put-sample.ensures.0 (put c.before.before).put-sample.ensures.1 (by c.before.before) c.if-n-c.true
 
 pub next_sample-c-requires : goal.next_sample-c-requires
-next_sample-c-requires c = let f = (head c.before).loop.inv.2 in (f.passed.ready, more_follow f c.if-n-c.false)
+next_sample-c-requires c = let f = (head c.before.before).loop.inv.2 in (f.passed.ready, more_follow f c.if-n-c.false)
 
 pub loop-c-smaller : goal.loop-c-smaller
-loop-c-smaller c = let s = c.before.before in falls (head s).loop.invariant.2.passed (by s) c.next_sample-c.ensures
+loop-c-smaller c = falls (head c.before.before.before).loop.invariant.2.passed (by c.before.before.before) c.next_sample-c.ensures
 
 pub loop-c-preserved : goal.loop-c-preserved
-loop-c-preserved c = let s = c.before.before in (_, _, fills (head s).loop.invariant.2 (put s).put-sample.ensures.0 (put s).put-sample.ensures.1 (by s) c.next_sample-c.ensures)
+loop-c-preserved c = (_, _, fills (head c.before.before.before).loop.invariant.2 (put c.before.before.before).put-sample.ensures.0 (put c.before.before.before).put-sample.ensures.1 (by c.before.before.before) c.next_sample-c.ensures)

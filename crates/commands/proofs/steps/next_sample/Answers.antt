@@ -24,34 +24,32 @@ module _ (c : goal.Else-kind-eq83) where
   s = c.before.before.before
 
   long : (get_or s.args.bytes.now s.args.c.at 0 ≡ 0x4C) × (s.args.c.at + 6 ≤ length s.args.bytes.now)
-  long = long_kind s.args.bytes.now s.args.c s.pre.1 c.if-kind-eq83.false
+  long = long_kind s.args.bytes.now s.args.c s.requires.1 c.if-kind-eq83.false
 
 pub bounds-bytes-at : goal.bounds-bytes-at
-bounds-bytes-at c = omega (arith, three c.before.before)
+bounds-bytes-at c = omega (arith, three c.before.before.before)
 
 pub field-requires : goal.field-requires
-field-requires c = let e = three c.before.before.before in omega arith
+field-requires c = let e = three c.before.before.before.before in omega arith
 
 pub field-requires-then-kind-eq83 : goal.field-requires-then-kind-eq83
-field-requires-then-kind-eq83 c = let e = three c.before.before.before.before.before in omega arith
+field-requires-then-kind-eq83 c = let e = three c.before.before.before.before.before.before in omega arith
 
 pub overflow_sub-result : goal.overflow_sub-result
 overflow_sub-result c =
-    let s = c.before.before.before.before in
-    omega (arith, (short_known s.args.bytes.now s.args.c c.if-kind-eq83.true (three s) s.requires.1).0, c.field.ensures.0, c.flip8-change.ensures)
+    omega (arith, (short_known c.args.bytes.now c.args.c c.if-kind-eq83.true (three c.before.before.before.before.before.before.before.before.before) c.requires.1).0, c.field.ensures.0, c.flip8-change.ensures)
 
 pub returns-then-kind-eq83 : goal.returns-then-kind-eq83
 returns-then-kind-eq83 c =
-    let s = c.before.before.before.before in
-    rw (c.flip8-change.ensures, c.field.ensures.0, c.field-then-kind-eq83.ensures.0) (short_known s.args.bytes.now s.args.c c.if-kind-eq83.true (three s) s.requires.1).1
+    rw (c.flip8-change.ensures, c.field.ensures.0, c.field-then-kind-eq83.ensures.0) (short_known c.args.bytes.now c.args.c c.if-kind-eq83.true (three c.before.before.before.before.before.before.before.before.before.before) c.requires.1).1
 
 pub field-requires-2 : goal.field-requires-2
-field-requires-2 c = let e = (long c).1 in omega arith
+field-requires-2 c = let e = (long c.before).1 in omega arith
 
 pub field-requires-3 : goal.field-requires-3
-field-requires-3 c = let e = (long c.before.before).1 in omega arith
+field-requires-3 c = let e = (long c.before.before.before).1 in omega arith
 
 pub returns : goal.returns
 returns c =
-    let k = long c.before in
+    let k = long c.before.before.before.before.before.before in
     rw (c.flip16.ensures, c.field-3.ensures.0, c.field-2.ensures.0) (long_known c.args.bytes.now c.args.c k.0 k.1 c.requires.1)

@@ -20,13 +20,13 @@ ready c =
 
 pub gallop-requires : goal.gallop-requires
 gallop-requires c =
-    let r = ready c.before.before in
+    let r = ready c.before.before.before in
     (r.ready.trace, r.ready.bounded, r.room_is)
 
 pub returns-in-At : goal.returns-in-At
 returns-in-At c =
     let g = c.gallop.ensures in
-    gallop_kept (ready c.before.before.before.before.before) g.wrote g.probes
+    gallop_kept (ready c.before.before.before.before.before.before) g.wrote g.probes
 
 pub returns-in-Refused : goal.returns-in-Refused
 returns-in-Refused c =

@@ -21,11 +21,11 @@ passed c = sym c.check-checked.ensures ∙ c.in-Fine.is
 pub least-requires : goal.least-requires
 least-requires c =
     let a = c.args in
-    least_task a.ticks.now a.values.now a.gap a.m (length a.out.now) (passed c.before)
+    least_task a.ticks.now a.values.now a.gap a.m (length a.out.now) (passed c.before.before)
 
 pub returns-in-Fine : goal.returns-in-Fine
 returns-in-Fine c =
-    least_kept (passed c.before.before) c.least.ensures.0 c.least.ensures.1.0 c.least.ensures.1.1
+    least_kept (passed c.before.before.before.before.before) c.least.ensures.0 c.least.ensures.1.0 c.least.ensures.1.1
 
 pub returns-in-Refused : goal.returns-in-Refused
 returns-in-Refused c = (sym c.check-checked.ensures ∙ c.in-Refused.is, refl)

@@ -20,11 +20,11 @@ ready c =
 
 pub minimum-requires : goal.minimum-requires
 minimum-requires c =
-    let r = ready c.before.before in
+    let r = ready c.before.before.before in
     (r.ready.trace, r.ready.bounded, r.room_is)
 
 pub returns-in-At : goal.returns-in-At
-returns-in-At c = minimum_kept (ready c.before.before.before.before.before) c.minimum.ensures
+returns-in-At c = minimum_kept (ready c.before.before.before.before.before.before) c.minimum.ensures
 
 pub returns-in-Refused : goal.returns-in-Refused
 returns-in-Refused c =

@@ -22,12 +22,11 @@ ready : (c : In-Fine) → let a = c.args in
 ready c = c.prepare-ready.ensures.ready (rows c)
 
 pub scan-kept-requires : goal.scan-kept-requires
-scan-kept-requires c = scan_given _ (ready c.before.before.before)
+scan-kept-requires c = scan_given _ (ready c.before.before.before.before)
 
 pub returns-in-Fine : goal.returns-in-Fine
 returns-in-Fine c =
-    let k = c.before.before.before.before in
-    scan_kept _ (ready k) (rows k) c.scan-kept.ensures
+    scan_kept _ (ready c.before.before.before.before.before.before.before.before) (rows c.before.before.before.before.before.before.before.before) c.scan-kept.ensures
 
 pub returns-in-Refused : goal.returns-in-Refused
 returns-in-Refused c = (sym c.prepare-ready.ensures.is ∙ c.in-Refused.is, zeros 16, refl)

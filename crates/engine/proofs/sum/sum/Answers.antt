@@ -24,14 +24,14 @@ passed : (c : In-Fine) → sum_rows (start c).args.ticks1.now (start c).args.val
 passed c = sym c.check-checked.ensures ∙ c.in-Fine.is
 
 pub add-requires : goal.add-requires
-add-requires c = (rows_addable _ _ _ _ _ _ _ _ (passed c.before)).summable
+add-requires c = (rows_addable _ _ _ _ _ _ _ _ (passed c.before.before)).summable
 
 pub join-requires : goal.join-requires
-join-requires c = (rows_addable _ _ _ _ _ _ _ _ (passed c.before.before.before.before)).joinable
+join-requires c = (rows_addable _ _ _ _ _ _ _ _ (passed c.before.before.before.before.before)).joinable
 
 pub returns-in-Fine : goal.returns-in-Fine
 returns-in-Fine c =
-    sum_outcome _ _ _ _ _ _ _ _ (passed c.before.before) c.add.ensures c.join.ensures
+    sum_outcome _ _ _ _ _ _ _ _ (passed c.before.before.before.before.before.before.before.before) c.add.ensures c.join.ensures
 
 pub returns-in-Refused : goal.returns-in-Refused
 returns-in-Refused c = (sym c.check-checked.ensures ∙ c.in-Refused.is, refl, refl)

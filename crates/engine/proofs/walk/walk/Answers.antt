@@ -20,11 +20,11 @@ ready c =
 
 pub walk-requires : goal.walk-requires
 walk-requires c =
-    let r = ready c.before.before in
+    let r = ready c.before.before.before in
     (r.ready.trace, r.ready.bounded, r.room_is)
 
 pub returns-in-At : goal.returns-in-At
-returns-in-At c = walk_kept (ready c.before.before.before.before.before) c.walk.ensures
+returns-in-At c = walk_kept (ready c.before.before.before.before.before.before) c.walk.ensures
 
 pub returns-in-Refused : goal.returns-in-Refused
 returns-in-Refused c =

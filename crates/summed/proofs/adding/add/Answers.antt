@@ -28,7 +28,7 @@ pub bounds-values2-k : goal.bounds-values2-k
 bounds-values2-k c = omega (arith, c.loop-k-test.true, c.requires.same)
 
 pub overflow_add-sums : goal.overflow_add-sums
-overflow_add-sums c = short_fits {v = value1 c} {w = value2 c} (record { sfits = c.sums-1.given }) (record { sfits = c.sums-in-loop-k-1.given }) (in_sum c)
+overflow_add-sums c = short_fits {v = value1 c.before} {w = value2 c.before} (record { sfits = c.sums-1.given }) (record { sfits = c.sums-in-loop-k-1.given }) (in_sum c.before)
 
 pub bounds-sums-k : goal.bounds-sums-k
 bounds-sums-k c = omega (arith, c.loop-k-test.true, c.loop-k.invariant.same, c.requires.entries)
@@ -37,7 +37,7 @@ pub loop-k-preserved : goal.loop-k-preserved
 loop-k-preserved c =
     let n = sums_length c.args.values1.now c.args.values2.now c.requires.same in
     writing_more c.loop-k.invariant (pos 0) (omega (arith, n, c.loop-k-test.true)) (omega (arith, n, c.requires.entries))
-    (short_is {v = value1 c} {w = value2 c} (record { sfits = c.sums-1.given }) (record { sfits = c.sums-in-loop-k-1.given }) (in_sum c) ∙ sym (sums_value c.args.values1.now c.args.values2.now c.requires.same c.loop-k.k))
+    (short_is {v = value1 c.before} {w = value2 c.before} (record { sfits = c.sums-1.given }) (record { sfits = c.sums-in-loop-k-1.given }) (in_sum c.before) ∙ sym (sums_value c.args.values1.now c.args.values2.now c.requires.same c.loop-k.k))
 
 pub shape_of-sums : goal.shape_of-sums
 shape_of-sums c = c.loop-k.invariant.same

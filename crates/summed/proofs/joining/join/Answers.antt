@@ -26,31 +26,31 @@ pub loop-next-init : goal.loop-next-init
 loop-next-init c = joining_none _ _ _ _
 
 pub offset_bounds-list1-i : goal.offset_bounds-list1-i
-offset_bounds-list1-i c = omega (arith, (few c).0)
+offset_bounds-list1-i c = omega (arith, (few c.before).0)
 
 pub bounds-list1-i : goal.bounds-list1-i
-bounds-list1-i c = (inside c.before).0
+bounds-list1-i c = (inside c.before.before).0
 
 pub offset_bounds-list2-j : goal.offset_bounds-list2-j
-offset_bounds-list2-j c = omega (arith, (few c.before).1)
+offset_bounds-list2-j c = omega (arith, (few c.before.before).1)
 
 pub bounds-list2-j : goal.bounds-list2-j
-bounds-list2-j c = (inside c.before.before).1
+bounds-list2-j c = (inside c.before.before.before).1
 
 pub offset_bounds-joined-count : goal.offset_bounds-joined-count
-offset_bounds-joined-count c = omega (arith, (few c.before.before.before).2)
+offset_bounds-joined-count c = omega (arith, (few c.before.before.before.before).2)
 
 pub bounds-joined-count : goal.bounds-joined-count
-bounds-joined-count c = (inside c.before.before.before).2
+bounds-joined-count c = (inside c.before.before.before.before).2
 
 pub past-i-requires : goal.past-i-requires
-past-i-requires c = (few c.before.before.before).0
+past-i-requires c = (few c.before.before.before.before).0
 
 pub past-j-requires : goal.past-j-requires
-past-j-requires c = (few c.before.before.before.before).1
+past-j-requires c = (few c.before.before.before.before.before).1
 
 pub overflow_add-count : goal.overflow_add-count
-overflow_add-count c = omega (arith, (few c.before.before.before.before.before).2)
+overflow_add-count c = omega (arith, (few c.before.before.before.before.before.before).2)
 
 pub loop-next-smaller : goal.loop-next-smaller
 loop-next-smaller c =

@@ -8,10 +8,10 @@ use Rattle.format.specs.Number.{bytes_onto}
 use Rattle.writer.proofs.commands.put_number.Given as goal
 
 pub record Going (o : List ℕ) (k n : ℕ) (part : List ℕ) (m j : ℕ) (w : List ℕ) : Type 0 where
-  within : j ≤ k
-  bytes : bytes_onto k n [] ≡ bytes_onto j m w
-  part_is : part ≡ take j o ++ (w ++ drop k o)
-  w-long : j + length w ≡ k
+  pub within : j ≤ k
+  pub bytes : bytes_onto k n [] ≡ bytes_onto j m w
+  pub part_is : part ≡ take j o ++ (w ++ drop k o)
+  pub w-long : j + length w ≡ k
 
 abbrev pub invariant-loop-j : goal.invariant-loop-j
 invariant-loop-j l = (w : List ℕ) × Going l.initial.part l.k l.n l.part l.m l.j w

@@ -43,31 +43,27 @@ is_long : (c : Else-is_short) → short (start c.before).args.a.level ((start c.
 is_long c = sym c.is_short.ensures ∙ c.if-is_short.false
 
 pub overflow_sub-to : goal.overflow_sub-to
-overflow_sub-to c = omega (arith, bounds c.before)
+overflow_sub-to c = omega (arith, bounds c.before.before)
 
 pub flip8-requires : goal.flip8-requires
-flip8-requires c = omega (arith, bounds c.before)
+flip8-requires c = omega (arith, bounds c.before.before)
 
 pub put_operands-requires : goal.put_operands-requires
 put_operands-requires c =
-    let t = c.before.before in
-    let w : 3 ≤ length (start t.before).args.part.now = rw (is_short t) at (start t.before).requires.1 in
+    let w : 3 ≤ length (start c.before.before.before.before).args.part.now = rw (is_short c.before.before.before) at (start c.before.before.before.before).requires.1 in
     (omega arith, omega arith, omega arith)
 
 pub returns-then-is_short : goal.returns-then-is_short
 returns-then-is_short c =
-    let t = c.before.before in
-    let a = (s t).args in
-    (rw (is_short t) (operand_is a.part.now 0x53 1 (a.b.tick - a.a.tick) 1 c.flip8.ensures c.put_operands.ensures), rw (is_short t), omega arith)
+    let a = (s c.before.before.before.before.before.before).args in
+    (rw (is_short c.before.before.before.before.before.before) (operand_is a.part.now 0x53 1 (a.b.tick - a.a.tick) 1 c.flip8.ensures c.put_operands.ensures), rw (is_short c.before.before.before.before.before.before), omega arith)
 
 pub put_operands-requires-2 : goal.put_operands-requires-2
 put_operands-requires-2 c =
-    let t = c.before.before in
-    let w : 6 ≤ length (start t.before).args.part.now = rw (is_long t) at (start t.before).requires.1 in
+    let w : 6 ≤ length (start c.before.before.before.before).args.part.now = rw (is_long c.before.before.before) at (start c.before.before.before.before).requires.1 in
     (omega arith, omega arith, omega arith)
 
 pub returns : goal.returns
 returns c =
-    let t = c.before.before in
-    let a = (start t.before).args in
-    (rw (is_long t) (operand_is a.part.now 0x4C 3 (a.b.tick - a.a.tick) 2 c.flip16.ensures c.put_operands-2.ensures), rw (is_long t), omega arith)
+    let a = (start c.before.before.before.before.before.before.before).args in
+    (rw (is_long c.before.before.before.before.before.before) (operand_is a.part.now 0x4C 3 (a.b.tick - a.a.tick) 2 c.flip16.ensures c.put_operands-2.ensures), rw (is_long c.before.before.before.before.before.before), omega arith)

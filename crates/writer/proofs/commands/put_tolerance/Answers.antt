@@ -25,19 +25,16 @@ two c = sides_command _ (sym c.agree.ensures ∙ c.if-agree.false)
 
 pub put_operands-requires : goal.put_operands-requires
 put_operands-requires c =
-    let t = c.before.before in
-    let w : 9 ≤ length t.args.part.now = rw (one t) at t.requires in
+    let w : 9 ≤ length c.args.part.now = rw (one c.before.before.before) at c.requires in
     (omega arith, omega arith, omega arith)
 
 pub returns-then-agree : goal.returns-then-agree
 returns-then-agree c =
-    let t = c.before.before.before in
-    (rw (one t) c.put_operands.ensures, rw (one t))
+    (rw (one c.before.before.before.before.before.before) c.put_operands.ensures, rw (one c.before.before.before.before.before.before))
 
 pub put_sides-requires : goal.put_sides-requires
-put_sides-requires c = let e = c.before in rw (two e) at e.requires
+put_sides-requires c = rw (two c.before.before) at c.requires
 
 pub returns : goal.returns
 returns c =
-    let e = c.before.before in
-    (rw (two e) c.put_sides.ensures, rw (two e))
+    (rw (two c.before.before.before.before.before) c.put_sides.ensures, rw (two c.before.before.before.before.before))
