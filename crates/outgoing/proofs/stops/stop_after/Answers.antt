@@ -13,10 +13,11 @@ reaches-requires c =
 
 pub returns-then-not-reaches : goal.returns-then-not-reaches
 returns-then-not-reaches c =
-    let pre = c.requires in (
-      walked_invalid c.loop-at.invariant pre.3 c.loop-at-test.true (c.if-not-reaches.true) c.reaches.ensures,
-      walked_bounds c.loop-at.invariant pre.3,
-    )
+    let pre = c.requires in
+    record {
+      stop = walked_invalid c.loop-at.invariant pre.3 c.loop-at-test.true c.if-not-reaches.true c.reaches.ensures;
+      bounds = walked_bounds c.loop-at.invariant pre.3;
+    }
 
 pub taken-links-requires : goal.taken-links-requires
 taken-links-requires c =
@@ -25,9 +26,12 @@ taken-links-requires c =
 
 pub loop-at-preserved : goal.loop-at-preserved
 loop-at-preserved c =
-    walked_valid c.loop-at.invariant c.requires.3 c.loop-at-test.true (c.if-not-reaches.false) c.reaches.ensures c.taken-links.ensures
+    walked_valid c.loop-at.invariant c.requires.3 c.loop-at-test.true c.if-not-reaches.false c.reaches.ensures c.taken-links.ensures
 
 pub returns : goal.returns
 returns c =
     let pre = c.requires in
-    (walked_last c.loop-at.invariant pre.3 c.loop-at-test.false, walked_bounds c.loop-at.invariant pre.3)
+    record {
+      stop = walked_last c.loop-at.invariant pre.3 c.loop-at-test.false;
+      bounds = walked_bounds c.loop-at.invariant pre.3;
+    }
