@@ -6,9 +6,6 @@ use Rattle.format.specs.Number.{Bytes}
 use Rattle.commands.proofs.PassLaws.{begins, falls, goes_on_lem, closes}
 use Rattle.commands.proofs.passes.count_samples.Goals as goal
 
-by : (c : goal.After-shared_slice_known-1) → Bytes c.args.bytes.now
-by c = record { byte = λ i. (c.shared_slice_known-1.given i).fits }
-
 pub loop-x-init : goal.loop-x-init
 loop-x-init c = (_, _, begins c.requires)
 
@@ -26,7 +23,7 @@ pub next_sample-c-requires : goal.next_sample-c-requires
 next_sample-c-requires c = (c.loop-x.invariant.2.ready, sym c.is_step.ensures ∙ c.if-not-is_step.false)
 
 pub loop-x-smaller : goal.loop-x-smaller
-loop-x-smaller c = falls c.loop-x.invariant.2 (by c.before.before.before.before.before) c.next_sample-c.ensures
+loop-x-smaller c = falls c.loop-x.invariant.2 (record { byte = λ i. (c.type_inv.bytes i).fits }) c.next_sample-c.ensures
 
 pub loop-x-preserved : goal.loop-x-preserved
-loop-x-preserved c = (_, _, goes_on_lem c.loop-x.invariant.2 (by c.before.before.before.before.before) c.next_sample-c.ensures)
+loop-x-preserved c = (_, _, goes_on_lem c.loop-x.invariant.2 (record { byte = λ i. (c.type_inv.bytes i).fits }) c.next_sample-c.ensures)
