@@ -12,9 +12,9 @@ walked-requires c =
 pub returns-in-Fine : goal.returns-in-Fine
 returns-in-Fine c =
     let a = c.args in
-    (channel_fine a.c a.ticks.now a.values.now (sym c.check-checked.ensures ∙ c.in-Fine.is) c.walked.ensures.0, c.walked.ensures.1)
+    (channel_fine a.c a.ticks.now a.values.now (sym c.check-checked.ensures ∙ c.in-Fine.is) c.walked.ensures.is, c.walked.ensures.bounds)
 
 pub returns-in-Refused : goal.returns-in-Refused
 returns-in-Refused c =
     let a = c.args in
-    (channel_refused a.c a.ticks.now a.values.now (sym c.check-checked.ensures ∙ c.in-Refused.is) c.declined.ensures.0, c.declined.ensures.1)
+    (channel_refused a.c a.ticks.now a.values.now (sym c.check-checked.ensures ∙ c.in-Refused.is) c.declined.ensures.is, c.declined.ensures.bounds)

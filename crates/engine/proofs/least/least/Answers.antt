@@ -25,7 +25,7 @@ least-requires c =
 
 pub returns-in-Fine : goal.returns-in-Fine
 returns-in-Fine c =
-    least_kept (passed c.before.before.before.before.before) c.least.ensures.0 c.least.ensures.1.0 c.least.ensures.1.1
+    least_kept (passed c.before.before.before.before.before) c.least.ensures.error c.least.ensures.allowed.0 c.least.ensures.allowed.1
 
 pub returns-in-Refused : goal.returns-in-Refused
 returns-in-Refused c = (sym c.check-checked.ensures ∙ c.in-Refused.is, refl)
