@@ -34,4 +34,4 @@ pub returns : goal.returns
 returns c =
     let link = c.requires in
     let m = c.loop-k.invariant in
-    (straying_all link m c.loop-k-test.false, straying_allowed link m)
+    record { is = straying_all link m c.loop-k-test.false; allowed = straying_allowed link m }
