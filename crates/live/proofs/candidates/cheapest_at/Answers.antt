@@ -22,4 +22,4 @@ returns c =
     let l = c.loop-i in
     let a = c.args in
     let best = best_last (deviation_at a.ticks.now a.values.now (with_last a.ticks.now a.samples.now a.count)) l.i a.count l.invariant.2 (omega arith) (omega arith) in
-    (best.0 ∙ cheapest_cost c.requires.0, best.1)
+    record { is = best.0 ∙ cheapest_cost c.requires.0; inner = best.1 }
