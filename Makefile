@@ -29,7 +29,10 @@ ifneq ($(filter install install-cli install-python uninstall,$(MAKECMDGOALS)),)
 $(CHECK_PLACES)
 endif
 
-# Runs rt in this folder, with this word. Prints a line for each crate once it is proved; where rt fails, all that it has said.
+# What the archive and the program run on: every x86-64.
+PROCESSOR = --cpu x86-64
+
+# Runs rt in this folder, with these words. Prints a line for each crate once it is proved; where rt fails, all that it has said.
 RT = log=$$(mktemp); trap 'rm -f "$$log" "$$log.status"' EXIT; \
 { (cd $(1) && exec rt $(2)) </dev/null 2>&1; echo $$? >"$$log.status"; } | tee "$$log" | \
 sed -un -e '/^rt: chose\|^rt: running/d' -e '/^rt:/p' -e 's/^crate \([^:]*\):.*/rt: \1 proved/;T end' -e h -e ':end' \
@@ -46,13 +49,13 @@ EVIDENCE = $(CARGO) run $(CARGO_FLAGS) --release --package kovrelna-evidence --
 lib: $(ARCHIVE)
 
 $(ARCHIVE): $(SOURCES)
-	@$(call RT,crates/kovrelna,lib)
+	@$(call RT,crates/kovrelna,lib $(PROCESSOR))
 	@mkdir -p $(@D)
 	@cp crates/kovrelna/out/libkovrelna.a $@
 
 # Proves and builds the program, and runs it once on no input.
 $(REDUCE): $(SOURCES)
-	@$(call RT,crates/reduce,run)
+	@$(call RT,crates/reduce,run $(PROCESSOR))
 	@mkdir -p $(@D)
 	@cp crates/reduce/out/reduce $@
 
@@ -109,13 +112,14 @@ evidence: lib
 example: $(REDUCE)
 	@$(REDUCE) <examples/wave.record
 
-# Prove everything, try the edits that must fail, each of which the prover must refuse, and run every test, two at a time once
-# what they test is built: the program by rt ci, the archive after it. The last line is rt ci's.
+# Prove everything, try the edits that must fail, of which none may be bad, and run every test, two at a time once what they
+# test is built. The last line is rt ci's.
 test:
 	@$(call RT,.,ci); \
 	if ! grep -q '^rt: ok' "$$log" || grep -q '^rt: ok.*, [0-9]* bad' "$$log"; then cat "$$log"; exit 1; fi; \
-	rm -f $(ARCHIVE); mkdir -p $(dir $(REDUCE)) && cp crates/reduce/out/reduce $(REDUCE) && tail -n 1 "$$log" >target/verdict
-	@$(MAKE) --no-print-directory --silent $(SHARED)
+	mkdir -p target && tail -n 1 "$$log" >target/verdict
+	@rm -f $(ARCHIVE) $(REDUCE)
+	@$(MAKE) --no-print-directory --silent $(SHARED) $(REDUCE)
 	@$(MAKE) --no-print-directory --jobs=2 --output-sync=target test-rust test-c test-memory test-install test-python
 	@cat target/verdict
 
