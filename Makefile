@@ -123,9 +123,10 @@ test:
 	@$(MAKE) --no-print-directory --jobs=2 --output-sync=target test-rust test-c test-memory test-install test-python
 	@cat target/verdict
 
-# The Rust tests, which run the program reduce too, and the example, which prints what the C example prints.
+# The Rust tests, which run the program reduce too, and the example, which prints what the C example prints. What the tests have
+# written is removed: rt ci refuses the links among it.
 test-rust: $(ARCHIVE) $(REDUCE)
-	@$(CARGO) test $(CARGO_FLAGS) --release --workspace --lib --tests
+	@$(CARGO) test $(CARGO_FLAGS) --release --workspace --lib --tests; status=$$?; rm -rf bindings/rust/target/tmp; exit $$status
 	@$(CARGO) test $(CARGO_FLAGS) --release --workspace --doc
 	@$(EVIDENCE) $(GATE_EVIDENCE)
 	@$(CARGO) run $(CARGO_FLAGS) --release --package kovrelna --example reduce | diff bindings/c/example.txt -
