@@ -16,7 +16,6 @@ use lib.Seq.{drop-drop, drop-length}
 use Rattle.lists.proofs.Tests.{and_first, and_second}
 use Rattle.tolerance.specs.declared.Parts.{Parts}
 use Rattle.tolerance.specs.Meaning.{HeldParts}
-use Rattle.trace.specs.Level.{level}
 use Rattle.format.specs.Number.{Bytes, value_of}
 use Rattle.format.specs.Command.{choose, command_of, command_onto}
 use Rattle.format.specs.Format.{Content, Legal, Accepted, in_limits, short, follows, moved, short_obeys, long_obeys, short_step, long_step, end_step, obey, step_of, Samples, fault, samples, onto, follow, steps, header_of, Parsed, faulty, says, attach, began, parse, tolerance_command, step_to, steps_onto, samples_onto, encode}

@@ -14,7 +14,6 @@ use lib.IntN.{ℤ}
 use lib.ListN.{length, get_or, set, drop, replicate, length-drop, length-set, length-replicate, get_or-replicate, get_or-eq_default}
 use lib.Seq.{length-take-le}
 use Rattle.trace.specs.declared.Criterion.{Criterion}
-use Rattle.trace.specs.Trace.{tick}
 use Rattle.trace.specs.Link.{hole}
 use Rattle.trace.proofs.Holes.{hole_test}
 use Rattle.trace.proofs.Ticks.{not_earlier}

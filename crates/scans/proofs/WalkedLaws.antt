@@ -20,7 +20,7 @@ use Rattle.kept.specs.Walk.{walk_of, walk_start}
 use Rattle.kept.proofs.WalkLaws.{walk_closes, walk_start_valid, walk_open_valid, walk_start_invalid, walk_open_invalid, walk_start_before, walk_link, walk_start_first, walk_open_first}
 use Rattle.trace.specs.declared.Criterion.{Criterion}
 use Rattle.trace.specs.declared.Start.{Start}
-use Rattle.trace.specs.Trace.{tick, value, Trace}
+use Rattle.trace.specs.Trace.{value, Trace}
 use Rattle.trace.specs.Link.{Bounded, hole, obeys, valid, links_end}
 use Rattle.trace.specs.Edge.{StartAt, EdgeTo, AimTo}
 use Rattle.trace.proofs.Ticks.{not_earlier, span_bound}

@@ -13,7 +13,6 @@ use Rattle.kept.proofs.KeptLaws.{kept_length, kept_inside}
 use Rattle.kept.proofs.SelectedLists.{kept_some}
 use Rattle.trace.specs.declared.Start.{Start}
 use Rattle.trace.specs.Trace.{tick, value, Trace}
-use Rattle.trace.specs.Level.{level}
 use Rattle.trace.specs.Edge.{StartAt}
 use Rattle.trace.proofs.Ticks.{span_bound}
 use Rattle.trace.proofs.SelectedTrace.{selected_trace}

@@ -1,6 +1,5 @@
 -- `channels::adds_up` meets its contract. Assumes nothing.
 use mathlib.Core.Path.{refl}
-use Prim.Native.Nat.{◌-◌}
 use Rattle.channels.proofs.ChannelLaws.{adding_none, adding_more, adding_over, adding_all}
 use Rattle.channels.proofs.adds_up.Goals as goal
 

@@ -1,6 +1,5 @@
 -- `codes::expand` meets its contract. The loop's invariant: the values of the first i and of the last i codes are written,
 -- and nothing behind them. Assumes nothing.
-use Prim.Native.Nat.{◌-◌}
 use native.Mathlib.Omega.{arith}
 use Rattle.codes.proofs.expand.Invariants.{starts, puts, ends, next, met}
 use Rattle.codes.proofs.expand.Goals as goal

@@ -1,7 +1,6 @@
 -- `greedy::judge_greedy` meets its contract. Assumes nothing.
-use mathlib.Core.Path.{subst, ap, ◌∙◌}
+use mathlib.Core.Path.{ap, ◌∙◌}
 use Rattle.trace.specs.declared.Criterion.{Criterion}
-use Rattle.limits.specs.Prepare.{Prepared, ReadyAt}
 use Rattle.greedy.specs.Greedy.{greedy_at}
 use Rattle.greedy.proofs.GreedyLaws.{common_fine, common_refused, greedy_outcome}
 use Rattle.greedy.proofs.judge_greedy.Goals as goal

@@ -4,7 +4,7 @@ use Prim.Native.Nat.{ℕ, ◌+◌, ◌<◌}
 use native.Mathlib.Omega.{arith}
 use Rattle.trace.specs.Link.{links_end}
 use Rattle.trace.proofs.Validity.{step_valid}
-use Rattle.outgoing.specs.Outgoing.{TakenIn, Next}
+use Rattle.outgoing.specs.Outgoing.{TakenIn}
 use Rattle.outgoing.proofs.OutgoingLaws.{next_at, taken_at, valid_at}
 use Rattle.greedy.proofs.GreedyLaws.{test_at_limit, test_invalid, test_valid, end_ready, next_ready}
 use Rattle.greedy.proofs.test.Goals as goal

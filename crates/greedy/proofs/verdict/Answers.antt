@@ -1,16 +1,13 @@
 -- `greedy::verdict` meets its contract. The loop's invariant: no link before position k is at fault, and `limit` is where links from that position's sample
 -- end, if it lies beyond. Assumes nothing.
-use mathlib.Core.Path.{◌≡◌, ◌∙◌}
-use Prim.Native.Nat.{suc, ◌-◌}
+use mathlib.Core.Path.{◌∙◌}
 use native.Mathlib.Numerals.{add-one}
 use native.Mathlib.Omega.{arith}
 use borrow.Author.Tests.{not-true, not-false}
 use Rattle.lists.proofs.FirstLaws.{searching_none}
-use Rattle.trace.specs.Link.{Linked}
 use Rattle.trace.proofs.Holes.{end_same}
 use Rattle.proposed.specs.Proposed.{entry}
 use Rattle.proposed.proofs.ProposedLaws.{kept_link}
-use Rattle.greedy.specs.Greedy.{test_of}
 use Rattle.greedy.proofs.GreedyLaws.{found_none, found_link, found_stop, sound_more}
 use Rattle.greedy.proofs.verdict.Goals as goal
 

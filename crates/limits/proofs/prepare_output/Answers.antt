@@ -1,6 +1,5 @@
 -- `limits::prepare_output` meets its contract. Assumes nothing.
-use mathlib.Core.Path.{refl, subst}
-use Rattle.limits.specs.Prepare.{Prepared, ReadyAt}
+use mathlib.Core.Path.{refl}
 use Rattle.limits.proofs.PrepareLaws.{room_refused, room_fine, output_refused}
 use Rattle.limits.proofs.prepare_output.Goals as goal
 

@@ -1,5 +1,4 @@
 -- `links::all_within` meets its contract: the loop has passed every sample before k, and one that fails is one outside. Assumes nothing.
-use Prim.Native.Nat.{◌-◌}
 use mathlib.Core.Path.{◌≡◌, sym, ◌∙◌}
 use native.Mathlib.Omega.{arith}
 use borrow.Author.Rules.{rules}

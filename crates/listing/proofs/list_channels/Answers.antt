@@ -1,5 +1,4 @@
 -- `listing::list_channels` meets its contract: the loop has the lists of the channels before c. Assumes nothing.
-use Prim.Native.Nat.{◌-◌}
 use native.Mathlib.Nat.{lt_of_le_of_lt}
 use native.Mathlib.Omega.{arith}
 use Rattle.listing.proofs.ListingLaws.{listing_none, listing_lengths, listing_fits, listing_rooms, listing_more, listing_all}

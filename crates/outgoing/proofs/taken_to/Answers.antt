@@ -1,5 +1,4 @@
 -- `outgoing::taken_to` meets its contract. The loop's invariant: every sample before k has been taken in. Assumes nothing.
-use Prim.Native.Nat.{◌-◌}
 use mathlib.Core.Path.{◌≡◌}
 use native.Mathlib.Omega.{arith}
 use Rattle.outgoing.proofs.OutgoingLaws.{next_at, taken_at}

@@ -1,8 +1,6 @@
 -- `pedestals::compare` meets its contract. Assumes nothing.
-use mathlib.Core.Path.{refl, subst}
-use lib.ListN.{length}
+use mathlib.Core.Path.{refl}
 use Rattle.pedestals.specs.Compare.{run_of}
-use Rattle.pedestals.specs.Checking.{Passed, Readied}
 use Rattle.pedestals.proofs.ListLaws.{passed_ready, both_listed}
 use Rattle.pedestals.proofs.compare.Goals as goal
 

@@ -1,5 +1,4 @@
 -- `probing::bisect` meets its contract. The loop's invariant: the bisection from here on is the whole bisection. Assumes nothing.
-use Prim.Native.Nat.{◌-◌}
 use native.Mathlib.Omega.{arith}
 use Rattle.kept.proofs.SearchLaws.{bisecting_none, bisecting_ends}
 use Rattle.probing.proofs.ProbingLaws.{probes_at, narrowing_yes, narrowing_no}

@@ -1,5 +1,4 @@
 -- `probing::double` meets its contract. The loop's invariant: the doubling from here on is the whole doubling. Assumes nothing.
-use Prim.Native.Nat.{◌-◌}
 use native.Mathlib.Omega.{arith}
 use Rattle.probing.proofs.ProbingLaws.{probes_at, raising_none, raising_more, raising_ends}
 use Rattle.probing.proofs.double.Goals as goal

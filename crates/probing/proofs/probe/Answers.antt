@@ -1,7 +1,5 @@
 -- `probing::probe` meets its contract: each way out is a law of the probe. Assumes nothing.
-use Prim.Native.Nat.{◌+◌}
 use native.Mathlib.Omega.{arith}
-use Rattle.outgoing.specs.Outgoing.{Next}
 use Rattle.probing.proofs.ProbingLaws.{inside, probes_later, probes_next, far_next, probed_past, probed_fails, probed_invalid, probed_yes}
 use Rattle.probing.proofs.probe.Goals as goal
 

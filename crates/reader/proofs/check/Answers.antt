@@ -1,6 +1,5 @@
 -- `reader::check` meets its contract: the header and the count of samples are the record's verdict. Assumes nothing.
 use mathlib.Core.Path.{sym, ◌∙◌, ap}
-use Rattle.format.specs.Number.{Bytes}
 use Rattle.commands.specs.Passing.{record_verdict}
 use Rattle.reader.proofs.ReadingLaws.{parse_start, parse_fault, header_after_first, verdict}
 use Rattle.reader.proofs.check.Goals as goal

@@ -1,6 +1,5 @@
 -- `reader::check_both` meets its contract: each verdict is the record's. Assumes nothing.
-use mathlib.Core.Path.{sym, subst}
-use Rattle.reader.specs.Reading.{Said, CheckOutcome}
+use mathlib.Core.Path.{sym}
 use Rattle.reader.proofs.ReadingLaws.{both_fine, first_fault, second_fault}
 use Rattle.reader.proofs.check_both.Goals as goal
 

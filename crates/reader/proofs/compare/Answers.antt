@@ -1,8 +1,5 @@
 -- `reader::compare` meets its contract: where no row applies, both records are accepted. Assumes nothing.
-use mathlib.Core.Path.{◌≡◌, sym, ◌∙◌}
-use Rattle.refusal.specs.declared.Checked.TheVariants.{Fine}
-use Rattle.format.specs.Number.{Bytes}
-use Rattle.reader.specs.Reading.{same_rows}
+use mathlib.Core.Path.{sym, ◌∙◌}
 use Rattle.reader.proofs.ReadingLaws.{same_yes, same_no}
 use Rattle.reader.proofs.compare.Goals as goal
 

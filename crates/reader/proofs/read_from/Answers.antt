@@ -1,9 +1,8 @@
 -- `reader::read_from` meets its contract: what the count says of the record is its outcome. Assumes nothing.
 use mathlib.Core.Path.{refl, sym, ◌∙◌, ap, subst}
 use borrow.Author.Tests.{le-leb, lt-leb}
-use Rattle.format.specs.Number.{Bytes}
 use Rattle.commands.specs.Passing.{record_verdict}
-use Rattle.reader.specs.Reading.{Said, CheckOutcome}
+use Rattle.reader.specs.Reading.{CheckOutcome}
 use Rattle.reader.proofs.ReadingLaws.{parse_start, header_after_first, verdict, no_room, room, read_back, read_fault}
 use Rattle.reader.proofs.read_from.Goals as goal
 

@@ -1,7 +1,5 @@
 -- `reporting::allowed_sheet` meets its contract. Assumes nothing.
-use mathlib.Core.Path.{subst}
 use Rattle.channels.proofs.ChannelLaws.{crate_divided}
-use Rattle.limits.specs.Prepare.{Sets, Allowed}
 use Rattle.reporting.proofs.ReportLaws.{sheet_refused, limits_refused, room_refused, sheet_counted}
 use Rattle.reporting.proofs.allowed_sheet.Goals as goal
 

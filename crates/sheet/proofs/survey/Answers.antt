@@ -1,6 +1,5 @@
 -- `sheet::survey` meets its contract: the loop has the rows and the totals of the channels before i. Assumes nothing.
 use mathlib.Core.Path.{refl}
-use Prim.Native.Nat.{◌-◌}
 use native.Mathlib.Nat.{lt_of_le_of_lt}
 use native.Mathlib.Omega.{arith}
 use Rattle.sheet.proofs.ReportLaws.{surveying_none, surveying_ticks, surveying_values, surveying_few, surveying_more, surveying_all}

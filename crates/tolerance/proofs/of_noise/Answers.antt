@@ -1,15 +1,13 @@
 -- `tolerance::of_noise` meets its contract. The noise is a / 64 and the multiple b / 8, so their product is a b / 512, which is a float, and 512 times it is a b. Assumes nothing.
-use Rattle.std.proofs.Common.{◌≡◌, ℕ, ◌*◌, ◌≤◌, true, sym, refl, ap, ◌∙◌, mul-le-mul, mul-pos, arith, lit<, lit≤}
+use Rattle.std.proofs.Common.{◌≡◌, ℕ, ◌*◌, ◌≤◌, sym, refl, ap, ◌∙◌, mul-le-mul, mul-pos, arith, lit<, lit≤}
 use lib.Ieee.{Float, binary64, mul, of_bits}
 use lib.Ieee.Positive.{num, den, den_pos}
 use Rattle.ratio.specs.Gcd.{lowest}
 use Rattle.ratio.proofs.Laws.{lowest_same}
-use Rattle.tolerance.specs.declared.Noise as N
-use Rattle.tolerance.specs.Meaning.{in_steps, alike}
+use Rattle.tolerance.specs.Meaning.{alike}
 use Rattle.tolerance.specs.declared.Meaning.TheVariants.{Exact}
 use Rattle.tolerance.proofs.Values.{Is, product, mul_is, above, below, whole_part, read_whole, read_other}
 use Rattle.tolerance.proofs.of_noise.Goals as goal
-
 
 -- 512.0, by its bits as MIR has it
 abbrev scale : Float

@@ -1,6 +1,5 @@
 -- `tolerance::of_parts` meets its contract: each answer is what `heldEach` picks where the tests are as its way found them. Assumes nothing.
-use Rattle.std.proofs.Common.{◌≡◌, true, sym, ◌∙◌}
-use Rattle.tolerance.specs.Meaning.{allowed_ratio}
+use Rattle.std.proofs.Common.{sym, ◌∙◌}
 use Rattle.tolerance.proofs.Meanings.{allowed_pos}
 use Rattle.tolerance.proofs.of_parts.Goals as goal
 

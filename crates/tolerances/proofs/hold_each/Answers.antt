@@ -1,6 +1,5 @@
 -- `tolerances::hold_each` meets its contract. Assumes nothing.
 use mathlib.Core.Path.{refl, sym, ◌∙◌}
-use Prim.Native.Nat.{◌-◌}
 use native.Mathlib.Omega.{arith}
 use Rattle.tolerances.proofs.TolerancesLaws.{holding_none, holding_more, holding_all, holding_bad}
 use Rattle.tolerances.proofs.hold_each.Goals as goal

@@ -1,12 +1,10 @@
 -- `writer::put_steps` meets its contract: at each turn the steps up to a kept sample, w, are written over the part. Assumes nothing.
 use mathlib.Core.Path.{ap, ◌∙◌}
 use mathlib.Core.List.{[]}
-use Prim.Native.Nat.{◌+◌, ◌-◌, ◌≤◌}
 use native.Mathlib.Omega.{arith}
 use lib.ListN.{length}
 use Rattle.lists.proofs.OverwriteLaws.{overwrite_length}
 use Rattle.lists.proofs.PartLaws.{part_length}
-use Rattle.format.specs.Command.{size_of}
 use Rattle.writer.specs.Writing.{rest_of, kept_ticks, kept_values}
 use Rattle.writer.proofs.SelectedLaws.{list_few, step_between}
 use Rattle.writer.proofs.WritingLaws.{count_begins, counts, count_ends, put_begins, put_ends, same_long, step_room, puts, end_room}

@@ -1,5 +1,4 @@
 -- `writer::samples_length` meets its contract: at each turn the bytes of the steps up to a kept sample are counted. Assumes nothing.
-use Prim.Native.Nat.{◌-◌}
 use native.Mathlib.Omega.{arith}
 use Rattle.writer.proofs.SelectedLaws.{list_some, list_few, step_between}
 use Rattle.writer.proofs.WritingLaws.{samples_length, count_begins, counts, count_ends}

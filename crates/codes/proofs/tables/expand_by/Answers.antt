@@ -1,6 +1,6 @@
 -- `codes::tables::expand_by` meets its contract. The loop's invariant: the values of the codes passed are written over the
 -- list. Assumes nothing.
-use Prim.Native.Nat.{ℕ, ◌-◌}
+use Prim.Native.Nat.{ℕ}
 use mathlib.Core.Path.{◌≡◌, sym, ◌∙◌}
 use mathlib.Core.List.{List}
 use native.Mathlib.Omega.{arith}

@@ -1,11 +1,9 @@
 -- `codes::tables::first_not_rising` meets its contract: it searches only where there is something to find. Assumes nothing.
-use Prim.Native.Nat.{◌-◌}
 use mathlib.Core.Path.{sym, ap, ◌∙◌}
 use mathlib.Core.Bool.{not}
 use native.Mathlib.Omega.{arith}
 use borrow.Author.Rules.{rules}
 use Rattle.lists.proofs.FirstLaws.{first_none, searching_none, searching_more, searched_at, searched_none}
-use Rattle.codes.specs.RangeTable.{not_rising}
 use Rattle.codes.proofs.tables.first_not_rising.Goals as goal
 
 pub returns-then-not-some_not_rising : goal.returns-then-not-some_not_rising

@@ -1,5 +1,4 @@
 -- `codes::tables::some_not_rising` meets its contract. Assumes nothing.
-use Prim.Native.Nat.{◌-◌}
 use native.Mathlib.Omega.{arith}
 use Rattle.lists.proofs.FirstLaws.{passing_none, passing_more, passed}
 use Rattle.codes.proofs.tables.some_not_rising.Goals as goal

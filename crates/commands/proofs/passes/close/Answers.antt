@@ -1,11 +1,7 @@
 -- `commands::passes::close` meets its contract. Assumes nothing.
-use mathlib.Core.Path.{◌≡◌}
-use Prim.Native.Nat.{◌+◌}
 use native.Mathlib.Omega.{arith}
-use lib.ListN.{length}
 use borrow.Author.Tests.{eq-eqb, ne_eqb}
-use Rattle.format.specs.Number.{field}
-use Rattle.format.specs.Format.{step_of, end_step}
+use Rattle.format.specs.Format.{end_step}
 use Rattle.commands.proofs.CommandsAt.{cut, other, no_end, end_here}
 use Rattle.commands.proofs.passes.close.Goals as goal
 

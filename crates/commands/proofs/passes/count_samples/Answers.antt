@@ -1,8 +1,6 @@
 -- `commands::passes::count_samples` meets its contract: at each turn the samples passed, with those to come, are the whole.
 -- Assumes nothing.
 use mathlib.Core.Path.{sym, ◌∙◌}
-use Prim.Native.Nat.{◌-◌}
-use Rattle.format.specs.Number.{Bytes}
 use Rattle.commands.proofs.PassLaws.{begins, falls, goes_on_lem, closes}
 use Rattle.commands.proofs.passes.count_samples.Goals as goal
 

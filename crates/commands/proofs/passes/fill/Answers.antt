@@ -1,9 +1,5 @@
 -- `commands::passes::fill` meets its contract: at each turn the samples passed are written over the lists, and with those to come they are the
 -- whole. Assumes nothing.
-use mathlib.Core.Path.{◌≡◌}
-use Prim.Native.Nat.{◌-◌}
-use lib.ListN.{length}
-use Rattle.format.specs.Number.{Bytes}
 use Rattle.commands.proofs.PassLaws.{copying_begins, falls, entry, stored_lengths, fills, filled, more_follow}
 use Rattle.commands.proofs.passes.fill.Goals as goal
 

@@ -1,9 +1,6 @@
 -- `commands::steps::next_sample` meets its contract: of a step that is known to lead to a sample, the first byte says which it is.
 -- Assumes nothing.
-use mathlib.Core.Path.{◌≡◌}
-use Prim.Native.Nat.{◌+◌, ◌≤◌}
 use native.Mathlib.Omega.{arith}
-use lib.ListN.{length, get_or}
 use Rattle.commands.proofs.CommandsAt.{enough, long_kind, short_known, long_known}
 use Rattle.commands.proofs.steps.next_sample.Goals as goal
 

@@ -1,7 +1,5 @@
 -- `engine::gallop::gallop` meets its contract. Assumes nothing.
-use mathlib.Core.Path.{refl, subst}
-use lib.ListN.{length}
-use Rattle.limits.specs.Prepare.{OutputPrepared, OutputReady}
+use mathlib.Core.Path.{refl}
 use Rattle.engine.proofs.ReduceLaws.{gallop_kept}
 use Rattle.engine.proofs.gallop.gallop.Goals as goal
 

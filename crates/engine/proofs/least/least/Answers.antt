@@ -1,8 +1,6 @@
 -- `engine::least::least` meets its contract. Assumes nothing.
-use mathlib.Core.Path.{◌≡◌, refl, sym, ◌∙◌}
+use mathlib.Core.Path.{refl, sym, ◌∙◌}
 use lib.ListN.{length}
-use Rattle.refusal.specs.declared.Checked.TheVariants.{Fine}
-use Rattle.allowance.specs.Rows.{least_rows}
 use Rattle.allowance.proofs.RowLaws.{least_task}
 use Rattle.engine.proofs.LeastLaws.{least_kept}
 use Rattle.engine.proofs.least.least.Goals as goal

@@ -1,7 +1,5 @@
 -- `engine::minimum::minimum` meets its contract. Assumes nothing.
-use mathlib.Core.Path.{refl, subst}
-use lib.ListN.{length}
-use Rattle.limits.specs.Prepare.{OutputPrepared, OutputReady}
+use mathlib.Core.Path.{refl}
 use Rattle.engine.proofs.ReduceLaws.{minimum_kept}
 use Rattle.engine.proofs.minimum.minimum.Goals as goal
 

@@ -1,8 +1,5 @@
 -- `engine::sum::sum` meets its contract. Assumes nothing.
-use mathlib.Core.Path.{◌≡◌, refl, sym, ◌∙◌}
-use lib.ListN.{length}
-use Rattle.refusal.specs.declared.Checked.TheVariants.{Fine}
-use Rattle.summed.specs.Sum.{sum_rows}
+use mathlib.Core.Path.{refl, sym, ◌∙◌}
 use Rattle.summed.proofs.RowLaws.{rows_addable}
 use Rattle.engine.proofs.SumLaws.{sum_outcome}
 use Rattle.engine.proofs.sum.sum.Goals as goal

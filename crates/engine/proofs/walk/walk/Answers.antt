@@ -1,7 +1,5 @@
 -- `engine::walk::walk` meets its contract. Assumes nothing.
-use mathlib.Core.Path.{refl, subst}
-use lib.ListN.{length}
-use Rattle.limits.specs.Prepare.{OutputPrepared, OutputReady}
+use mathlib.Core.Path.{refl}
 use Rattle.engine.proofs.ReduceLaws.{walk_kept}
 use Rattle.engine.proofs.walk.walk.Goals as goal
 

@@ -1,7 +1,6 @@
 -- `judging::judge::judge` meets its contract. Assumes nothing.
-use mathlib.Core.Path.{subst, ap, ◌∙◌}
+use mathlib.Core.Path.{ap, ◌∙◌}
 use Rattle.trace.specs.declared.Criterion.{Criterion}
-use Rattle.limits.specs.Prepare.{Prepared, ReadyAt}
 use Rattle.judging.specs.Judge.{judged_at}
 use Rattle.judging.proofs.JudgeLaws.{common_fine, judge_refused, judge_outcome}
 use Rattle.judging.proofs.judge.judge.Goals as goal

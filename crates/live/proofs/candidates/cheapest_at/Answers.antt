@@ -1,6 +1,5 @@
 -- `live::candidates::cheapest_at` meets its contract. Assumes nothing.
 use mathlib.Core.Path.{sym, ◌∙◌}
-use Prim.Native.Nat.{◌-◌}
 use native.Mathlib.Omega.{arith}
 use Rattle.live.specs.Candidates.{with_last, deviation_at}
 use Rattle.live.proofs.CandidateLaws.{best_first, best_next, best_last, cheapest_cost}

@@ -1,8 +1,7 @@
 -- `live::states::shifted` meets its contract. Assumes nothing.
 use mathlib.Core.Path.{refl}
-use Prim.Native.Nat.{◌+◌, ◌-◌, ◌≤◌}
+use Prim.Native.Nat.{◌+◌}
 use native.Mathlib.Omega.{arith}
-use lib.ListN.{length}
 use Rattle.live.proofs.Full.{full}
 use Rattle.live.proofs.StateLaws.{shift_none, shift_more, shift_all}
 use Rattle.live.proofs.states.shifted.Goals as goal

@@ -1,5 +1,4 @@
 -- `outgoing::stops::stop_after` meets its contract. The loop's invariant: `at` is reached by valid links. Assumes nothing.
-use Prim.Native.Nat.{◌-◌}
 use Rattle.outgoing.proofs.StopLaws.{walked_first, walked_next, walked_valid, walked_invalid, walked_last, walked_bounds}
 use Rattle.outgoing.proofs.stops.stop_after.Goals as goal
 

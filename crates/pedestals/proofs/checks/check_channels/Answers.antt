@@ -1,5 +1,4 @@
 -- `pedestals::checks::check_channels` meets its contract: the loop has passed the channels before c. Assumes nothing.
-use Prim.Native.Nat.{◌-◌}
 use native.Mathlib.Nat.{lt_of_le_of_lt}
 use native.Mathlib.Omega.{arith}
 use Rattle.pedestals.proofs.CheckLaws.{checking_none, checking_fits, checking_stop, checking_more, checking_all}

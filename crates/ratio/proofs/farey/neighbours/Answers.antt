@@ -1,6 +1,5 @@
 -- `ratio::farey::neighbours` meets its contract: the loop has a bracket of p/q, and each step adds to its denominators. Assumes nothing.
 use mathlib.Core.Path.{sym, ◌∙◌}
-use Prim.Native.Nat.{◌-◌}
 use borrow.Author.Tests.{leb-true, leb-false}
 use Rattle.ratio.proofs.FareyLaws.{surrounds, moved_begun, moved_narrower}
 use Rattle.ratio.proofs.farey.neighbours.Goals as goal

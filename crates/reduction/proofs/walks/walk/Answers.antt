@@ -1,5 +1,4 @@
 -- `reduction::walks::walk` meets its contract. The loop's invariant: the list so far and the stops to come are walk's list; sample i is not the last, and `limit` is where links from it end. Assumes nothing.
-use Prim.Native.Nat.{◌-◌}
 use native.Mathlib.Omega.{arith}
 use Rattle.kept.proofs.Filling.{filling_none, filling_more, walk_bounds, walk_filled}
 use Rattle.trace.proofs.Holes.{end_same}

@@ -1,6 +1,5 @@
 -- `scans::passes::close` meets its contract. Assumes nothing.
 use mathlib.Core.Path.{refl}
-use Prim.Native.Nat.{◌-◌}
 use native.Mathlib.Nat.{mul-le-mul_right}
 use native.Mathlib.Omega.{arith}
 use Rattle.scans.proofs.PassLaws.{part_few, zeros, close_first, close_place, close_next, close_done}

@@ -1,6 +1,5 @@
 -- `scans::passes::part_starts` meets its contract. Assumes nothing.
 use mathlib.Core.Path.{refl}
-use Prim.Native.Nat.{◌-◌}
 use native.Mathlib.Nat.{mul-le-mul_right}
 use native.Mathlib.Omega.{arith}
 use Rattle.scans.proofs.PassLaws.{part_few, starts_next, starts_done}

@@ -1,7 +1,6 @@
 -- `scans::passes::scan` meets its contract. The loop's invariant: of each tolerance, what is held is walk's with the samples up to `at` taken in.
 -- Assumes nothing.
 use mathlib.Core.Path.{refl}
-use Prim.Native.Nat.{◌-◌}
 use native.Mathlib.Omega.{arith}
 use Rattle.scans.proofs.PassLaws.{scan_first, scan_order, sampling, scan_next, closing, scan_closed}
 use Rattle.scans.proofs.passes.scan.Goals as goal

@@ -1,6 +1,5 @@
 -- `scans::passes::take_in` meets its contract: each turn leaves the other entries alone. Assumes nothing.
 use native.Mathlib.Omega.{arith}
-use Rattle.scans.specs.Scan.{criterion_at}
 use Rattle.scans.proofs.PassLaws.{loop_first, loop_next, loop_done, loop_own, turning_at}
 use Rattle.scans.proofs.passes.take_in.Goals as goal
 

@@ -1,5 +1,4 @@
 -- `trace::gaps::first_hole` meets its contract: under the largest limit there is no hole; otherwise the loop has found none before k. Assumes nothing.
-use Prim.Native.Nat.{◌-◌}
 use mathlib.Core.Path.{sym, ◌∙◌}
 use native.Mathlib.Omega.{arith}
 use Rattle.lists.proofs.FirstLaws.{clear_join, first_none, first_skip, searching_none}

@@ -1,5 +1,4 @@
 -- `trace::gaps::search_hole` meets its contract: the loop has found none before k. Assumes nothing.
-use Prim.Native.Nat.{◌-◌}
 use mathlib.Core.Path.{sym, ◌∙◌}
 use native.Mathlib.Omega.{arith}
 use Rattle.lists.proofs.FirstLaws.{searching_none, searching_more, searched_at, searched_none}

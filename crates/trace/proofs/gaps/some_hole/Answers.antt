@@ -1,7 +1,6 @@
 -- `trace::gaps::some_hole` meets its contract: while `some` is false there is no hole before k. Assumes nothing.
 use mathlib.Core.Path.{ap}
 use mathlib.Core.Bool.{not}
-use Prim.Native.Nat.{◌-◌}
 use native.Mathlib.Omega.{arith}
 use Rattle.lists.proofs.FirstLaws.{passing_none, passing_more, passed}
 use Rattle.trace.proofs.gaps.some_hole.Goals as goal

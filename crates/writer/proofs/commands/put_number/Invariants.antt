@@ -1,6 +1,6 @@
 -- `writer::commands::put_number` meets its contract. The loop's invariant: the low bytes are written, as w, and the j bytes above them are those of m.
 -- Assumes nothing.
-use Prim.Native.Nat.{ℕ, ◌+◌, ◌-◌, ◌≤◌}
+use Prim.Native.Nat.{ℕ, ◌+◌, ◌≤◌}
 use mathlib.Core.Path.{◌≡◌}
 use mathlib.Core.List.{List, [], ◌++◌}
 use lib.ListN.{length, take, drop}

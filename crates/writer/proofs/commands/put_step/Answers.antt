@@ -1,10 +1,8 @@
 -- `writer::commands::put_step` meets its contract. Assumes nothing.
-use mathlib.Core.Path.{◌≡◌, sym, ◌∙◌}
-use mathlib.Core.Bool.{true, false}
-use Prim.Native.Nat.{◌+◌, ◌-◌, ◌≤◌}
+use mathlib.Core.Path.{sym, ◌∙◌}
+use Prim.Native.Nat.{◌-◌, ◌≤◌}
 use native.Mathlib.Omega.{arith}
 use lib.ListN.{length}
-use Rattle.format.specs.Format.{short}
 use Rattle.format.proofs.RuleLaws.{short_le}
 use Rattle.writer.proofs.WritingLaws.{operand_is}
 use Rattle.writer.proofs.commands.put_step.Goals as goal

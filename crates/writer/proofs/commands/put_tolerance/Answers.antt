@@ -1,10 +1,8 @@
 -- `writer::commands::put_tolerance` meets its contract: each way writes the command that says its parts. Assumes nothing.
-use mathlib.Core.Path.{◌≡◌, sym, ◌∙◌}
+use mathlib.Core.Path.{sym, ◌∙◌}
 use Prim.Native.Nat.{◌≤◌}
 use native.Mathlib.Omega.{arith}
 use lib.ListN.{length}
-use Rattle.format.specs.declared.Command.TheVariants.{Tolerance, Sides}
-use Rattle.format.specs.Format.{tolerance_command}
 use Rattle.format.proofs.HeaderLaws.{agree_command, sides_command}
 use Rattle.writer.proofs.commands.put_tolerance.Goals as goal
 
