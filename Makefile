@@ -1,7 +1,7 @@
 # Kovrelna: build, install and test. Needs the Rattle toolchain (rt) and a C compiler; the command-line tool, evidence and the
 # tests also need cargo, the tests pkg-config and Python.
 VERSION = 0.1.0
-SOURCES := crates.txt $(shell find crates -name '*.rt' -o -name '*.antt')
+SOURCES := crates.txt $(shell find crates -path 'crates/*/out' -prune -o \( -name '*.rt' -o -name '*.antt' \) -print)
 ARCHIVE = target/staticlib/libkovrelna.a
 REDUCE = target/bin/reduce
 SONAME = libkovrelna.so.$(firstword $(subst ., ,$(VERSION)))
@@ -29,10 +29,15 @@ ifneq ($(filter install install-cli install-python uninstall,$(MAKECMDGOALS)),)
 $(CHECK_PLACES)
 endif
 
-# Runs rt with these words. Prints a line for each crate once it is proved; where rt fails, all that it has said.
+# What the archive and the program run on: every x86-64.
+PROCESSOR = --cpu x86-64
+
+# Runs rt in this folder, with these words. Prints a line for each crate once it is proved; where rt fails, all that it has said.
 RT = log=$$(mktemp); trap 'rm -f "$$log" "$$log.status"' EXIT; \
-{ rt $(1) 2>&1; echo $$? >"$$log.status"; } | tee "$$log" | sed -un '/^rt:/p'; \
-if [ "$$(cat "$$log.status")" -ne 0 ]; then cat "$$log"; exit 1; fi
+{ (cd $(1) && exec rt $(2)) </dev/null 2>&1; echo $$? >"$$log.status"; } | tee "$$log" | \
+sed -un -e '/^rt: chose\|^rt: running/d' -e '/^rt:/p' -e 's/^crate \([^:]*\):.*/rt: \1 proved/;T end' -e h -e ':end' \
+-e '/^logic=proved/{x;/./p;s/.*//;x;}'; \
+if [ "$$(cat "$$log.status")" != 0 ]; then cat "$$log"; exit 1; fi
 
 # The gate's run of evidence: about 6 seconds.
 GATE_EVIDENCE = --cases 30000 --seed 1
@@ -44,22 +49,25 @@ EVIDENCE = $(CARGO) run $(CARGO_FLAGS) --release --package kovrelna-evidence --
 lib: $(ARCHIVE)
 
 $(ARCHIVE): $(SOURCES)
-	@$(call RT,staticlib kovrelna)
-	@touch $@
+	@$(call RT,crates/kovrelna,lib $(PROCESSOR))
+	@mkdir -p $(@D)
+	@cp crates/kovrelna/out/libkovrelna.a $@
 
+# Proves and builds the program, and runs it once on no input.
 $(REDUCE): $(SOURCES)
-	@$(call RT,check reduce)
-	@touch $@
+	@$(call RT,crates/reduce,run $(PROCESSOR))
+	@mkdir -p $(@D)
+	@cp crates/reduce/out/reduce $@
 
-# The shared library, from the archive.
+# The shared library, from the archive, with copies under its other names: rt ci refuses links in the checkout.
 shared: $(SHARED)
 
 $(SHARED): $(ARCHIVE) bindings/c/kovrelna.map Makefile
 	@mkdir -p target/shared
 	@$(CC) -shared -Wl,-soname,$(SONAME) -Wl,--version-script=bindings/c/kovrelna.map -Wl,-z,defs,-z,now \
 	-Wl,--whole-archive $(ARCHIVE) -Wl,--no-whole-archive -o $@
-	@ln -sf $(notdir $@) target/shared/$(SONAME)
-	@ln -sf $(SONAME) target/shared/libkovrelna.so
+	@cp $@ target/shared/$(SONAME)
+	@cp $@ target/shared/libkovrelna.so
 
 # Header, both libraries and the pkg-config file, below DESTDIR where that is given.
 install: $(SHARED)
@@ -104,18 +112,21 @@ evidence: lib
 example: $(REDUCE)
 	@$(REDUCE) <examples/wave.record
 
-# Prove everything from nothing, try the edits that must fail, and run every test, two at a time once what they test is built.
-# The last line is rt ci's.
+# Prove everything, try the edits that must fail, of which none may be bad, and run every test, two at a time once what they
+# test is built. The last line is rt ci's.
 test:
-	@rt fmt --check
-	@$(call RT,ci); tail -n 1 "$$log" >target/verdict
+	@$(call RT,.,ci); \
+	if ! grep -q '^rt: ok' "$$log" || grep -q '^rt: ok.*, [0-9]* bad' "$$log"; then cat "$$log"; exit 1; fi; \
+	mkdir -p target && tail -n 1 "$$log" >target/verdict
+	@rm -f $(ARCHIVE) $(REDUCE)
 	@$(MAKE) --no-print-directory --silent $(SHARED) $(REDUCE)
 	@$(MAKE) --no-print-directory --jobs=2 --output-sync=target test-rust test-c test-memory test-install test-python
 	@cat target/verdict
 
-# The Rust tests, which run the program reduce too, and the example, which prints what the C example prints.
+# The Rust tests, which run the program reduce too, and the example, which prints what the C example prints. What the tests have
+# written is removed: rt ci refuses the links among it.
 test-rust: $(ARCHIVE) $(REDUCE)
-	@$(CARGO) test $(CARGO_FLAGS) --release --workspace --lib --tests
+	@$(CARGO) test $(CARGO_FLAGS) --release --workspace --lib --tests; status=$$?; rm -rf bindings/rust/target/tmp; exit $$status
 	@$(CARGO) test $(CARGO_FLAGS) --release --workspace --doc
 	@$(EVIDENCE) $(GATE_EVIDENCE)
 	@$(CARGO) run $(CARGO_FLAGS) --release --package kovrelna --example reduce | diff bindings/c/example.txt -

@@ -1,5 +1,5 @@
 //! The program `reduce` as a user runs it: bytes through a pipe, and all that it prints compared with
-//! what the slow reference says of them. `rt check reduce` builds it.
+//! what the slow reference says of them. `make target/bin/reduce` builds it.
 
 use kovrelna_reference::generate::{
     any_parts, content, exceptional, near_parts, squeezed, trace, Random, KINDS,
@@ -29,7 +29,7 @@ fn start(stdin: Stdio) -> Child {
         .stdout(Stdio::piped())
         .stderr(Stdio::piped())
         .spawn()
-        .unwrap_or_else(|error| panic!("{PROGRAM}: {error}. Build it with `rt check reduce`"))
+        .unwrap_or_else(|error| panic!("{PROGRAM}: {error}. Build it with `make target/bin/reduce`"))
 }
 
 /// What the program printed. It ended well and reported no error.

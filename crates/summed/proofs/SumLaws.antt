@@ -14,7 +14,7 @@ use Rattle.ratio.specs.Order.{AtMost}
 use Rattle.kept.specs.Kept.{KeptList, AllValid}
 use Rattle.kept.proofs.KeptLaws.{each_map, each_zip, kept_links}
 use Rattle.trace.specs.Trace.{value, Rising, Trace}
-use Rattle.trace.specs.Link.{deviation, AllWithin, valid, obeys, parted, limited}
+use Rattle.trace.specs.Link.{deviation, AllWithin, valid, parted, limited}
 use Rattle.trace.proofs.Ticks.{not_earlier}
 use Rattle.trace.proofs.Difference.{Diff, parts, plus, alike, size_at_most}
 use Rattle.trace.proofs.Deviation.{diff}

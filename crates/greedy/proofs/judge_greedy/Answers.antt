@@ -5,28 +5,15 @@ use Rattle.limits.specs.Prepare.{Prepared, ReadyAt}
 use Rattle.greedy.specs.Greedy.{greedy_at}
 use Rattle.greedy.proofs.GreedyLaws.{common_fine, common_refused, greedy_outcome}
 use Rattle.greedy.proofs.judge_greedy.Goals as goal
-use Rattle.greedy.proofs.judge_greedy.Lts as lts
-use Rattle.greedy.proofs.judge_greedy.Tie as tie
-use Rattle.greedy.proofs.judge_greedy.Reads as reads
-
-abbrev In-At-2 : Type 0
-In-At-2 = lts.Past-After-ready tie.the-claims reads.Pre reads.Post
-
--- what the checks give where they pass
-ready : (c : In-At-2) → let a = c.args in
-    ReadyAt a.ticks.now a.values.now a.t c.in-At.c
-ready c =
-    let a = c.args in
-    subst (Prepared a.ticks.now a.values.now a.t) c.in-At.is c.prepare-ready.ensures
 
 pub judge_at-requires : goal.judge_at-requires
 judge_at-requires c =
-    let r = ready c.before.before in
+    let r = c.in-At.ensures in
     (r.trace, r.bounded)
 
 pub returns-in-At : goal.returns-in-At
 returns-in-At c =
-    let r = ready c.before.before.before in
+    let r = c.in-At.ensures in
     let a = c.args in
     greedy_outcome a.ticks.now a.values.now a.list.now a.t
     (c.judge_at.ensures ∙ ap (λ (x : Criterion). greedy_at a.ticks.now a.values.now a.list.now x) r.is ∙ common_fine a.ticks.now a.values.now a.list.now a.t r.rows)
@@ -36,4 +23,4 @@ returns-in-Refused c =
     let a = c.args in
     greedy_outcome a.ticks.now a.values.now a.list.now a.t
     (common_refused a.ticks.now a.values.now a.list.now a.t
-    (subst (Prepared a.ticks.now a.values.now a.t) c.in-Refused.is c.prepare-ready.ensures))
+    c.in-Refused.ensures)

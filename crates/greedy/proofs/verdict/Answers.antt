@@ -4,6 +4,7 @@ use mathlib.Core.Path.{◌≡◌, ◌∙◌}
 use Prim.Native.Nat.{suc, ◌-◌}
 use native.Mathlib.Numerals.{add-one}
 use native.Mathlib.Omega.{arith}
+use borrow.Author.Tests.{not-true, not-false}
 use Rattle.lists.proofs.FirstLaws.{searching_none}
 use Rattle.trace.specs.Link.{Linked}
 use Rattle.trace.proofs.Holes.{end_same}
@@ -12,51 +13,35 @@ use Rattle.proposed.proofs.ProposedLaws.{kept_link}
 use Rattle.greedy.specs.Greedy.{test_of}
 use Rattle.greedy.proofs.GreedyLaws.{found_none, found_link, found_stop, sound_more}
 use Rattle.greedy.proofs.verdict.Goals as goal
-use Rattle.greedy.proofs.verdict.Lts as lts
-use Rattle.greedy.proofs.verdict.Tie as tie
-use Rattle.greedy.proofs.verdict.Reads as reads
-
-abbrev After-test-tested : Type 0
-After-test-tested = lts.After-test tie.the-claims reads.Pre reads.Post goal.the-invariant-loop-k goal.the-decreases-loop-k
-
--- the link at position k
-link : (c : goal.In-loop-k) → let a = c.args in Linked a.ticks.now a.values.now (entry a.list.now c.loop-k.k) (entry a.list.now (suc c.loop-k.k))
-link c =
-    kept_link c.loop-k.k c.requires.0 c.requires.2 (omega (arith, c.loop-k-test.true))
-
--- what its test tells
-tested : (c : After-test-tested) → let a = c.args in
-    c.test-tested.result ≡ test_of a.ticks.now a.values.now a.c (entry a.list.now c.loop-k.k) (entry a.list.now (suc c.loop-k.k))
-tested c = c.test-tested.ensures ∙ rw c.ends_at-link.ensures
 
 pub loop-k-init : goal.loop-k-init
 loop-k-init c = (searching_none (omega arith), λ lt. absurd (omega arith))
 
 pub limit_from-limit-requires : goal.limit_from-limit-requires
 limit_from-limit-requires c =
-    let l = link c.before.before in
+    let l = kept_link c.loop-k.k c.requires.0 c.requires.2 (omega (arith, c.loop-k-test.true)) in
     (l.trace, rw c.ends_at-link.ensures (omega (arith, l.forward, l.inside)), rw c.ends_at-link.ensures c.loop-k.invariant.1)
 
 pub test-tested-requires : goal.test-tested-requires
 test-tested-requires c =
     let e = c.ends_at-link.ensures in
-    (rw e (link c.before.before.before), c.requires.1, c.limit_from-limit.ensures)
+    (rw e (kept_link c.loop-k.k c.requires.0 c.requires.2 (omega (arith, c.loop-k-test.true))), c.requires.1, c.limit_from-limit.ensures)
 
 pub returns-then-not-tested : goal.returns-then-not-tested
 returns-then-not-tested c =
     let a = c.args in
-    found_link a.ticks.now a.values.now a.list.now a.c c.loop-k.invariant.0 (omega (arith, c.loop-k-test.true)) (tested c.before.before.before) (c.if-not-tested.true)
+    found_link a.ticks.now a.values.now a.list.now a.c c.loop-k.invariant.0 (omega (arith, c.loop-k-test.true)) (c.test-tested.ensures ∙ rw c.ends_at-link.ensures) (not-true _ c.if-not-tested.true)
 
 pub returns-then-tested : goal.returns-then-tested
 returns-then-tested c =
     let a = c.args in
-    found_stop a.ticks.now a.values.now a.list.now a.c c.loop-k.invariant.0 (omega (arith, c.loop-k-test.true)) (tested c.before.before.before.before) (c.if-not-tested.false) c.if-tested.true
+    found_stop a.ticks.now a.values.now a.list.now a.c c.loop-k.invariant.0 (omega (arith, c.loop-k-test.true)) (c.test-tested.ensures ∙ rw c.ends_at-link.ensures) (not-false _ c.if-not-tested.false) c.if-tested.true
 
 pub loop-k-preserved : goal.loop-k-preserved
 loop-k-preserved c =
     let a = c.args in
-    let l = link c.before.before.before.before.before.before.before in (
-      sound_more a.ticks.now a.values.now a.list.now a.c c.loop-k.invariant.0 (omega (arith, c.loop-k-test.true)) (tested c.before.before.before.before) (c.if-not-tested.false) c.if-tested.false,
+    let l = kept_link c.loop-k.k c.requires.0 c.requires.2 (omega (arith, c.loop-k-test.true)) in (
+      sound_more a.ticks.now a.values.now a.list.now a.c c.loop-k.invariant.0 (omega (arith, c.loop-k-test.true)) (c.test-tested.ensures ∙ rw c.ends_at-link.ensures) (not-false _ c.if-not-tested.false) c.if-tested.false,
       rw (add-one c.loop-k.k) (λ lt. (end_same a.ticks.now a.c.gap {i = entry a.list.now c.loop-k.k} (omega (arith, l.forward, l.inside)) (c.limit_from-limit.ensures ∙ rw c.ends_at-link.ensures) (omega (arith, l.forward)) lt).1),
     )
 

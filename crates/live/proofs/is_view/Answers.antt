@@ -19,11 +19,11 @@ returns-then-view c =
 
 pub slice_bounds-is_kept-end : goal.slice_bounds-is_kept-end
 slice_bounds-is_kept-end c =
-    omega (arith, full c.args.view c.well_formed.0, c.if2.false, c.if-view-gt32.false)
+    omega (arith, full c.args.view c.well_formed.0, c.if-view.false, c.if-view-gt32.false)
 
 pub returns : goal.returns
 unfolding is_view
 returns c =
     let v = c.args.view in
     let whole : v.count - 0 ≡ v.count = omega arith in
-    rw (le-leb v.k 32 (omega (arith, c.if-view-gt32.false)), le-leb _ _ c.if2.false) (rw whole at c.is_kept.ensures)
+    rw (le-leb v.k 32 (omega (arith, c.if-view-gt32.false)), le-leb _ _ c.if-view.false) (rw whole at c.is_kept.ensures)

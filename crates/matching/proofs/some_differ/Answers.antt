@@ -1,7 +1,6 @@
 -- `matching::some_differ` meets its contract: while `some` is false no ticks before k differ. Assumes nothing.
 use mathlib.Core.Path.{ap}
 use mathlib.Core.Bool.{not}
-use Prim.Native.Nat.{◌-◌}
 use native.Mathlib.Omega.{arith}
 use Rattle.lists.proofs.FirstLaws.{passing_none, passing_more, passed}
 use Rattle.matching.proofs.MatchLaws.{differ_test}

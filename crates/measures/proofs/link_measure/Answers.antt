@@ -6,10 +6,10 @@ use Rattle.measures.proofs.link_measure.Goals as goal
 pub side_at-requires : goal.side_at-requires
 side_at-requires c =
     let link = c.requires in
-    let k = stray_inside link c.link_stray-s.ensures.0 in
+    let k = stray_inside link c.link_stray-s.ensures.is in
     (link, k.0, k.1)
 
 pub returns : goal.returns
 returns c =
     let d = c.link_stray-s.ensures in
-    (measure_made _ _ _ _ d.0 c.reduce.ensures c.side_at.ensures, rw c.reduce.ensures (lowest_allowed d.1))
+    record { is = measure_made _ _ _ _ d.is c.reduce.ensures c.side_at.ensures; allowed = rw c.reduce.ensures (lowest_allowed d.allowed) }

@@ -1,5 +1,4 @@
 -- `measures::link_stray` meets its contract: the loop has the greatest deviation of the samples before k. Assumes nothing.
-use Prim.Native.Nat.{◌-◌}
 use native.Mathlib.Omega.{arith}
 use borrow.Author.Rules.{rules}
 use Rattle.trace.proofs.EdgeLaws.{reach, edge_at, distance_requires as slopes, distance_measures}
@@ -34,4 +33,4 @@ pub returns : goal.returns
 returns c =
     let link = c.requires in
     let m = c.loop-k.invariant in
-    (straying_all link m c.loop-k-test.false, straying_allowed link m)
+    record { is = straying_all link m c.loop-k-test.false; allowed = straying_allowed link m }

@@ -15,7 +15,8 @@ probe-s-requires c =
 
 pub returns-then-s-high : goal.returns-then-s-high
 returns-then-s-high c =
-    raising_ends c.loop-s.invariant c.probe-s.ensures c.if-s-high.true
+    let e = raising_ends c.loop-s.invariant c.probe-s.ensures c.if-s-high.true in
+    record { yes = e.0; finds = e.1 }
 
 pub loop-s-smaller : goal.loop-s-smaller
 loop-s-smaller c =

@@ -5,12 +5,6 @@ use Rattle.outgoing.specs.Outgoing.{Next}
 use Rattle.probing.proofs.ProbingLaws.{inside, probes_later, probes_next, far_next, probed_past, probed_fails, probed_invalid, probed_yes}
 use Rattle.probing.proofs.probe.Goals as goal
 
--- every sample before the one probed has been taken in
-far : (c : goal.After-taken_to-far) → let a = c.args in
-    Next a.ticks.now a.values.now a.c c.taken_to-far.result (a.s.links.from.sample + a.d)
-far c =
-    far_next c.requires c.if-links-end.false c.taken_to-far.ensures
-
 pub returns-then-links-end : goal.returns-then-links-end
 returns-then-links-end c = probed_past c.requires c.if-links-end.true
 
@@ -27,14 +21,14 @@ taken_to-far-requires c =
     (probes_next pre c.if-links-end.false, omega (arith, pre.further), c.if-links-end.false, inside pre c.if-links-end.false)
 
 pub reaches-requires : goal.reaches-requires
-reaches-requires c = far c.before
+reaches-requires c = far_next c.requires c.if-links-end.false c.taken_to-far.ensures
 
 pub returns-then-not-reaches : goal.returns-then-not-reaches
 returns-then-not-reaches c =
     probed_invalid c.requires c.if-links-end.false c.taken_to-far.ensures (c.if-not-reaches.true) c.reaches.ensures
 
 pub taken-requires : goal.taken-requires
-taken-requires c = far c.before.before.before
+taken-requires c = far_next c.requires c.if-links-end.false c.taken_to-far.ensures
 
 pub returns : goal.returns
 returns c =

@@ -10,7 +10,7 @@ pub returns-then-m-lt1 : goal.returns-then-m-lt1
 returns-then-m-lt1 c = rw (lt-leb _ _ c.if-m-lt1.true)
 
 pub overflow_add-wide : goal.overflow_add-wide
-overflow_add-wide c = omega (arith, c.wide.ensures, c.shared_slice_known-2-1.given (length c.args.list.now - 1))
+overflow_add-wide c = omega (arith, c.wide.ensures, c.type_inv.list (length c.args.list.now - 1))
 
 pub returns-then-wide-n : goal.returns-then-wide-n
 returns-then-wide-n c =

@@ -1,5 +1,4 @@
 -- `proposed::first_bad` meets its contract: it searches only where an entry is bad. Assumes nothing.
-use Prim.Native.Nat.{◌-◌}
 use mathlib.Core.Path.{sym, ◌∙◌}
 use native.Mathlib.Omega.{arith}
 use borrow.Author.Rules.{rules}

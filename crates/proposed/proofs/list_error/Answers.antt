@@ -4,4 +4,4 @@ use Rattle.measures.specs.Measure.{deviation_of}
 use Rattle.proposed.proofs.list_error.Goals as goal
 
 pub returns : goal.returns
-returns c = let s = c.list_stray-worst.ensures in (ap deviation_of s.0, s.1)
+returns c = let s = c.list_stray-worst.ensures in record { is = ap deviation_of s.is; allowed = s.allowed }

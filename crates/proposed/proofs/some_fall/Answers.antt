@@ -1,7 +1,6 @@
 -- `proposed::some_fall` meets its contract: while `some` is false there is no fall before k. Assumes nothing.
 use mathlib.Core.Path.{ap}
 use mathlib.Core.Bool.{not}
-use Prim.Native.Nat.{◌-◌}
 use Rattle.lists.proofs.FirstLaws.{passing_none, passing_more, passed}
 use Rattle.proposed.proofs.some_fall.Goals as goal
 

@@ -8,4 +8,4 @@ link_stray-requires c =
     rw c.ends_at-link.ensures (kept_link c.args.k c.requires.0 c.requires.1 c.requires.2)
 
 pub returns : goal.returns
-returns c = let e = c.link_stray.ensures in (e.0 ∙ rw c.ends_at-link.ensures, e.1)
+returns c = let e = c.link_stray.ensures in record { is = e.is ∙ rw c.ends_at-link.ensures; allowed = e.allowed }

@@ -4,33 +4,23 @@ use Rattle.channels.proofs.ChannelLaws.{crate_divided}
 use Rattle.limits.specs.Prepare.{Sets, Allowed}
 use Rattle.reporting.proofs.ReportLaws.{sheet_refused, limits_refused, room_refused, sheet_counted}
 use Rattle.reporting.proofs.allowed_sheet.Goals as goal
-use Rattle.reporting.proofs.allowed_sheet.Lts as lts
-use Rattle.reporting.proofs.allowed_sheet.Tie as tie
-use Rattle.reporting.proofs.allowed_sheet.Reads as reads
-
-abbrev In-At-2 : Type 0
-In-At-2 = lts.Past-After-ready tie.the-claims reads.Pre reads.Post
-
--- the criterion that an allowed tolerance sets
-sets : (c : In-At-2) → Sets c.args.t c.in-At.c
-sets c = subst (Allowed c.args.t) c.in-At.is c.criterion-ready.ensures
 
 pub returns-then-room-m : goal.returns-then-room-m
 returns-then-room-m c =
     let a = c.args in
-    sheet_refused a.ticks.now a.values.now a.lengths.now a.t a.room (room_refused a.ticks.now a.values.now a.lengths.now a.t a.room c.requires (sets c.before.before.before.before) c.if-room-m.true) c.refuse.ensures
+    sheet_refused a.ticks.now a.values.now a.lengths.now a.t a.room (room_refused a.ticks.now a.values.now a.lengths.now a.t a.room c.requires c.in-At.ensures c.if-room-m.true) c.refuse.ensures
 
 pub survey-requires : goal.survey-requires
 survey-requires c =
     let a = c.args in
-    ((sets c.before.before.before).bounded, crate_divided a.ticks.now a.values.now a.lengths.now c.requires)
+    (c.in-At.ensures.bounded, crate_divided a.ticks.now a.values.now a.lengths.now c.requires)
 
 pub returns-else-room-m : goal.returns-else-room-m
 returns-else-room-m c =
     let a = c.args in
-    sheet_counted a.ticks.now a.values.now a.lengths.now a.t a.room c.requires (sets c.before.before.before.before) c.if-room-m.false c.survey.ensures
+    sheet_counted a.ticks.now a.values.now a.lengths.now a.t a.room c.requires c.in-At.ensures c.if-room-m.false c.survey.ensures
 
 pub returns-in-Refused : goal.returns-in-Refused
 returns-in-Refused c =
     let a = c.args in
-    sheet_refused a.ticks.now a.values.now a.lengths.now a.t a.room (limits_refused a.ticks.now a.values.now a.lengths.now a.t a.room c.requires (subst (Allowed a.t) c.in-Refused.is c.criterion-ready.ensures)) c.refuse-in-Refused.ensures
+    sheet_refused a.ticks.now a.values.now a.lengths.now a.t a.room (limits_refused a.ticks.now a.values.now a.lengths.now a.t a.room c.requires c.in-Refused.ensures) c.refuse-in-Refused.ensures

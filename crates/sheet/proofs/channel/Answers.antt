@@ -12,9 +12,9 @@ walked-requires c =
 pub returns-in-Fine : goal.returns-in-Fine
 returns-in-Fine c =
     let a = c.args in
-    (channel_fine a.c a.ticks.now a.values.now (sym c.check-checked.ensures ∙ c.in-Fine.is) c.walked.ensures.0, c.walked.ensures.1)
+    record { is = channel_fine a.c a.ticks.now a.values.now (sym c.check-checked.ensures ∙ c.in-Fine.is) c.walked.ensures.is; bounds = c.walked.ensures.bounds }
 
 pub returns-in-Refused : goal.returns-in-Refused
 returns-in-Refused c =
     let a = c.args in
-    (channel_refused a.c a.ticks.now a.values.now (sym c.check-checked.ensures ∙ c.in-Refused.is) c.declined.ensures.0, c.declined.ensures.1)
+    record { is = channel_refused a.c a.ticks.now a.values.now (sym c.check-checked.ensures ∙ c.in-Refused.is) c.declined.ensures.is; bounds = c.declined.ensures.bounds }

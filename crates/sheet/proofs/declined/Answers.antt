@@ -4,4 +4,7 @@ use Rattle.sheet.proofs.ReportLaws.{declined_row_lem, zero_bounded}
 use Rattle.sheet.proofs.declined.Goals as goal
 
 pub returns : goal.returns
-returns c = (declined_row_lem c.args.x c.number-number.ensures, record { samples = omega arith; kept = omega arith; allowed = zero_bounded })
+returns c = record {
+  is = declined_row_lem c.args.x c.number-number.ensures;
+  bounds = record { samples = omega arith; kept = omega arith; allowed = zero_bounded };
+}

@@ -5,4 +5,4 @@ use Rattle.sheet.proofs.part_row.Goals as goal
 pub returns : goal.returns
 returns c =
     let a = c.args in
-    (part_is a.c a.ticks.now a.values.now a.at a.n c.channel.ensures.0, c.channel.ensures.1)
+    record { is = part_is a.c a.ticks.now a.values.now a.at a.n c.channel.ensures.is; bounds = c.channel.ensures.bounds }

@@ -19,7 +19,7 @@ pub add-total-requires : goal.add-total-requires
 add-total-requires c =
     let h = c.loop-i.invariant in
     let f = surveying_few h c.requires.1.few in
-    (f.0, f.1, h.bounds.allowed, c.part_row-row.ensures.1)
+    (f.0, f.1, h.bounds.allowed, c.part_row-row.ensures.bounds)
 
 pub overflow_add-at : goal.overflow_add-at
 overflow_add-at c =
@@ -27,7 +27,7 @@ overflow_add-at c =
 
 pub loop-i-preserved : goal.loop-i-preserved
 loop-i-preserved c =
-    surveying_more c.loop-i.invariant c.loop-i-test.true c.requires.1.few c.part_row-row.ensures.0 c.part_row-row.ensures.1 c.add-total.ensures
+    surveying_more c.loop-i.invariant c.loop-i-test.true c.requires.1.few c.part_row-row.ensures.is c.part_row-row.ensures.bounds c.add-total.ensures
 
 pub returns : goal.returns
 returns c = surveying_all c.loop-i.invariant c.loop-i-test.false

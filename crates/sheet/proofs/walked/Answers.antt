@@ -15,5 +15,7 @@ list_stray-worst-requires c =
 pub returns : goal.returns
 returns c =
     let w = c.walk-kept.ensures in
-    let e = c.list_stray-worst.ensures in
-    (walked_row_lem c.args.ticks.now c.args.values.now c.args.c w e.0, record { samples = c.requires.0.few; kept = walked_few c.args.ticks.now c.args.values.now c.args.c w c.requires.0; allowed = e.1 })
+    record {
+      is = walked_row_lem c.args.ticks.now c.args.values.now c.args.c w c.list_stray-worst.ensures.is;
+      bounds = record { samples = c.requires.0.few; kept = walked_few c.args.ticks.now c.args.values.now c.args.c w c.requires.0; allowed = c.list_stray-worst.ensures.allowed };
+    }

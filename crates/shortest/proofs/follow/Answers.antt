@@ -1,6 +1,5 @@
 -- `shortest::follow` meets its contract: each turn writes one stop more, and the stops from i on complete the list. Assumes nothing.
 use mathlib.Core.Path.{refl}
-use Prim.Native.Nat.{◌-◌}
 use native.Mathlib.Omega.{arith}
 use lib.ListN.{length-set}
 use Rattle.kept.proofs.Filling.{filling_none, filling_more, filling_ends}
@@ -10,7 +9,7 @@ pub loop-i-init : goal.loop-i-init
 loop-i-init c = filling_none _ _ c.args.out.now refl c.requires.1
 
 pub overflow_cast-i : goal.overflow_cast-i
-overflow_cast-i c = omega (arith, c.shared_slice_known-1.given c.loop-i.i)
+overflow_cast-i c = omega (arith, c.type_inv.next c.loop-i.i)
 
 pub loop-i-smaller : goal.loop-i-smaller
 loop-i-smaller c = omega (arith, c.requires.0.onward _ c.loop-i-test.true)

@@ -1,9 +1,8 @@
 -- `shortest::next_stop` meets its contract: each turn scans one end more, and the scan is complete at the last sample and where the cone is closed. Assumes nothing.
-use mathlib.Core.Logic.{⊎_elim}
-use Prim.Native.Nat.{◌-◌}
 use native.Mathlib.Omega.{arith}
 use Rattle.shortest.proofs.ShortestLaws.{first_end, scanning_none, aim_requires, end_tilt, end_slope, end_across, ends_room, scanning_first, scanning_valid, scanning_invalid, scanned_all, scanned_closed}
 use Rattle.shortest.proofs.next_stop.Goals as goal
+use Rattle.shortest.proofs.next_stop.Goals.{then-admits, else-admits+else-is_closed_by}
 
 pub aim_at-requires : goal.aim_at-requires
 aim_at-requires c =
@@ -57,10 +56,10 @@ pub loop-j-preserved : goal.loop-j-preserved
 loop-j-preserved c =
     let pre = c.requires.0 in
     let t = c.loop-j-test.true in
-    ⊎_elim
-    (λ w. rw w.2 (scanning_valid pre c.loop-j.invariant t c.start_at-from.ensures c.aim_at-to.ensures c.extended-cone.ensures c.admits.ensures w.0.taken w.1.ensures))
-    (λ w. rw w.3 (scanning_invalid pre c.loop-j.invariant t c.start_at-from.ensures c.aim_at-to.ensures c.extended-cone.ensures c.admits.ensures w.0.left))
-    c.if-admits.branch
+    elim c.if-admits.branch [
+      | then-admits w ↦ rw w.b-is (scanning_valid pre c.loop-j.invariant t c.start_at-from.ensures c.aim_at-to.ensures c.extended-cone.ensures c.admits.ensures w.if-admits.true w.better-b.ensures)
+      | else-admits+else-is_closed_by w ↦ rw w.b-is (scanning_invalid pre c.loop-j.invariant t c.start_at-from.ensures c.aim_at-to.ensures c.extended-cone.ensures c.admits.ensures w.if-admits.false)
+    ]
 
 pub returns : goal.returns
 returns c = scanned_all c.requires.0 c.loop-j.invariant c.loop-j-test.false

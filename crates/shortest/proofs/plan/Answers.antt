@@ -1,22 +1,14 @@
 -- `shortest::plan` meets its contract: each turn fills one entry more of both tables. Assumes nothing.
 use mathlib.Core.Path.{◌≡◌, sym, ◌∙◌}
-use Prim.Native.Nat.{◌+◌, ◌-◌, ◌≤◌}
+use Prim.Native.Nat.{◌+◌, ◌-◌}
 use native.Mathlib.Omega.{arith}
-use lib.ListN.{length, get_or, length-set}
+use lib.ListN.{length-set}
 use borrow.Author.Rules.{rules}
 use Rattle.lists.proofs.FirstLaws.{clear_none, first_none}
 use Rattle.trace.proofs.Holes.{run_bounds, links_end_is}
 use Rattle.trace.proofs.Validity.{steps_valid}
 use Rattle.shortest.proofs.Tables.{tabling_none, counted_after, stop_inside, tabling_more}
 use Rattle.shortest.proofs.plan.Goals as goal
-
--- the chosen stop is in the tables
-inside : (c : goal.After-next_stop-b) →
-    let l = c.before.before.before.before.before in
-    let last = length l.args.ticks.now - 1 in
-    (c.next_stop-b.result ≤ last) × (get_or l.loop-i.links c.next_stop-b.result 0 + c.next_stop-b.result ≤ last)
-inside c =
-    stop_inside _ _ (steps_valid _ _ _) c.loop-i.invariant.0 c.loop-i-test.true c.next_stop-b.ensures
 
 pub loop-i-init : goal.loop-i-init
 loop-i-init c = (
@@ -49,16 +41,16 @@ next_stop-b-requires c =
     )
 
 pub offset_bounds-links-b : goal.offset_bounds-links-b
-offset_bounds-links-b c = omega (arith, inside c.before)
+offset_bounds-links-b c = omega (arith, stop_inside _ _ (steps_valid _ _ _) c.loop-i.invariant.0 c.loop-i-test.true c.next_stop-b.ensures)
 
 pub bounds-links-b : goal.bounds-links-b
-bounds-links-b c = omega (arith, inside c.before.before)
+bounds-links-b c = omega (arith, stop_inside _ _ (steps_valid _ _ _) c.loop-i.invariant.0 c.loop-i-test.true c.next_stop-b.ensures)
 
 pub overflow_add-links : goal.overflow_add-links
-overflow_add-links c = omega (arith, inside c.before.before)
+overflow_add-links c = omega (arith, stop_inside _ _ (steps_valid _ _ _) c.loop-i.invariant.0 c.loop-i-test.true c.next_stop-b.ensures)
 
 pub overflow_cast-next : goal.overflow_cast-next
-overflow_cast-next c = omega (arith, inside c.before.before)
+overflow_cast-next c = omega (arith, stop_inside _ _ (steps_valid _ _ _) c.loop-i.invariant.0 c.loop-i-test.true c.next_stop-b.ensures)
 
 pub loop-i-preserved : goal.loop-i-preserved
 loop-i-preserved c =

@@ -1,6 +1,6 @@
 -- `verdicts::sums_of` meets its contract: the loop has the sums of the values before i. Assumes nothing.
-use Prim.Native.Nat.{◌-◌}
 use native.Mathlib.Omega.{arith}
+use borrow.Author.Rules.{rules}
 use Rattle.verdicts.proofs.SumLaws.{summing_few, summing_all}
 use Rattle.verdicts.proofs.SignedLaws.{halved_none, halved_few, halved_step}
 use Rattle.verdicts.proofs.sums_of.Goals as goal
@@ -19,7 +19,7 @@ overflow_add-high c = omega (arith, (halved_few c.loop-i.invariant c.requires).1
 
 pub loop-i-preserved : goal.loop-i-preserved
 loop-i-preserved c =
-    halved_step c.loop-i.invariant c.requires c.loop-i-test.true c.v-1.given c.plus-sum.ensures c.square-x.ensures
+    halved_step c.loop-i.invariant c.requires c.loop-i-test.true (search rules) c.plus-sum.ensures c.square-x.ensures
 
 pub overflow_cast-result : goal.overflow_cast-result
 overflow_cast-result c = omega (arith, (halved_few c.loop-i.invariant c.requires).0)

@@ -1,60 +1,44 @@
 -- `writer::write` meets its contract: where any record of so many samples has room, it is written at once. Assumes nothing.
-use mathlib.Core.Path.{sym, ◌∙◌}
-use Prim.Native.Nat.{◌-◌, ◌≤◌}
+use mathlib.Core.Path.{◌≡◌, sym, ◌∙◌}
+use mathlib.Core.Bool.{Bool, true, ◌&&◌}
+use mathlib.Core.List.{List}
+use Prim.Native.Nat.{ℕ, ◌-◌, ◌≤◌}
 use native.Mathlib.Omega.{arith}
 use lib.Dec.{leb}
 use lib.ListN.{length}
 use borrow.Author.Tests.{leb-true}
 use Rattle.lists.proofs.PartLaws.{part_length}
 use Rattle.lists.proofs.Tests.{and_first, and_second}
-use Rattle.format.specs.Format.{Content, encode}
+use Rattle.tolerance.specs.declared.Parts.{Parts}
 use Rattle.writer.specs.Writing.{selected, most_bytes}
 use Rattle.writer.proofs.SelectedLaws.{list_few, selected_legal}
 use Rattle.writer.proofs.WritingLaws.{record_most, wrote}
 use Rattle.writer.proofs.write.Goals as goal
-use Rattle.writer.proofs.write.Lts as lts
-use Rattle.writer.proofs.write.Tie as tie
-use Rattle.writer.proofs.write.Reads as reads
-
-abbrev Start : Type 0
-Start = lts.Start tie.the-claims reads.Pre reads.Post
 
 -- there is room for any record of so many samples
-module _ (c : goal.Then-has_room) where
-  abbrev start : Start
-  start = c.before.before.before.before.before.before
-
-  abbrev x : Content
-  x = selected start.args.held start.args.ticks.now start.args.values.now start.args.list.now
-
-  fits : (start.args.place ≤ length start.args.buffer.now) × (most_bytes start.args.held (length start.args.list.now) ≤ length start.args.buffer.now - start.args.place)
-  fits =
-      let m = c.most_bytes in
-      let b = leb start.args.place (length start.args.buffer.now) in
-      let t = sym c.has_room.ensures ∙ c.if-has_room.true in
-      let n : m.result ≤ length start.args.buffer.now - start.args.place = leb-true _ _ (and_second b _ t) in
-      (leb-true _ _ (and_first b _ t), omega (arith, n, m.ensures))
-
-  enough : length (encode x) ≤ length start.args.buffer.now - start.args.place
-  enough = omega (arith, record_most start.requires.0 start.args.held, fits.1)
+fits : (x : Parts) (n place : ℕ) (buffer : List ℕ) {most : ℕ} {b : Bool} → most ≡ most_bytes x n → b ≡ (leb place (length buffer) && leb most (length buffer - place)) → b ≡ true
+    → (place ≤ length buffer) × (most_bytes x n ≤ length buffer - place)
+fits x n place buffer {most} e is taken =
+    let t = sym is ∙ taken in
+    let l : most ≤ length buffer - place = leb-true _ _ (and_second (leb place (length buffer)) _ t) in
+    (leb-true _ _ (and_first (leb place (length buffer)) _ t), omega (arith, l, e))
 
 pub most_bytes-requires : goal.most_bytes-requires
 most_bytes-requires c = list_few c.requires.0
 
 pub slice_bounds-put_record-count : goal.slice_bounds-put_record-count
-slice_bounds-put_record-count c = omega (arith, (fits c.before).0)
+slice_bounds-put_record-count c = omega (arith, (fits c.args.held (length c.args.list.now) c.args.place c.args.buffer.now c.most_bytes.ensures c.has_room.ensures c.if-has_room.true).0)
 
 pub slice_bounds-put_record-start : goal.slice_bounds-put_record-start
-slice_bounds-put_record-start c = omega (arith, (fits c.before).0)
+slice_bounds-put_record-start c = omega (arith, (fits c.args.held (length c.args.list.now) c.args.place c.args.buffer.now c.most_bytes.ensures c.has_room.ensures c.if-has_room.true).0)
 
 pub put_record-n-requires : goal.put_record-n-requires
-put_record-n-requires c = let s = start c.before.before in (s.requires.0, simp part_length (omega (arith, enough c.before.before)))
+put_record-n-requires c = (c.requires.0, simp part_length (omega (arith, record_most c.requires.0 c.args.held, (fits c.args.held (length c.args.list.now) c.args.place c.args.buffer.now c.most_bytes.ensures c.has_room.ensures c.if-has_room.true).1)))
 
 pub returns-then-has_room : goal.returns-then-has_room
 returns-then-has_room c =
-    let s = start c.before.before.before.before.before in
     let n = c.put_record-n.ensures.1 in
     let e = n.is in
-    wrote (x c.before.before.before.before.before) s.args.buffer.now s.args.place e
-    (selected_legal s.requires.0 s.args.held s.requires.1 (λ k. omega (arith, c.shared_slice_known-1.given k)) n.range)
-    (fits c.before.before.before.before.before).0 (omega (arith, e, enough c.before.before.before.before.before)) c.put_record-n.ensures.0
+    wrote (selected c.args.held c.args.ticks.now c.args.values.now c.args.list.now) c.args.buffer.now c.args.place e
+    (selected_legal c.requires.0 c.args.held c.requires.1 (λ k. omega (arith, c.shared_slice_known-1.given k)) n.range)
+    (fits c.args.held (length c.args.list.now) c.args.place c.args.buffer.now c.most_bytes.ensures c.has_room.ensures c.if-has_room.true).0 (omega (arith, e, record_most c.requires.0 c.args.held, (fits c.args.held (length c.args.list.now) c.args.place c.args.buffer.now c.most_bytes.ensures c.has_room.ensures c.if-has_room.true).1)) c.put_record-n.ensures.0

@@ -1,5 +1,4 @@
 -- `closest::search::approach` meets its contract: the loop has an interval below `from`. Assumes nothing.
-use Prim.Native.Nat.{◌-◌}
 use native.Mathlib.Omega.{arith}
 use Rattle.trace.proofs.Errors.{both_bounded}
 use Rattle.closest.proofs.ClosestLaws.{narrowed_none, narrowed_more}

@@ -14,4 +14,4 @@ list_error-requires c =
 
 pub returns : goal.returns
 returns c =
-    obeying_reached c.requires c.obeying-kept.ensures c.list_error.ensures.0 c.list_error.ensures.1
+    obeying_reached c.requires c.obeying-kept.ensures c.list_error.ensures.is c.list_error.ensures.allowed

@@ -19,4 +19,4 @@ list_error-error-requires c =
 
 pub returns : goal.returns
 returns c =
-    tried_fit _ _ _ _ c.minimum-kept.ensures c.requires.0.trace c.if-m-kept.false c.list_error-error.ensures.0 c.list_error-error.ensures.1
+    tried_fit _ _ _ _ c.minimum-kept.ensures c.requires.0.trace c.if-m-kept.false c.list_error-error.ensures.is c.list_error-error.ensures.allowed

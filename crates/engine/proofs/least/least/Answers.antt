@@ -6,26 +6,15 @@ use Rattle.allowance.specs.Rows.{least_rows}
 use Rattle.allowance.proofs.RowLaws.{least_task}
 use Rattle.engine.proofs.LeastLaws.{least_kept}
 use Rattle.engine.proofs.least.least.Goals as goal
-use Rattle.engine.proofs.least.least.Lts as lts
-use Rattle.engine.proofs.least.least.Tie as tie
-use Rattle.engine.proofs.least.least.Reads as reads
-
-abbrev In-Fine : Type 0
-In-Fine = lts.Past-After-enum_told tie.the-claims reads.Pre reads.Post
-
--- the checks pass
-passed : (c : In-Fine) → let a = c.args in
-    least_rows a.ticks.now a.values.now a.gap a.m (length a.out.now) ≡ Fine
-passed c = sym c.check-checked.ensures ∙ c.in-Fine.is
 
 pub least-requires : goal.least-requires
 least-requires c =
     let a = c.args in
-    least_task a.ticks.now a.values.now a.gap a.m (length a.out.now) (passed c.before.before)
+    least_task a.ticks.now a.values.now a.gap a.m (length a.out.now) (sym c.check-checked.ensures ∙ c.in-Fine.is)
 
 pub returns-in-Fine : goal.returns-in-Fine
 returns-in-Fine c =
-    least_kept (passed c.before.before.before.before.before) c.least.ensures.0 c.least.ensures.1.0 c.least.ensures.1.1
+    least_kept (sym c.check-checked.ensures ∙ c.in-Fine.is) c.least.ensures.error c.least.ensures.allowed c.least.ensures.list
 
 pub returns-in-Refused : goal.returns-in-Refused
 returns-in-Refused c = (sym c.check-checked.ensures ∙ c.in-Refused.is, refl)

@@ -11,7 +11,7 @@ link_measure-requires c =
 pub returns-in-Fine : goal.returns-in-Fine
 returns-in-Fine c =
     let a = c.args in
-    measured_fine a.ticks.now a.values.now a.i a.j (sym c.check_ends-checked.ensures ∙ c.in-Fine.is) c.link_measure.ensures.0
+    measured_fine a.ticks.now a.values.now a.i a.j (sym c.check_ends-checked.ensures ∙ c.in-Fine.is) c.link_measure.ensures.is
 
 pub returns-in-Refused : goal.returns-in-Refused
 returns-in-Refused c =

@@ -9,17 +9,17 @@ use Rattle.live.proofs.candidates.cheapest_at.Goals as goal
 pub loop-i-init : goal.loop-i-init
 loop-i-init c =
     let a = c.args in
-    (omega arith, omega arith, rw c.cost_at-e.ensures.0 (sym (best_first (deviation_at a.ticks.now a.values.now (with_last a.ticks.now a.samples.now a.count)))), c.cost_at-e.ensures.1)
+    (omega arith, omega arith, rw c.cost_at-e.ensures.is (sym (best_first (deviation_at a.ticks.now a.values.now (with_last a.ticks.now a.samples.now a.count)))), c.cost_at-e.ensures.allowed)
 
 pub loop-i-preserved : goal.loop-i-preserved
 loop-i-preserved c =
     let l = c.loop-i in
     let a = c.args in
-    (omega arith, omega arith, best_next (deviation_at a.ticks.now a.values.now (with_last a.ticks.now a.samples.now a.count)) l.i l.invariant.2 c.cost_at-e-in-loop-i.ensures.0 c.better_of-best.ensures.0, c.better_of-best.ensures.1)
+    (omega arith, omega arith, best_next (deviation_at a.ticks.now a.values.now (with_last a.ticks.now a.samples.now a.count)) l.i l.invariant.2 c.cost_at-e-in-loop-i.ensures.is c.better_of-best.ensures.is, c.better_of-best.ensures.allowed)
 
 pub returns : goal.returns
 returns c =
     let l = c.loop-i in
     let a = c.args in
     let best = best_last (deviation_at a.ticks.now a.values.now (with_last a.ticks.now a.samples.now a.count)) l.i a.count l.invariant.2 (omega arith) (omega arith) in
-    (best.0 ∙ cheapest_cost c.requires.0, best.1)
+    record { is = best.0 ∙ cheapest_cost c.requires.0; inner = best.1 }

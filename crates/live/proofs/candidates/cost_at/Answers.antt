@@ -10,4 +10,4 @@ link_stray-s-requires c =
 pub returns : goal.returns
 returns c =
     let a = c.args in
-    (cost_is a.ticks.now a.values.now (with_last a.ticks.now a.samples.now a.count) a.i c.entry-from.ensures c.entry-to.ensures c.link_stray-s.ensures.0, c.link_stray-s.ensures.1)
+    record { is = cost_is a.ticks.now a.values.now (with_last a.ticks.now a.samples.now a.count) a.i c.entry-from.ensures c.entry-to.ensures c.link_stray-s.ensures.is; allowed = c.link_stray-s.ensures.allowed }

@@ -14,5 +14,5 @@ cheapest_at-at-requires c =
 
 pub returns : goal.returns
 returns c =
-    grown_thinned c.requires (full c.args.view c.well_formed.0) (omega (arith, c.if-view.false)) c.narrow-new.ensures c.cheapest_at-at.ensures.0
-    c.cheapest_at-at.ensures.1 c.shifted.ensures
+    grown_thinned c.requires (full c.args.view c.well_formed.0) (omega (arith, c.if-view.false)) c.narrow-new.ensures c.cheapest_at-at.ensures.is
+    c.cheapest_at-at.ensures.inner c.shifted.ensures

@@ -2,8 +2,6 @@
 use mathlib.Core.Path.{◌≡◌}
 use Prim.Native.Nat.{◌+◌, ◌-◌}
 use Rattle.live.proofs.StateLaws.{Shifted}
-use Rattle.live.proofs.states.shifted.Reads as reads
-use Rattle.live.proofs.states.shifted.Lts as lts
 use Rattle.live.proofs.states.shifted.Given as goal
 
 abbrev pub invariant-loop-i : goal.invariant-loop-i

@@ -29,7 +29,7 @@ shape_of-out-then-last-i c = omega (arith, c.loop-limit.invariant.0.filling.same
 pub returns-then-last-i : goal.returns-then-last-i
 returns-then-last-i c =
     let inv = c.loop-limit.invariant in
-    rw c.store-in-loop-limit.ensures (let f = galloping_ends (galloping_more inv.0 (steps_valid _ _ _) inv.1 _ c.search-s.ensures.0) c.args.out.now c.store.ensures c.if-last-i.true in record { wrote = f.0; probes = f.1 })
+    rw c.store-in-loop-limit.ensures (let f = galloping_ends (galloping_more inv.0 (steps_valid _ _ _) inv.1 _ c.search-s.ensures.finds) c.args.out.now c.store.ensures c.if-last-i.true in record { wrote = f.0; probes = f.1 })
 
 pub links_end-limit-requires-then-limit-i : goal.links_end-limit-requires-then-limit-i
 links_end-limit-requires-then-limit-i c = let pre = c.requires in (pre.0, omega (arith, c.if-last-i.false, pre.0.some))
@@ -37,11 +37,11 @@ links_end-limit-requires-then-limit-i c = let pre = c.requires in (pre.0, omega 
 pub loop-limit-preserved-then-limit-i : goal.loop-limit-preserved-then-limit-i
 loop-limit-preserved-then-limit-i c =
     let inv = c.loop-limit.invariant in
-    (rw c.store-in-loop-limit.ensures (galloping_more inv.0 (steps_valid _ _ _) inv.1 _ c.search-s.ensures.0), omega (arith, c.if-last-i.false), c.links_end-limit-then-limit-i.ensures)
+    (rw c.store-in-loop-limit.ensures (galloping_more inv.0 (steps_valid _ _ _) inv.1 _ c.search-s.ensures.finds), omega (arith, c.if-last-i.false), c.links_end-limit-then-limit-i.ensures)
 
 pub loop-limit-preserved : goal.loop-limit-preserved
 loop-limit-preserved c =
     let inv = c.loop-limit.invariant in
-    let b = c.search-s.ensures.1 in
+    let b = c.search-s.ensures.bounds in
     let e = end_same _ _ {k = c.loop-limit.i + c.search-s.result.low} (omega (arith, inv.1)) inv.2 (omega (arith, b.0)) (omega (arith, c.if-limit-i.false)) in
-    (rw c.store-in-loop-limit.ensures (galloping_more inv.0 (steps_valid _ _ _) inv.1 _ c.search-s.ensures.0), e.0, e.1)
+    (rw c.store-in-loop-limit.ensures (galloping_more inv.0 (steps_valid _ _ _) inv.1 _ c.search-s.ensures.finds), e.0, e.1)

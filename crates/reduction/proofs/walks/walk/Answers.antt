@@ -26,7 +26,7 @@ shape_of-out-then-last-i c = omega (arith, c.loop-limit.invariant.0.same)
 pub returns-then-last-i : goal.returns-then-last-i
 returns-then-last-i c =
     let inv = c.loop-limit.invariant in
-    rw c.store-in-loop-limit.ensures (walk_filled _ _ (filling_more inv.0 (walk_bounds _ _ (steps_valid _ _ _)) inv.1 c.stop_after-i.ensures.0) c.args.out.now c.store.ensures c.if-last-i.true)
+    rw c.store-in-loop-limit.ensures (walk_filled _ _ (filling_more inv.0 (walk_bounds _ _ (steps_valid _ _ _)) inv.1 c.stop_after-i.ensures.stop) c.args.out.now c.store.ensures c.if-last-i.true)
 
 pub links_end-limit-requires-then-limit-i : goal.links_end-limit-requires-then-limit-i
 links_end-limit-requires-then-limit-i c = let pre = c.requires in (pre.0, omega (arith, c.if-last-i.false, pre.0.some))
@@ -34,11 +34,11 @@ links_end-limit-requires-then-limit-i c = let pre = c.requires in (pre.0, omega 
 pub loop-limit-preserved-then-limit-i : goal.loop-limit-preserved-then-limit-i
 loop-limit-preserved-then-limit-i c =
     let inv = c.loop-limit.invariant in
-    (rw c.store-in-loop-limit.ensures (filling_more inv.0 (walk_bounds _ _ (steps_valid _ _ _)) inv.1 c.stop_after-i.ensures.0), omega (arith, c.if-last-i.false), c.links_end-limit-then-limit-i.ensures)
+    (rw c.store-in-loop-limit.ensures (filling_more inv.0 (walk_bounds _ _ (steps_valid _ _ _)) inv.1 c.stop_after-i.ensures.stop), omega (arith, c.if-last-i.false), c.links_end-limit-then-limit-i.ensures)
 
 pub loop-limit-preserved : goal.loop-limit-preserved
 loop-limit-preserved c =
     let inv = c.loop-limit.invariant in
-    let b = c.stop_after-i.ensures.1 in
+    let b = c.stop_after-i.ensures.bounds in
     let e = end_same _ _ {k = c.stop_after-i.result} (omega (arith, inv.1)) inv.2 (omega (arith, b.0)) (omega (arith, c.if-limit-i.false)) in
-    (rw c.store-in-loop-limit.ensures (filling_more inv.0 (walk_bounds _ _ (steps_valid _ _ _)) inv.1 c.stop_after-i.ensures.0), e.0, e.1)
+    (rw c.store-in-loop-limit.ensures (filling_more inv.0 (walk_bounds _ _ (steps_valid _ _ _)) inv.1 c.stop_after-i.ensures.stop), e.0, e.1)

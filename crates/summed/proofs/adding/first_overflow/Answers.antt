@@ -1,6 +1,5 @@
 -- `summed::adding::first_overflow` meets its contract: it searches only where some sum overflows. Assumes nothing.
 use mathlib.Core.Path.{sym, ◌∙◌}
-use Prim.Native.Nat.{◌-◌}
 use native.Mathlib.Omega.{arith}
 use Rattle.lists.proofs.FirstLaws.{first_none, searching_none, searching_more, searched_at, searched_none}
 use Rattle.summed.proofs.adding.first_overflow.Goals as goal

@@ -1,7 +1,6 @@
 -- `summed::adding::some_overflow` meets its contract: while `some` is false no sum before k overflows. Assumes nothing.
 use mathlib.Core.Path.{ap}
 use mathlib.Core.Bool.{not}
-use Prim.Native.Nat.{◌-◌}
 use native.Mathlib.Omega.{arith}
 use Rattle.lists.proofs.FirstLaws.{passing_none, passing_more, passed}
 use Rattle.summed.proofs.adding.some_overflow.Goals as goal
