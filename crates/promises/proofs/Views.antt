@@ -2,7 +2,7 @@
 -- changed only by additions, its error is at most twice that of every kept list of the samples so far with at most k inner samples, so at most twice what `least`
 -- returns for k + 2 samples.
 -- Assumes nothing.
-use mathlib.Core.Path.{◌≡◌, refl, sym, ap, ◌∙◌}
+use mathlib.Core.Path.{◌≡◌, refl, sym, ap, ◌∙◌, subst}
 use mathlib.Core.List.{List}
 use Prim.Native.Nat.{ℕ, zero, suc, ◌+◌, ◌-◌, ◌≤◌, ◌<◌}
 use native.Mathlib.Omega.{arith}
@@ -47,11 +47,14 @@ module _ (ts : List ℕ) (vs : List ℤ) (k : ℕ) where
       let u = w.0 in
       let before = watched_list n u (omega arith) w.1.0 in
       let g = w.1.1 in
+      let err = link_error (so_far (suc n)) (values_so_far (suc n)) in
       let long : length (so_far (suc n)) ≡ suc (suc n) = length-take-le (suc (suc n)) ts (omega arith) in
       let last : length (so_far (suc n)) - 1 ≡ suc n = omega arith in
       let early : length (so_far (suc n)) - 2 ≡ n = omega arith in (
         ap (λ (x : View). x.k) g.is ∙ before.0,
-        (rw (early, last, before.0) at g.follows) (before.1 ∙ sym (view_so_far (suc n) n (omega arith))) ∙ view_so_far (suc n) (suc n) (omega arith),
+        subst (λ (j : ℕ). entries u ≡ view_of err j n → entries v ≡ view_of err j (suc n)) before.0 (rw (early, last) at g.follows)
+            (before.1 ∙ sym (view_so_far (suc n) n (omega arith)))
+            ∙ view_so_far (suc n) (suc n) (omega arith),
       )
 
   watched_close : (n : ℕ) (v : View) → n < length ts → Watched ts vs k n v

@@ -9,16 +9,6 @@ use Rattle.lists.proofs.PartLaws.{Writing, writing_none, writing_more, writing_a
 use Rattle.tolerances.specs.declared.Entry.{Entry}
 use Rattle.border.specs.Border.{entry_of}
 use Rattle.border.proofs.tolerances_of.Goals as goal
-use Rattle.border.proofs.tolerances_of.Lts as lts
-use Rattle.border.proofs.tolerances_of.Tie as tie
-use Rattle.border.proofs.tolerances_of.Reads as reads
-
-abbrev Start : Type 0
-Start = lts.Start tie.the-claims reads.Pre reads.Post goal.the-invariant-loop-k goal.the-decreases-loop-k
-
--- that the array has 16 entries stands in what owning it tells
-sized : (c : Start) → length (map entry_of c.args.t.list) ≡ 16
-sized c = length-map c.args.t.list entry_of ∙ sym (length-map c.args.t.list _) ∙ c.well_formed.0.1.1.1.0.1.0.1
 
 -- all 16 are written
 whole : {l o out : List Entry} {k : ℕ} → Writing l o out k → length l ≡ 16 → 16 ≤ k → length o ≤ 16 → out ≡ l
@@ -27,10 +17,11 @@ whole {l} {o} w s le h = writing_all w (omega arith) ∙ overwrite_whole l o (om
 pub loop-k-init : goal.loop-k-init
 loop-k-init c = writing_none _ _
 
+-- that the array has 16 entries stands in what owning it tells
 pub loop-k-preserved : goal.loop-k-preserved
 loop-k-preserved c =
-    let s = sized c.before.before.before.before.before.before in
+    let s : length (map entry_of c.args.t.list) ≡ 16 = length-map c.args.t.list entry_of ∙ c.well_formed.0.1.1.1.0.1.0.1 in
     writing_more c.loop-k.invariant _ (omega (arith, c.loop-k-test.true)) (omega arith) (c.entry_of-entry.ensures ∙ sym (get_or-map entry_of c.args.t.list _ _))
 
 pub returns : goal.returns
-returns c = rw (whole c.loop-k.invariant (sized c.before.before.before.before) (omega (arith, c.loop-k-test.false)) (omega arith))
+returns c = rw (whole c.loop-k.invariant (length-map c.args.t.list entry_of ∙ c.well_formed.0.1.1.1.0.1.0.1) (omega (arith, c.loop-k-test.false)) (omega arith))

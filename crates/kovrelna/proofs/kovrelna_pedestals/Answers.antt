@@ -11,5 +11,5 @@ returns c =
     record {
       answer = r.result;
       is = c.listed_of.ensures;
-      outcome = subst (λ (x : Tolerance). CompareOutcome (run_of a.ticks1.now a.values1.now a.lengths1.now) (run_of a.ticks2.now a.values2.now a.lengths2.now) x a.k a.moved.now a.noisy.now r.result r.new.1.1.1.1.1.1.1.1.0 r.new.1.1.1.1.1.1.1.1.1.0) c.tolerance_of.ensures r.ensures;
+      outcome = subst (λ (x : Tolerance). CompareOutcome (run_of a.ticks1.now a.values1.now a.lengths1.now) (run_of a.ticks2.now a.values2.now a.lengths2.now) x a.k a.moved.now a.noisy.now r.result r.new.moved r.new.noisy) c.tolerance_of.ensures r.ensures;
     }
