@@ -19,8 +19,8 @@ use Rattle.codes.specs.RangeTable.{table_row, expand_with_rows}
 module _ (codes : List ℕ) (t : List ℤ) (room : ℕ) where
   -- the rows, with what row 12 finds between 1 and 10
   pub with_table : {found : Checked} → table_row t ≡ found → expand_with_rows codes t room ≡ (row (leb 1 (length codes) && leb (length codes) 4096) Length then_check found then_check room_row (length codes) room)
-  unfolding expand_with_rows table_row
-  with_table e = ap (λ (found : Checked). row (leb 1 (length codes) && leb (length codes) 4096) Length then_check found then_check room_row (length codes) room) e
+  unfolding expand_with_rows
+  with_table e = rw e refl
 
   pub with_none : length codes < 1 → Refused Length ≡ expand_with_rows codes t room
   with_none h = rw (with_table refl, lt-leb 1 (length codes) h)
