@@ -1,7 +1,7 @@
 -- What the structs of the C interface stand for: the enums of the public calls.
---   tolerance_of, limits_of   the tolerance that a form gives; with the gap limit
---   entry_of, tolerances_of   one of several tolerances; all of them
---   side_number   the number of a side
+--   tolerance_of, limits_of the tolerance that a form gives; with the gap limit
+--   entry_of, tolerances_of one of several tolerances; all of them
+--   side_number the number  of a side
 --   number_in, value_in   0 and 0 for success, or the refusal's number and value
 --   held_of, measured_of, judged_of, judged_greedy_of, kept_of, checked_of, begun_of, scanned_of, galloped_of, closest_of, written_of, read_of, compared_of, report_of, listed_of   an answer as numbers: 0 for success, or the refusal's number and value
 --   stepped_of   what an addition to a view answers, as numbers, and the state after it

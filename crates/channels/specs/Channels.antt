@@ -1,8 +1,8 @@
 -- Channels that come end to end (document 02, "Whole-crate report"): their entries of a list, and row 11 of the table.
---   part                     n entries from a place on
+--   part                       n entries from a place on
 --   sum, place_of, of_channel  the sum of lengths; where a channel begins; its entries of a list
---   crate_row                 row 11
---   Divided                  what it shows: at most 64 channels, whose lengths add up to each list
+--   crate_row                  row 11
+--   Divided                    what it shows: at most 64 channels, whose lengths add up to each list
 -- Laws are in ChannelLaws. Assumes nothing.
 use Rattle.std.specs.Prelude.{◌≡◌, ◌&&◌, List, [], ◌∷◌, ℕ, ◌+◌, ◌≤◌, leb, eqb, ℤ, length, take, drop, get_or}
 use Rattle.refusal.specs.declared.Checked.{Checked}

@@ -1,5 +1,5 @@
 -- The outcomes of the checks of lent lists (document 01, "When the engine declines", rows 1, 2 and 3; document 02, "Whole-crate report", row 11).
---   own_rows        the first of the rows 1, 2, 3 that applies to ticks and values, from the crate `judging`
+--   own_rows       the first of the rows 1, 2, 3 that applies to ticks and values, from the crate `judging`
 --   TraceOutcome   the contract of `check_trace`: that row; where none applies, the two lists are a trace
 --   CrateOutcome   the contract of `check_crate`: row 11; where it does not apply, the lengths divide the two lists
 -- Assumes nothing.

@@ -1,5 +1,5 @@
 -- The outcome of `hold` (document 01, "Tolerances" and row 4 of "When the engine declines"; document 02, "Above and below").
---   holding_of     what `hold` answers for a meaning
+--   holding_of    what `hold` answers for a meaning
 --   HoldOutcome   the contract
 -- Assumes nothing.
 use Rattle.std.specs.Prelude.{◌≡◌}

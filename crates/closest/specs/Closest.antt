@@ -1,12 +1,12 @@
 -- Least of a trace (document 01, "The four reductions"), and what a search for it knows.
 --   least_error   the least error over the kept lists of at most m samples that obey the gap limit g
 --   obeying_list  the shortest kept list that obeys it; fewest_samples is how many samples it has
---   Task         a trace of at most 256 samples, and an allowance from 2 on that some list obeying the gap limit keeps to
---   Reached      the error of a kept list of at most m samples that obeys the gap limit
---   Tried        what the trial of a tolerance x says
---   Narrowed     an interval of tolerances below an error that is reached
---   Candidate    a fraction that may be tried
---   Before       the greatest fraction below x of the denominators that link errors have
+--   Task          a trace of at most 256 samples, and an allowance from 2 on that some list obeying the gap limit keeps to
+--   Reached       the error of a kept list of at most m samples that obeys the gap limit
+--   Tried         what the trial of a tolerance x says
+--   Narrowed      an interval of tolerances below an error that is reached
+--   Candidate     a fraction that may be tried
+--   Before        the greatest fraction below x of the denominators that link errors have
 -- Laws are in ClosestLaws. Assumes nothing.
 use Rattle.std.specs.Prelude.{◌≡◌, true, false, List, ℕ, ◌-◌, ◌≤◌, ◌<◌, ℤ, length}
 use Rattle.ratio.specs.declared.Ratio.{Ratio}

@@ -1,9 +1,9 @@
 -- Tables of range values (document 02, "Our own range table"), and the rows 1, 12 and 10 of document 01, "When the engine
 -- declines".
 --   value_in, values_in   the value of a code in a table; those of codes, as expanding by it writes them
---   Rises               each value is above the one before
---   not_rising           the codes of which row 12 names the first
---   table_row            row 12: whether a table may be used
+--   Rises                 each value is above the one before
+--   not_rising            the codes of which row 12 names the first
+--   table_row             row 12: whether a table may be used
 --   expand_with_rows      the first of the rows 1, 12, 10 that applies to codes, a table and an output of `room` entries
 -- Laws are in RangeTableLaws. Assumes nothing.
 use Rattle.std.specs.Prelude.{Bool, ◌&&◌, List, ℕ, suc, ◌-◌, ◌<◌, leb, eqb, ℤ, pos, length, get_or, ◌<ℤ◌}

@@ -1,7 +1,7 @@
 -- What the passes over the commands of a record go by (document 01, "The record").
---   record_verdict            a record's verdict
---   is_sample                 a step leads to a sample
---   closed_by                 the verdict after the last sample
+--   record_verdict           a record's verdict
+--   is_sample                a step leads to a sample
+--   closed_by                the verdict after the last sample
 --   CursorOk, AfterFirst     a cursor within a record; one after the first sample
 --   Entry, Fitting, Filled   lists with an entry for a sample; for all samples; samples written over them
 -- Laws are in PassLaws and CommandsAt. Assumes nothing.

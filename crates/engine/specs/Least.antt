@@ -1,5 +1,5 @@
 -- The outcome of least (document 01, "The four reductions"), with demand 3 for it.
---   ok_at           the link test of a trace at a tolerance p/q under a gap limit
+--   ok_at          the link test of a trace at a tolerance p/q under a gap limit
 --   LeastKept      what holds of a list kept, and of its error
 --   LeastOutcome   the contract: by cases on the answer
 -- A refused call leaves the lent list as it was. Otherwise its first entries are the list, and the others stay.

@@ -1,5 +1,5 @@
 -- The outcomes of the greedy reductions, walk and gallop (document 01, "The four reductions", and demands 1, 2 and 3).
---   ok_of                         the link test of a trace under limits
+--   ok_of                        the link test of a trace under limits
 --   GreedyList                   a kept list of valid links with maximal stops, and demand 3 of it
 --   WalkKept, GallopKept         what holds where walk, gallop kept a list
 --   WalkOutcome, GallopOutcome   the contracts: by cases on the answer

@@ -1,7 +1,7 @@
 -- The outcome of write (document 01, "The record" and "When the engine declines").
---   write_rows      the first row that applies, in the order 1, 2, 3, 4, 15, 6, 7, 10
---   link_row        row 7: an invalid link
---   content_of      what is written: the held tolerance and the samples that the list keeps
+--   write_rows     the first row that applies, in the order 1, 2, 3, 4, 15, 6, 7, 10
+--   link_row       row 7: an invalid link
+--   content_of     what is written: the held tolerance and the samples that the list keeps
 --   Recorded       what holds where a record was written
 --   WriteOutcome   the contract: by cases on the answer
 --   ListReady      what the checks 1 to 4, 15 and 6 give

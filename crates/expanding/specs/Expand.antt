@@ -1,6 +1,6 @@
 -- The outcomes of expand (document 01, "Range codes" and rows 1 and 10 of "When the engine declines") and of expand_with
 -- (document 02, "Our own range table").
---   expand_rows                         the first of the rows 1, 10 that applies; every code is legal
+--   expand_rows                        the first of the rows 1, 10 that applies; every code is legal
 --   ExpandOutcome, ExpandWithOutcome   the contracts: by cases on the answer
 -- A refused call leaves the lent list as it was. Otherwise its first entries are the values, and the others stay.
 -- Assumes nothing.

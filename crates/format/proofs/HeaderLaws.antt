@@ -1,6 +1,6 @@
 -- Laws of the header, a tolerance and the first sample: what it is read as, and what it says of the bytes.
 --   tolerance_size   the bytes of a tolerance's command
---   start           the cursor after the first sample, where the tolerance has k bytes
+--   start            the cursor after the first sample, where the tolerance has k bytes
 -- Assumes nothing.
 use mathlib.Core.Path.{◌≡◌, refl, sym, ap, ◌∙◌, subst}
 use mathlib.Core.Bool.{Bool, true, false, not, ◌&&◌}

@@ -1,13 +1,13 @@
 -- The commands of a record (document 01, "The record", the table of commands; document 02, "Above and below", for 42).
 --   ratio_onto     a ratio as it is written, before other bytes: p in 5 bytes, q in 3
 --   ratio_at       the ratio from a place on
---   RatioRange    the range of what these bytes hold
+--   RatioRange     the range of what these bytes hold
 --   size_of        the bytes of a command
 --   command_onto   a command as it is written, before other bytes
---   choose        one of two, by a test
---   opens         bytes start with a whole command of a kind
+--   choose         one of two, by a test
+--   opens          bytes start with a whole command of a kind
 --   command_of     the command that bytes start with: Invalid if it is cut off or none of the table's
---   Operands      the ranges of a command's operands
+--   Operands       the ranges of a command's operands
 -- Laws are in CommandLaws. Assumes nothing.
 use Rattle.std.specs.Prelude.{Bool, true, false, ◌&&◌, List, ◌∷◌, ℕ, ◌+◌, ◌≤◌, leb, eqb, length, get_or}
 use Rattle.ratio.specs.declared.Ratio.{Ratio}

@@ -1,26 +1,26 @@
 -- The format of a record (document 01, "The record"; document 02, "Above and below"): what a record says, and the record that says it.
---   Content, Legal                   a tolerance in two parts, and samples; what can be said
---   is_held                           a ratio is allowed as a tolerance, and in lowest terms
---   are_sides                         both parts are, and they differ
---   in_limits, short                  a sample is within the limits of a trace; a step is short
---   follows                          a sample may follow the one at a cursor
---   short_obeys, long_obeys            a short and a long step obey the rules
---   moved                            where a step leads, or its fault
+--   Content, Legal                      a tolerance in two parts, and samples; what can be said
+--   is_held                             a ratio is allowed as a tolerance, and in lowest terms
+--   are_sides                           both parts are, and they differ
+--   in_limits, short                    a sample is within the limits of a trace; a step is short
+--   follows                             a sample may follow the one at a cursor
+--   short_obeys, long_obeys             a short and a long step obey the rules
+--   moved                               where a step leads, or its fault
 --   short_step, long_step, end_step     what each command after the first sample does
---   obey, step_of                     what a command does at a cursor; the command there
---   Samples                          samples, or the fault's byte
---   onto, follow                     a sample before others; a step, and the samples after it
---   steps, samples_from               the samples that the commands from a cursor on give; with the cursor's own before them
---   sample_header, tolerance_header    the first sample's command after a tolerance of k bytes; the tolerance's command, and then that one
---   header_of                         the tolerance and the first sample of a record, or the fault's byte
---   Parsed                           what a record says, or the fault's byte
---   attach, began                    what samples say with a tolerance; what a record says from its header on
---   parse                            what a record says
---   tolerance_command                 the command that says a tolerance: 54 for equal parts, 42 for others
+--   obey, step_of                       what a command does at a cursor; the command there
+--   Samples                             samples, or the fault's byte
+--   onto, follow                        a sample before others; a step, and the samples after it
+--   steps, samples_from                 the samples that the commands from a cursor on give; with the cursor's own before them
+--   sample_header, tolerance_header     the first sample's command after a tolerance of k bytes; the tolerance's command, and then that one
+--   header_of                           the tolerance and the first sample of a record, or the fault's byte
+--   Parsed                              what a record says, or the fault's byte
+--   attach, began                       what samples say with a tolerance; what a record says from its header on
+--   parse                               what a record says
+--   tolerance_command                   the command that says a tolerance: 54 for equal parts, 42 for others
 --   step_to, steps_onto, samples_onto   a step as a command; steps as they are written, before other bytes; all samples' commands
---   encode                           the record of a content
---   Accepted                         what holds of an accepted record and its content
---   SameRecord                       two records are the same: both parts of their tolerances agree, and their kept samples
+--   encode                              the record of a content
+--   Accepted                            what holds of an accepted record and its content
+--   SameRecord                          two records are the same: both parts of their tolerances agree, and their kept samples
 -- Where a fault lies is said without the parser in Fault.
 -- Laws are in RuleLaws, HeaderLaws, ParseEncode, EncodeParse, FaultLaws and SameLaws; examples are in proofs/Examples. Assumes nothing.
 use Rattle.std.specs.Prelude.{◌≡◌, Bool, not, ◌&&◌, List, [], ◌∷◌, ℕ, zero, suc, ◌+◌, ◌-◌, ◌≤◌, ◌<◌, leb, eqb, ltb, ℤ, length, drop}

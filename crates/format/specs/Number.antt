@@ -1,8 +1,8 @@
 -- Numbers in a record (document 01, "The record"): high byte first, signed ones in two's complement.
 --   number_from, field   the number in some bytes; the number in k bytes from a place on
 --   bytes_onto           the bytes of a number, before other bytes
---   Bytes               every element is a byte
---   flip16, flip8       offset binary to two's complement, of 16 bits and of 8; and back
+--   Bytes                every element is a byte
+--   flip16, flip8        offset binary to two's complement, of 16 bits and of 8; and back
 --   value_of             the value of a level
 -- Laws are in NumberLaws. Assumes nothing.
 use Rattle.std.specs.Prelude.{List, [], ◌∷◌, ℕ, zero, suc, ◌+◌, ◌*◌, ◌/◌, ◌%◌, ◌<◌, ℤ, pos, ◌-ℤ◌, take, drop, get_or}

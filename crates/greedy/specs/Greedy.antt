@@ -1,16 +1,16 @@
 -- The outcome of `judge_greedy`, judge's second question (document 02, "Lists from other labs").
 --   further              the sample after a link's end is reached from its start too: the stop is not maximal
---   test_of               whether a link is valid and, if so, whether its stop is not maximal
---   faulty_at             a link at fault: it is invalid, or its stop is not maximal
---   first_faulty          the first one's position, the number of links where there is none
---   fault_at              which fault is named at a position
---   list_greedy           yes, or the first fault
---   decline_greedy        a refusal, or else the verdict
---   judge_greedy_of        what `judge_greedy` answers
+--   test_of              whether a link is valid and, if so, whether its stop is not maximal
+--   faulty_at            a link at fault: it is invalid, or its stop is not maximal
+--   first_faulty         the first one's position, the number of links where there is none
+--   fault_at             which fault is named at a position
+--   list_greedy          yes, or the first fault
+--   decline_greedy       a refusal, or else the verdict
+--   judge_greedy_of      what `judge_greedy` answers
 --   FirstAt              every link before a position is a greedy stop
 --   LinkFault, StopFault what each fault says
 --   JudgeGreedyOutcome   its contract
---   greedy_at             the answer where the checks 1 to 4 and 15 pass
+--   greedy_at            the answer where the checks 1 to 4 and 15 pass
 -- Its rows are those of `judge` (judging: specs/Judge, `judge_rows`). Laws are in GreedyLaws. Assumes nothing.
 use Rattle.std.specs.Prelude.{◌≡◌, ◌↔◌, Bool, true, false, cond, ◌&&◌, ◌||◌, List, ℕ, suc, ◌-◌, ◌<◌, leb, ltb, ℤ, length}
 use Rattle.lists.specs.First.{first}

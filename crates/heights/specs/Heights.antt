@@ -1,17 +1,17 @@
 -- The lines of a kept list, beside those of its trace, and the heights read off them (document 01, "The trace and its links").
 --   Fraction              a signed numerator over a denominator
---   link_at                the straight line of a link at the tick a/d
---   line_from, line_at      the lines of the list i ∷ s and of any list at the tick a/d
---   samples_after          the n samples after sample i
---   every_sample, all_of    the list of the samples 0 .. last; of all samples of a trace
---   trace_at               the lines of all samples: the trace's own
+--   link_at               the straight line of a link at the tick a/d
+--   line_from, line_at    the lines of the list i ∷ s and of any list at the tick a/d
+--   samples_after         the n samples after sample i
+--   every_sample, all_of  the list of the samples 0 .. last; of all samples of a trace
+--   trace_at              the lines of all samples: the trace's own
 --   OnTrace               a/d is a tick between the first and the last, whole or fractional
 --   Excess                a fraction is at most p/q above another
 --   Near                  a fraction that stands for another is at most so much too large and at most so much too small
 --   Apart                 two fractions differ by at most p/q: near, with p/q on either side
 --   Equals, Between       a fraction is a whole number; it lies between two
 --   higher, lower         the higher and the lower of two values
---   joined, of_samples     the values of the samples i ∷ s, or of any list, joined by a function of two
+--   joined, of_samples    the values of the samples i ∷ s, or of any list, joined by a function of two
 --   peak, trough, height  the greatest and the least value of a list's samples, and their difference
 --   Attained, Extremes    a list's lines have a value at some sample; peak and trough are the greatest and the least value on them
 -- A fraction with the denominator 0 is none: Excess, Near, Apart, Equals and Between ask for more. Laws are in proofs/. Assumes nothing.

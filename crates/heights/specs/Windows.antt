@@ -5,15 +5,15 @@
 --   opposite              a fraction times -1
 --   multiple              m/n times p/q
 --   Window                the n whole ticks a, a+1, .. lie between the first and the last
---   sum_at, mean_at         the sum and the mean of a line at the n whole ticks a, a+1, ..
---   value_sum              the sum of the values of the n samples k, k+1, ..
+--   sum_at, mean_at       the sum and the mean of a line at the n whole ticks a, a+1, ..
+--   value_sum             the sum of the values of the n samples k, k+1, ..
 --   clipped               a tick, or the nearer end of a stretch of ticks that it is not in
 --   trapezoid             the area under a straight line from a height to a height over w/d ticks
---   area_under             the area under the line of a link from the tick a/d to the tick b/d
---   area_from, area_of      the area under the lines of the list i ∷ s, or of any list, from the tick a/d to the tick b/d
---   mean_over              the mean of a list's lines from the tick a/d to the tick b/d: their area over its ticks
---   baseline_height        the greatest value of a list's samples minus a mean
---   baseline_depth         a mean minus the least value of a list's samples
+--   area_under            the area under the line of a link from the tick a/d to the tick b/d
+--   area_from, area_of    the area under the lines of the list i ∷ s, or of any list, from the tick a/d to the tick b/d
+--   mean_over             the mean of a list's lines from the tick a/d to the tick b/d: their area over its ticks
+--   baseline_height       the greatest value of a list's samples minus a mean
+--   baseline_depth        a mean minus the least value of a list's samples
 -- Laws are in FractionLaws, AreaLaws and WindowLaws. Assumes nothing.
 use Rattle.std.specs.Prelude.{List, [], ◌∷◌, ℕ, zero, suc, ◌+◌, ◌-◌, ◌*◌, ◌≤◌, min, max, ℤ, pos, neg_ℤ, ◌+ℤ◌, ◌*ℤ◌, length}
 use Rattle.ratio.specs.declared.Ratio.{Ratio}

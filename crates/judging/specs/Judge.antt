@@ -1,10 +1,10 @@
 -- The outcome of `judge` (document 01, "The four reductions" and "When the engine declines").
---   judge_rows      the first row that applies, in the order 1, 2, 3, 4, 15, 6
---   list_verdict    yes, or no at the first invalid link, with where it strays (document 02, "Where the line strays")
---   decline_or      a refusal, or else the verdict
---   judge_of        what `judge` answers
+--   judge_rows     the first row that applies, in the order 1, 2, 3, 4, 15, 6
+--   list_verdict   yes, or no at the first invalid link, with where it strays (document 02, "Where the line strays")
+--   decline_or     a refusal, or else the verdict
+--   judge_of       what `judge` answers
 --   JudgeOutcome   its contract
---   judged_at       the answer where the checks 1 to 4 and 15 pass
+--   judged_at      the answer where the checks 1 to 4 and 15 pass
 -- Assumes nothing.
 use Rattle.std.specs.Prelude.{◌≡◌, ◌↔◌, cond, List, ℕ, suc, ◌-◌, leb, ℤ, length}
 use Rattle.refusal.specs.declared.Checked.{Checked}

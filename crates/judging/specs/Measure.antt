@@ -3,7 +3,7 @@
 --   measure_rows      the first of the rows 1, 2, 3, 6 that applies
 --   decline_measure   a refusal, or else the measure
 --   measured_by       what `measure` answers
---   MeasureOutcome   its contract
+--   MeasureOutcome    its contract
 --   measured_at       the answer where the checks 1 to 3 pass
 -- Assumes nothing.
 use Rattle.std.specs.Prelude.{◌≡◌, List, ℕ, ℤ, length}

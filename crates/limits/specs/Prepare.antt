@@ -1,15 +1,15 @@
 -- The checks of a trace and its limits, a tolerance and a gap limit, which several calls have in common (document 01, "When the engine declines";
 -- document 02, "Dropouts").
 --   unlimited                     the limits of a tolerance alone: the gap limit is at its largest
---   tolerance_row, gap_row          rows 4 and 15
---   limit_rows                     the first of the rows 4, 15 that applies
---   common_rows                    the first of the rows 1, 2, 3, 4, 15 that applies
---   criterion_in, criterion_of      the criterion that a meaning under a gap limit, that limits set
---   parts_of                       the parts of a criterion
+--   tolerance_row, gap_row        rows 4 and 15
+--   limit_rows                    the first of the rows 4, 15 that applies
+--   common_rows                   the first of the rows 1, 2, 3, 4, 15 that applies
+--   criterion_in, criterion_of    the criterion that a meaning under a gap limit, that limits set
+--   parts_of                      the parts of a criterion
 --   Under                         what check 15 gives: the criterion of two parts under the gap limit, or the row
 --   Sets, Allowed                 what the checks 4 and 15 give: the criterion that allowed limits set, or the row
 --   ReadyAt, Prepared             what the checks 1 to 4 and 15 give: a trace and that criterion, or the row
---   output_rows                    the first of the rows 1, 2, 3, 4, 15, 10 that applies, for a list that needs as many entries as the trace has samples
+--   output_rows                   the first of the rows 1, 2, 3, 4, 15, 10 that applies, for a list that needs as many entries as the trace has samples
 --   OutputReady, OutputPrepared   what these checks give
 -- Assumes nothing.
 use Rattle.std.specs.Prelude.{◌≡◌, ◌&&◌, List, ℕ, ◌≤◌, leb, ℤ, length}

@@ -1,9 +1,9 @@
 -- How the two lists are made, channel by channel, for runs of the same lengths.
---   Put                  a channel behind the entries of a list, if it belongs there
---   PartFits             a channel that lies in both runs, and can be compared
---   Listable             what the checks show: runs of the same lengths, and room for each channel in both lists
+--   Put                    a channel behind the entries of a list, if it belongs there
+--   PartFits               a channel that lies in both runs, and can be compared
+--   Listable               what the checks show: runs of the same lengths, and room for each channel in both lists
 --   moved_in, noisy_in     the two tests of a channel
---   BothListed           both lists are made
+--   BothListed             both lists are made
 -- Laws are in ListingLaws. Assumes nothing.
 use Rattle.std.specs.Prelude.{◌≡◌, Bool, cond, List, ℕ, ◌+◌, ◌≤◌, ◌<◌, ℤ, length, set, get_or}
 use Rattle.lists.specs.Overwrite.{Wrote}

@@ -1,8 +1,8 @@
 -- The samples that an addition may drop.
 --   with_last       the first `count` entries, and the last sample of the trace
 --   deviation_at    the greatest deviation of the link that takes the place of entry t + 1, which need not be in lowest terms
---   better         the one of two that costs less, the earlier of equals
---   Candidates     what is asked: the entries are a kept list of the samples before the last
+--   better          the one of two that costs less, the earlier of equals
+--   Candidates      what is asked: the entries are a kept list of the samples before the last
 -- Laws are in CandidateLaws. Assumes nothing.
 use Rattle.std.specs.Prelude.{cond, List, [], ◌∷◌, ◌++◌, ℕ, suc, ◌-◌, ◌*◌, ◌≤◌, leb, ℤ, length, get_or, take}
 use Rattle.ratio.specs.declared.Ratio.{Ratio}

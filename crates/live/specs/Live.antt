@@ -1,11 +1,11 @@
 -- The live view of a trace (document 02, "Live view"): the state, the checks of it, and what an addition does.
 --   fresh         a state with the sample 0 in every entry
---   begun_of       what a view is begun with, and what is answered
+--   begun_of      what a view is begun with, and what is answered
 --   entries       the list that a state holds
 --   passes        whether a check found nothing
---   is_view        whether a state is a view of n samples: a kept list of them, with k and the number of inner samples in range
---   state_row      row 20 of a state, for n earlier samples
---   add_rows       the first of the rows 1, 2, 3, 20 that applies to an addition
+--   is_view       whether a state is a view of n samples: a kept list of them, with k and the number of inner samples in range
+--   state_row     row 20 of a state, for n earlier samples
+--   add_rows      the first of the rows 1, 2, 3, 20 that applies to an addition
 --   grown         the state after an addition
 --   Ready         what an addition asks of a state and a trace
 --   Grown         what holds of the state after an addition

@@ -6,9 +6,9 @@
 --   measure_of     the measure of the link i to j
 --   gap_of         what is said of a link across a hole: its error, "gap" and the sample before its first hole
 --   fault_of       what is said of an invalid link: its measure; what is said of its hole, if each sample is within the criterion
---   Strays        what a measure says: the sample deviates by the error, none before it does, and the side is its deviation's sign
---   Cut           each sample of a link is within the criterion, and a hole follows a sample
---   Outside       some sample of a link is not within the criterion; at equal parts the sample that is named is not
+--   Strays         what a measure says: the sample deviates by the error, none before it does, and the side is its deviation's sign
+--   Cut            each sample of a link is within the criterion, and a hole follows a sample
+--   Outside        some sample of a link is not within the criterion; at equal parts the sample that is named is not
 --   OffendsOn, Offends   what is said of an invalid link, and that it is so
 -- Laws are in MeasureLaws. Assumes nothing.
 use Rattle.std.specs.Prelude.{◌≡◌, Bool, cond, List, ℕ, suc, ◌-◌, ◌*◌, ◌≤◌, ◌<◌, eqb, ℤ, nat_abs}

@@ -1,10 +1,10 @@
 -- What the checks of a comparison find, step by step, and what they show of two runs that pass.
 --   OwnChecked                       the checks 1, 2, 3 of n samples from a place on
---   second_row, parts_row              the rows of channel c from a place on: of run 2 and 13; of both runs and 13
+--   second_row, parts_row            the rows of channel c from a place on: of run 2 and 13; of both runs and 13
 --   SecondChecked, ChannelChecked    what the checks of a channel find
 --   Alike, ChannelsChecked           equal lengths, each at most 4,096; what the checks of all channels find
 --   DividedRuns                      both runs are divided into as many channels
---   earlier_row, EarlierChecked       row 11 of run 2, with the counts, and what its check finds
+--   earlier_row, EarlierChecked      row 11 of run 2, with the counts, and what its check finds
 --   RunsChecked, CallChecked         what check 11 of both runs finds, and with 14 before it
 --   RestChecked, Called              what the checks of the channels and 10 find; what 14 and 11 show
 --   HeldOne                          what check 4 finds: the ratio of both parts, or the row

@@ -1,15 +1,15 @@
 -- The comparison of two pedestal runs of a crate (document 02, "Morning pedestals"): its rows, its lists and its outcome. Run 1 is today's.
---   Run, run_of                    a run: ticks and values end to end, and the channels' lengths
+--   Run, run_of                     a run: ticks and values end to end, and the channels' lengths
 --   ticks_of, values_of             a channel's ticks and values
---   held_ratio                     the ratio that both parts of an allowed tolerance are held as
+--   held_ratio                      the ratio that both parts of an allowed tolerance are held as
 --   cause_number, cause_value       the number and the value of a refusal: of a channel's trace its own number, with the channel
---   called, in_channel, _then_     a row as one of the call, as one of a channel's trace; the first row that applies
---   factor_row, runs_row, one_row    rows 14, 11 and 4
+--   called, in_channel, ◌then◌      a row as one of the call, as one of a channel's trace; the first row that applies
+--   factor_row, runs_row, one_row   rows 14, 11 and 4
 --   channel_row, channel_rows       the first row that applies to a channel: run 1's 1, 2, 3, run 2's, 13; to each of several channels
 --   rooms_row, compare_rows         row 10; the first row that applies to the call
 --   has_moved, is_noisy             the two tests of a channel
 --   moved_channels, noisy_channels  the two lists, in channel order
---   Listed, CompareOutcome        the contract, by cases on the answer
+--   Listed, CompareOutcome          the contract, by cases on the answer
 -- A refused call leaves both lent lists as they were. Otherwise the first entries of each are its channels, and the others stay.
 -- Laws are in CheckLaws and ListLaws. Assumes nothing.
 use Rattle.std.specs.Prelude.{◌≡◌, Bool, ◌&&◌, List, ℕ, zero, suc, leb, eqb, ℤ, length, get_or}

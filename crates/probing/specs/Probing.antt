@@ -1,5 +1,5 @@
 -- The probes of a search from one sample of a trace (document 003, figure 7, and document 01, "The four reductions").
---   probe_at              the answer of a probe from sample i at an offset
+--   probe_at             the answer of a probe from sample i at an offset
 --   Yes                  the last yes of a search is within the trace, and the samples up to it have been taken in
 --   Probes, AfterProbe   a probe at a later offset, and the search after it
 -- Laws are in ProbingLaws. Assumes nothing.

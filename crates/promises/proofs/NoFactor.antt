@@ -24,7 +24,7 @@ use Rattle.kept.proofs.MinimumLaws.{minimum_of_lem, minimum_two}
 use Rattle.trace.specs.declared.Criterion.{Criterion}
 use Rattle.trace.specs.Trace.{tick, value, Trace}
 use Rattle.trace.specs.Link.{deviation, Within, valid, criterion}
-use Rattle.trace.proofs.Difference.{Diff, natural, size as type_size, size_at_most}
+use Rattle.trace.proofs.Difference.{Diff, natural, size as size_of, size_at_most}
 use Rattle.trace.proofs.Deviation.{line, diff}
 use Rattle.trace.proofs.TraceLaws.{trace_rows_lem}
 use Rattle.trace.proofs.Holes.{true_obeys, widest_obeys}
@@ -132,7 +132,7 @@ module _ (n : ℕ) (even : n % 2 ≡ 0) (two : 2 ≤ n) (few : n ≤ 4096) where
       let t : i + 2 - i ≡ 2 = omega arith in
       let s : i + 1 - i ≡ 1 = omega arith in
       let u : i + 2 - (i + 1) ≡ 1 = omega arith in
-      let six : nat_abs (deviation ts vs i (i + 2) (i + 1)) ≡ 6 = (rw (t, s, u) at (type_size (deviates i (i + 2) (i + 1) (omega arith) (omega arith) h))) ∙ alternates i in
+      let six : nat_abs (deviation ts vs i (i + 2) (i + 1)) ≡ 6 = (rw (t, s, u) at (size_of (deviates i (i + 2) (i + 1) (omega arith) (omega arith) h))) ∙ alternates i in
       valid_false ts vs c i (i + 2) (i + 1) (omega arith) (omega arith)
       (λ w. too_far ratio.p ratio.q (n - 2) ratio_is (lowest_pos (3 * (n - 2)) (n - 1) (omega arith))
       (rw (six, at (i + 2) h, at i (omega arith), t) at ((equal_parts ts vs 1048575 ratio i (i + 2) (i + 1)).0 w)))

@@ -1,7 +1,7 @@
 -- Gap limits (document 02, "Dropouts"): what is as without one where it is at its largest, and what 16 means.
 --   ListsAsBefore     the lists, the probes and the least error are document 01's, over its link test `all_within` and over every kept list
 --   RowsAsBefore      the rows of the table that apply are document 01's
---   beside_hole        an end of the trace, or a sample on either side of a hole
+--   beside_hole       an end of the trace, or a sample on either side of a hole
 --   ShortestObeying   the shortest kept list that obeys a gap limit: both ends, and the samples on either side of each hole
 -- The theorems are in proofs/Dropouts. Assumes nothing.
 use Rattle.std.specs.Prelude.{◌≡◌, Bool, ◌||◌, List, ℕ, ◌-◌, ◌≤◌, eqb, ℤ, length}

@@ -1,8 +1,8 @@
 -- At one tolerance no factor bounds walk's and gallop's lists by the shortest: the traces of values 0 3 0 3 .. 0 3, for an even number n of samples.
---   counting      the ticks 0 1 .. n - 1
---   zigzag        the values: 3 at each odd sample
+--   counting       the ticks 0 1 .. n - 1
+--   zigzag         the values: 3 at each odd sample
 --   just_wide      the tolerance 3 (n - 2) / (n - 1), at which the link from the first sample to the last is valid, and no gap limit
---   NoFactor      at this tolerance walk and gallop keep all n samples, and minimum keeps 2
+--   NoFactor       at this tolerance walk and gallop keep all n samples, and minimum keeps 2
 -- The theorem is in proofs/NoFactor. Assumes nothing.
 use Rattle.std.specs.Prelude.{◌≡◌, List, [], ◌∷◌, map, ℕ, ◌-◌, ◌*◌, ◌%◌, ◌≤◌, ℤ, pos, length}
 use Rattle.refusal.specs.declared.Checked.TheVariants.{Fine}

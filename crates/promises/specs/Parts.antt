@@ -1,8 +1,8 @@
 -- Two parts (document 02, "Above and below"): what is as before where they agree.
 --   plain_within   document 01's test of a sample: its deviation from the link, without its sign, is at most p/q
 --   plain_valid    the link test with it: obeys the gap limit, and each sample between passes
---   EqualParts    with p/q for both parts, the link test, the lists and the probes are those over plain_valid
---   SameCall      limits that mean the same are refused by the same rows and set the same criterion
+--   EqualParts     with p/q for both parts, the link test, the lists and the probes are those over plain_valid
+--   SameCall       limits that mean the same are refused by the same rows and set the same criterion
 -- The theorems are in proofs/Parts. Assumes nothing.
 use Rattle.std.specs.Prelude.{◌≡◌, Bool, ◌&&◌, List, ℕ, suc, ◌-◌, ◌*◌, leb, ℤ, nat_abs, length}
 use Rattle.ratio.specs.declared.Ratio.{Ratio}

@@ -1,5 +1,5 @@
 -- What follows from a comparison of pedestals (document 02, "Morning pedestals").
---   Exactly             a list of numbers below m: exactly those that a test holds of, in rising order
+--   Exactly              a list of numbers below m: exactly those that a test holds of, in rising order
 --   added_to, shifted    values with a constant added to each; a run with such values
 -- Assumes nothing.
 use Rattle.std.specs.Prelude.{◌≡◌, Bool, true, ℕ, suc, ◌<◌, ℤ, ◌+ℤ◌, length, get_or}

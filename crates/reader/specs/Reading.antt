@@ -1,6 +1,6 @@
 -- Reading and comparing records (document 01, "The record" and "When the engine declines"): each call's complete outcome.
---   record_row, outputs_row                    rows 8 and 9: a faulty record; row 10: an output too short
---   read_rows, same_rows                       the first row that applies
+--   record_row, outputs_row                  rows 8 and 9: a faulty record; row 10: an output too short
+--   read_rows, same_rows                     the first row that applies
 --   Said, ReadBack, ReadDeclined, Compared   what holds of each answer
 --   CheckOutcome, ReadOutcome, SameOutcome   what is answered, and what lent lists then hold
 -- Laws are in ReadingLaws and FaultPlaces. Assumes nothing.

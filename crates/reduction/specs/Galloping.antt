@@ -1,6 +1,6 @@
 -- Gallop over a trace (document 003, figure 7, and document 01, "The four reductions").
 --   gallop_list, gallop_total   gallop's list of a trace, and its probe total
---   Gallops                   what gallop answers and writes
+--   Gallops                     what gallop answers and writes
 -- Assumes nothing.
 use Rattle.std.specs.Prelude.{◌≡◌, List, ℕ, ◌-◌, ℤ, length}
 use Rattle.lists.specs.Overwrite.{Wrote}

@@ -1,6 +1,6 @@
 -- The outcome of the report on a crate (document 02, "Whole-crate report").
---   crate_rows       the first of the rows 11, 4, 15, 10 that applies
---   report_rows      a row for each channel: each depends on the channel's own trace and on the limits alone (`row_of`)
+--   crate_rows      the first of the rows 11, 4, 15, 10 that applies
+--   report_rows     a row for each channel: each depends on the channel's own trace and on the limits alone (`row_of`)
 --   ReportCounted   what holds where the report is made
 --   ReportOutcome   the contract, by cases on the answer
 --   Surveyed        the report by value: whatever list it is written over, the outcome is that

@@ -1,5 +1,5 @@
 -- What the contract of a scan speaks of (document 02, "Sixteen tolerances in one reading").
---   part         part a of an output whose parts are n long, from the crate `turns`
+--   part          part a of an output whose parts are n long, from the crate `turns`
 --   kept_before   the samples that walk has kept at sample j, which closes its list
 -- Laws are in PassLaws (part), WalkedLaws and StreamLaws (kept_before). Assumes nothing.
 use Rattle.std.specs.Prelude.{Bool, List, [], ℕ, zero, suc}

@@ -1,15 +1,15 @@
 -- Walk at several tolerances in one pass (document 02, "Sixteen tolerances in one reading").
---   criterion_at           the criterion of tolerance a under the gap limit
---   Ratios                the parts of up to 16 tolerances, each allowed
---   Sampling              every tolerance's turn can be made
---   AllBecame             every entry became what f gives
---   Places                each tolerance writes at the start of its part next
+--   criterion_at            the criterion of tolerance a under the gap limit
+--   Ratios                  the parts of up to 16 tolerances, each allowed
+--   Sampling                every tolerance's turn can be made
+--   AllBecame               every entry became what f gives
+--   Places                  each tolerance writes at the start of its part next
 --   hole_before, cut_at     a hole lies before sample j; links of more than one step to sample j + 1 are cut
---   links_of               what is held of a tolerance, as links from a sample
---   Walked                what is held of a tolerance is walk's, with the samples up to j taken in
---   Given, Scanning       what the pass requires; the pass with the samples up to j taken in
---   Closing, Closed       every part can be closed with a sample; it was
---   Scanned               every part begins with walk's list at its tolerance, and nothing else changed
+--   links_of                what is held of a tolerance, as links from a sample
+--   Walked                  what is held of a tolerance is walk's, with the samples up to j taken in
+--   Given, Scanning         what the pass requires; the pass with the samples up to j taken in
+--   Closing, Closed         every part can be closed with a sample; it was
+--   Scanned                 every part begins with walk's list at its tolerance, and nothing else changed
 -- Laws are in WalkedLaws (Walked) and PassLaws. Assumes nothing.
 use Rattle.std.specs.Prelude.{◌≡◌, Bool, true, ◌||◌, List, ℕ, zero, suc, ◌+◌, ◌-◌, ◌*◌, ◌≤◌, ◌<◌, ℤ, length, get_or, set, drop}
 use Rattle.lists.specs.Overwrite.{overwrite}

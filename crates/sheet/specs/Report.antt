@@ -1,18 +1,18 @@
 -- The report on a crate of channels (document 02, "Whole-crate report"): rows, totals, and the lent list.
 --   kept_row, walked_row       the row of a trace: its samples, walk's kept number, the error of walk's list, and the sample where its first
---                            worst link has it (document 02, "Where the line strays")
---   declined_row              the row of a channel that is declined: its number, zeros, and 0/1 as its error
+--                              worst link has it (document 02, "Where the line strays")
+--   declined_row               the row of a channel that is declined: its number, zeros, and 0/1 as its error
 --   row_by, row_of             the row of a channel: it depends on the channel's own ticks and values and on the criterion, on nothing else
---   part_row                  the row of n samples from a place on
---   rows_from                 the rows of channels that come end to end
+--   part_row                   the row of n samples from a place on
+--   rows_from                  the rows of channels that come end to end
 --   row_error, largest_error   the error of a row, and of totals
---   totalled                 totals, from their numbers
+--   totalled                   totals, from their numbers
 --   totals_with, totals_with_all   totals with one row more, and with several
---   totals_of                 the totals of rows: sums of samples and of kept numbers, and the greatest error, 0/1 where there is none
---   RowBounds, TotalBounds   numbers that fit
---   Rows, Declined           what a sheet is: the rows and their totals, or a refusal and no rows
---   zeros, row_at             a row of zeros, and a row of a sheet
---   Fits, filled             room for a sheet's rows, and the lent list that they are written over
+--   totals_of                  the totals of rows: sums of samples and of kept numbers, and the greatest error, 0/1 where there is none
+--   RowBounds, TotalBounds     numbers that fit
+--   Rows, Declined             what a sheet is: the rows and their totals, or a refusal and no rows
+--   zeros, row_at              a row of zeros, and a row of a sheet
+--   Fits, filled               room for a sheet's rows, and the lent list that they are written over
 -- Laws are in RowLaws and ReportLaws. Assumes nothing.
 use Rattle.std.specs.Prelude.{◌≡◌, List, [], ◌∷◌, ℕ, ◌+◌, ◌*◌, ◌≤◌, ℤ, length, take, get_or}
 use Rattle.lists.specs.Overwrite.{overwrite}

@@ -1,10 +1,10 @@
 -- The minimum of a trace (document 01, "The four reductions"), and the two tables from which it is found.
 --   minimum_list        the minimum's list, where a link is valid by the criterion
---   Counted            `links` holds the fewest links to the last sample, from each sample from i on
---   Planned            `next` holds the latest next sample of such a list, for each sample from i on
---   Onward             each entry of `next` leads to a later sample of the trace
+--   Counted             `links` holds the fewest links to the last sample, from each sample from i on
+--   Planned             `next` holds the latest next sample of such a list, for each sample from i on
+--   Onward              each entry of `next` leads to a later sample of the trace
 --   better_end          the better of two ends of links from one sample
---   Scan               what a scan over the ends of the links from sample i is given
+--   Scan                what a scan over the ends of the links from sample i is given
 -- Laws are in ShortestLaws and Tables. Assumes nothing.
 use Rattle.std.specs.Prelude.{◌≡◌, Bool, cond, ◌&&◌, List, ℕ, suc, ◌+◌, ◌-◌, ◌≤◌, ◌<◌, leb, ℤ, length, get_or}
 use Rattle.kept.specs.Minimum.{links_of, next_of, minimum_of}

@@ -1,14 +1,14 @@
 -- Summed channels (document 02, "Summed channels"): two traces added sample by sample, and their two kept lists joined.
---   sums_of                    the values of the summed trace
---   outside                   a sum that is below -32,768 or above 32,767
+--   sums_of                     the values of the summed trace
+--   outside                     a sum that is below -32,768 or above 32,767
 --   overflow_at, overflow_row   a sample whose sum is; row 18
---   sum_rows                   the first row that applies to two traces, two lists and two outputs
+--   sum_rows                    the first row that applies to two traces, two lists and two outputs
 --   is_entry, in_either         a sample in a list; in either of two
---   joined_of                  the rising list of the samples in either list
---   parts_sum                  U1 + D1 + U2 + D2
---   twice_sum                  2 (T1 + T2), where the parts agree
---   JoinedWithin              what is promised of the joined list
---   Summable, Joinable        what the checks show of traces to be added and of lists to be joined
+--   joined_of                   the rising list of the samples in either list
+--   parts_sum                   U1 + D1 + U2 + D2
+--   twice_sum                   2 (T1 + T2), where the parts agree
+--   JoinedWithin                what is promised of the joined list
+--   Summable, Joinable          what the checks show of traces to be added and of lists to be joined
 -- Laws are in RowLaws, EntryLaws, JoinLaws and SumLaws. Assumes nothing.
 use Rattle.std.specs.Prelude.{Bool, false, ◌||◌, List, [], ◌∷◌, ◌≡◌, ℕ, ◌+◌, ◌-◌, ◌*◌, ◌≤◌, eqb, ℤ, pos, negsuc, ◌+ℤ◌, length}
 use Rattle.std.specs.Int.Signed.{lt_z}

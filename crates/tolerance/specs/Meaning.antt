@@ -1,15 +1,15 @@
 -- Which tolerances are allowed, and the two fractions in lowest terms that each means (document 01, "Tolerances"; document 02, "Above
 -- and below"): the part for samples above the line, and the part for those below.
---   alike          one fraction for both parts
---   agree          the parts are equal, as numbers p and q: those of held parts are in lowest terms
+--   alike           one fraction for both parts
+--   agree           the parts are equal, as numbers p and q: those of held parts are in lowest terms
 --   not_negative    a float is a number, and not below zero
 --   in_steps        a float is from 0 to most, and k times it is whole
 --   allowed_ratio   a fraction is allowed as a ratio
---   held           a fraction in lowest terms for both parts where a tolerance is allowed, or that it is not
+--   held            a fraction in lowest terms for both parts where a tolerance is allowed, or that it is not
 --   held_each       each part in lowest terms where both are allowed, or that they are not
---   meaning        the held parts of a tolerance, or that it is not allowed
---   Held           a ratio as a tolerance is held: allowed, and in lowest terms
---   HeldParts      both parts are
+--   meaning         the held parts of a tolerance, or that it is not allowed
+--   Held            a ratio as a tolerance is held: allowed, and in lowest terms
+--   HeldParts       both parts are
 --   pick_steps      a number of steps where a float is in steps, or that it is not
 --   steps_of        the whole number of steps of a float
 -- A finite float x is the fraction num x / den x, with a sign. Laws are in Values, Meanings and Agreement. Assumes nothing.

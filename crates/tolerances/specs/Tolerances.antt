@@ -1,11 +1,11 @@
 -- The checks of a trace and several tolerances under one gap limit (document 02, "Sixteen tolerances in one reading").
---   tolerance_at, limits_at      tolerance a of a list, and the limits of a separate call with it
---   bad_at                      tolerance a is not allowed
---   count_row                   row 19
---   held_rows                   the first of the rows 4, 15, 10 that applies, where so many of the first tolerances are allowed
---   several_rows                the first of the rows 19, 4, 15, 10 that applies, for lists of n entries, one after another
---   scan_rows                   the first of the rows 1, 2, 3, 19, 4, 15, 10 that applies
---   parts_at, put_parts          the parts of tolerance a in a list of numbers, p and q of each; a list with them put in
+--   tolerance_at, limits_at    tolerance a of a list, and the limits of a separate call with it
+--   bad_at                     tolerance a is not allowed
+--   count_row                  row 19
+--   held_rows                  the first of the rows 4, 15, 10 that applies, where so many of the first tolerances are allowed
+--   several_rows               the first of the rows 19, 4, 15, 10 that applies, for lists of n entries, one after another
+--   scan_rows                  the first of the rows 1, 2, 3, 19, 4, 15, 10 that applies
+--   parts_at, put_parts        the parts of tolerance a in a list of numbers, p and q of each; a list with them put in
 --   Each                       the parts under which the tolerances before k are held
 --   Holds                      each tolerance up to the first that is not allowed is held
 --   Several, SeveralPrepared   what the checks 19, 4, 15, 10 give: the parts of each tolerance and room, or the row

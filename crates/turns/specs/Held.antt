@@ -1,6 +1,6 @@
 -- What is held of one tolerance between two samples, and the step that takes the next sample in.
 --   Held       the start of the open link, by its tick and level; the cone of its links; how many samples are kept; the part of the output
---   goes_on     the link to the new sample is valid: it is not cut by a hole, and passes every sample taken in
+--   goes_on    the link to the new sample is valid: it is not cut by a hole, and passes every sample taken in
 --   further    the open link goes on to the new sample
 --   anew       the sample before is kept, and the open link starts from it
 --   stepped    one of the two
@@ -10,8 +10,8 @@
 --   Sized      each of them has 16 entries
 --   part       part a of an output whose parts are n long
 --   Inside     x is a place of part a
---   cone_in     the cone that the lists hold of tolerance a
---   held_in     what the lists hold of tolerance a
+--   cone_in    the cone that the lists hold of tolerance a
+--   held_in    what the lists hold of tolerance a
 -- Laws are in HeldLaws. Assumes nothing.
 use Rattle.std.specs.Prelude.{◌≡◌, Bool, false, cond, not, ◌&&◌, List, ℕ, ◌+◌, ◌-◌, ◌*◌, ◌≤◌, ◌<◌, ℤ, length, get_or, set, take, drop}
 use Rattle.trace.specs.declared.Criterion.{Criterion}

@@ -1,11 +1,11 @@
 -- Samples by value, and edges made of them and of what is held in lists of numbers.
---   SampleAt    s is sample k of a trace
+--   SampleAt     s is sample k of a trace
 --   edge_from    the edge from a start, given by its tick and level, to a sample
 --   aim_from     the edges to it, at both scales of a criterion
---   Ahead       the sample lies at or after that start, within the span, and their levels fit
+--   Ahead        the sample lies at or after that start, within the span, and their levels fit
 --   edge_in      the edge that entry b of two lists holds, by its climb and its run
---   Climbs      z is a climb
---   Put         an edge was put into entry b
+--   Climbs       z is a climb
+--   Put          an edge was put into entry b
 -- Laws are in SampleLaws. Assumes nothing.
 use Rattle.std.specs.Prelude.{◌≡◌, List, ℕ, ◌+◌, ◌-◌, ◌*◌, ◌≤◌, ℤ, pos, get_or, set}
 use Rattle.trace.specs.declared.Criterion.{Criterion}

@@ -1,11 +1,11 @@
 -- What a comparison of pedestals takes from the values of a trace, and when a channel has moved or is noisy (document 02, "Morning pedestals").
---   total, squares   the sum S of values, and the sum Q of their squares
---   spread           n Q - S²: the square of n times the width of n values
---   moved, noisy     the two tests of today's values and those of the run before
---   Summed           S and Q as they are computed, with what bounds them
+--   total, squares    the sum S of values, and the sum Q of their squares
+--   spread            n Q - S²: the square of n times the width of n values
+--   moved, noisy      the two tests of today's values and those of the run before
+--   Summed            S and Q as they are computed, with what bounds them
 --   Sized, spread_in  sums that fit their numbers, and n Q - S² from them
---   Comparable       values that the checks pass
---   Judged           what is said of a channel is what the two tests say
+--   Comparable        values that the checks pass
+--   Judged            what is said of a channel is what the two tests say
 -- Laws are in SumLaws. Assumes nothing.
 use Rattle.std.specs.Prelude.{◌≡◌, Bool, List, [], ◌∷◌, ℕ, ◌*◌, ◌-◌, ◌≤◌, ltb, ℤ, pos, ◌+ℤ◌, ◌-ℤ◌, ◌*ℤ◌, nat_abs, length}
 use Rattle.std.specs.Int.Signed.{lt_z}

@@ -3,8 +3,8 @@
 --   cheapest      of some numbers, the earliest at which a fraction is smallest, by one scan
 --   without       a list without its entry at a position
 --   thinned       a list without the inner entry that costs least, the earliest among equals
---   view_with      the list after an addition: the new sample last, and one inner sample dropped if there are now more than 2k
---   view_of        the view of the samples 0 .. n: begun with the list 0, and changed by the additions of samples 1 .. n
+--   view_with     the list after an addition: the new sample last, and one inner sample dropped if there are now more than 2k
+--   view_of       the view of the samples 0 .. n: begun with the list 0, and changed by the additions of samples 1 .. n
 --   twice         twice a fraction
 --   Doubles       what is assumed: the error of a link is at most twice that of a link that encloses it (document 001, 2-monotone)
 --   StepsExact    what is assumed: a link over one step has the error 0

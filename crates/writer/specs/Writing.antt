@@ -1,16 +1,16 @@
 -- Writing a record (document 01, "The record", and "When the engine declines", row 10; document 02, "Above and below"): the complete outcome.
 --   Kept                       a trace and a kept list of it
---   selected                   what is written: a tolerance and the samples that a list keeps
+--   selected what is written:           a tolerance and the samples that a list keeps
 --   write_row                   row 10: too few bytes from the place on
 --   WrittenAt, WriteDeclined   what holds of each answer
 --   ContentWritten             what is answered, and what the buffer then holds
 -- For the kernels:
---   kept_ticks, kept_values, SampleAt             the kept samples; one of them
---   kept_samples                                 their commands
---   StepBetween, step_from, step_at               the steps between them
---   rest_of                                      the record from a sample on
---   RestLength, SamplesLength, LengthOf         the bytes after the first sample; those after the tolerance; the record's length
---   most_bytes                                   the most bytes of a record of so many samples
+--   kept_ticks, kept_values, SampleAt   the kept samples; one of them
+--   kept_samples                        their commands
+--   StepBetween, step_from, step_at     the steps between them
+--   rest_of                             the record from a sample on
+--   RestLength, SamplesLength, LengthOf the bytes after the first sample; those after the tolerance; the record's length
+--   most_bytes                          the most bytes of a record of so many samples
 -- Laws are in SelectedLaws and WritingLaws. Assumes nothing.
 use Rattle.std.specs.Prelude.{◌≡◌, List, [], ℕ, suc, ◌+◌, ◌-◌, ◌*◌, ◌≤◌, ◌<◌, ℤ, pos, length, take, drop}
 use Rattle.std.specs.Int.Signed.{mag}

@@ -1,4 +1,4 @@
--- `tolerance::of_parts` meets its contract: each answer is what `heldEach` picks where the tests are as its way found them. Assumes nothing.
+-- `tolerance::of_parts` meets its contract: each answer is what `held_each` picks where the tests are as its way found them. Assumes nothing.
 use Rattle.std.proofs.Common.{sym, ◌∙◌}
 use Rattle.tolerance.proofs.Meanings.{allowed_pos}
 use Rattle.tolerance.proofs.of_parts.Goals as goal
