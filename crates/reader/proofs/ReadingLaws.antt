@@ -65,6 +65,10 @@ verdict {b} by e = subst (CheckOutcome b) (sym e) (go (parse b) refl)
     go (faulty k) e = e
     go (says x) e = record { content = x; accepted = encode_parse by e; count = refl; tolerance = refl }
 
+-- the count of the samples after the header is such a verdict
+pub counted : {b : List ℕ} {x : Parts} {c : Cursor} {v : Verdict} → Bytes b → header_of b ≡ Start x c → v ≡ record_verdict (attach x (samples_from b c)) → CheckOutcome b v
+counted {b} by start is = verdict by (is ∙ sym (ap record_verdict (parse_start b start)))
+
 -- ---- read
 
 samples_of : Parsed → Samples

@@ -1,6 +1,5 @@
 // The report on a crate: a row for each channel, totals, and the lent list that receives the rows.
-// The sheet goes by value through functions that the borrow checker covers; `fill` alone has the list, as `&mut [Summary]`, and is proved
-// by hand.
+// The sheet goes by value; `fill` alone has the list.
 #![tactic(auto)]
 
 ghost use Rattle.std.specs.Prelude.{◌≡◌, ◌+◌, ◌≤◌, ◌<◌, length};

@@ -21,11 +21,13 @@ module _ (codes : List ℕ) where
   abbrev pub value_at : ℕ → ℤ
   value_at k = pos (code_value (get_or codes k 0))
 
+  -- the values of the codes at which P holds are written over o
   pub record Going (o out : List ℤ) (P : ℕ → Type 0) : Type 0 where
     pub long : length out ≡ length o
     pub has : (k : ℕ) → k < length codes → P k → get_or out k (pos 0) ≡ value_at k
     pub behind : (k : ℕ) → length codes ≤ k → get_or out k (pos 0) ≡ get_or o k (pos 0)
 
+  -- the codes of the first i and of the last i
   abbrev pub Passed : ℕ → ℕ → Type 0
   Passed i k = (k < i) ⊎ (length codes ≤ k + i)
 
@@ -33,6 +35,7 @@ module _ (codes : List ℕ) where
   starts o = record { long = refl; has = λ k h p. absurd (⊎_elim (λ l. omega arith) (λ l. omega arith) p); behind = λ k h. refl }
 
   module _ {o out : List ℤ} {P : ℕ → Type 0} (g : Going o out P) (room : length codes ≤ length o) where
+    -- one value more
     pub puts : {j : ℕ} → j < length codes → {a : List ℤ} → a ≡ set out j (value_at j) → Going o a (λ (k : ℕ). (k ≡ j) ⊎ P k)
     puts {j} h {a} e =
         let new = get_or-set_same out j (value_at j) (pos 0) (omega (arith, g.long)) in
@@ -52,6 +55,7 @@ module _ (codes : List ℕ) where
         (λ k h. let l : k < length codes = omega (arith, count) in g.has k l (all k l) ∙ sym (get_or-map (λ (c : ℕ). pos (code_value c)) codes k 0))
         (λ k h. g.behind k (omega (arith, count)))
 
+  -- a value more from either end
   pub next : {o out : List ℤ} {i : ℕ} → Going o out (λ (k : ℕ). (k ≡ length codes - 1 - i) ⊎ ((k ≡ i) ⊎ Passed i k)) → Going o out (Passed (i + 1))
   next g = record {
     long = g.long;

@@ -20,5 +20,5 @@ overflow_cast-result c =
 pub returns : goal.returns
 returns c =
     let byte = c.ranges.c.fits in
-    let worked-out : ((c.args.c % 32 + 32) * 2 ^ (c.args.c / 32)) % 65536 - 32 ≡ code_value c.args.c = omega (arith, code_shift c.args.c byte) in
-    ap (to_z w16) worked-out ∙ to_z_pos w16 (omega (arith, code_small c.args.c byte))
+    let worked_out : ((c.args.c % 32 + 32) * 2 ^ (c.args.c / 32)) % 65536 - 32 ≡ code_value c.args.c = omega (arith, code_shift c.args.c byte) in
+    ap (to_z w16) worked_out ∙ to_z_pos w16 (omega (arith, code_small c.args.c byte))

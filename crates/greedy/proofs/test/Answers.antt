@@ -1,13 +1,21 @@
 -- `greedy::test` meets its contract. Assumes nothing.
 use mathlib.Core.Path.{◌≡◌, sym, subst, ◌∙◌}
+use mathlib.Core.List.{List}
 use Prim.Native.Nat.{ℕ, ◌+◌, ◌<◌}
 use native.Mathlib.Omega.{arith}
+use lib.IntN.{ℤ}
+use Rattle.trace.specs.declared.Criterion.{Criterion}
 use Rattle.trace.specs.Link.{links_end}
 use Rattle.trace.proofs.Validity.{step_valid}
+use Rattle.outgoing.specs.declared.Links.{Links}
 use Rattle.outgoing.specs.Outgoing.{TakenIn}
 use Rattle.outgoing.proofs.OutgoingLaws.{next_at, taken_at, valid_at}
 use Rattle.greedy.proofs.GreedyLaws.{test_at_limit, test_invalid, test_valid, end_ready, next_ready}
 use Rattle.greedy.proofs.test.Goals as goal
+
+-- a link of one step: its end has been taken in
+one_step : {ts : List ℕ} {vs : List ℤ} {c : Criterion} {i j : ℕ} {s : Links} → j ≡ i + 1 → TakenIn ts vs c i (i + 1 + 1) s → TakenIn ts vs c i (j + 1) s
+one_step {ts} {vs} {c} {i} {j} {s} e t = subst (λ (n : ℕ). TakenIn ts vs c i (n + 1) s) (sym e) t
 
 pub returns-then-limit-j : goal.returns-then-limit-j
 returns-then-limit-j c =
@@ -15,12 +23,12 @@ returns-then-limit-j c =
 
 pub reaches-requires : goal.reaches-requires
 reaches-requires c =
-    next_ready c.args.c c.requires.0 (omega (arith, c.if-limit-j.false, c.requires.2)) c.requires.1 (subst (λ (n : ℕ). TakenIn c.args.ticks.now c.args.values.now c.args.c c.args.i (n + 1) c.links_past-next.result) (sym c.if-j-i.true) c.links_past-next.ensures)
+    next_ready c.args.c c.requires.0 (omega (arith, c.if-limit-j.false, c.requires.2)) c.requires.1 (one_step c.if-j-i.true c.links_past-next.ensures)
 
 pub returns-then-j-i : goal.returns-then-j-i
 returns-then-j-i c =
     let a = c.args in
-    test_valid a.c c.requires.0 (omega (arith, c.if-limit-j.false, c.requires.2)) (step_valid a.ticks.now a.values.now a.c a.i a.j c.if-j-i.true) (valid_at (subst (λ (n : ℕ). TakenIn c.args.ticks.now c.args.values.now c.args.c c.args.i (n + 1) c.links_past-next.result) (sym c.if-j-i.true) c.links_past-next.ensures) (a.j + 1) c.reaches.ensures)
+    test_valid a.c c.requires.0 (omega (arith, c.if-limit-j.false, c.requires.2)) (step_valid a.ticks.now a.values.now a.c a.i a.j c.if-j-i.true) (valid_at (one_step c.if-j-i.true c.links_past-next.ensures) (a.j + 1) c.reaches.ensures)
 
 pub taken_to-links-requires : goal.taken_to-links-requires
 taken_to-links-requires c =
@@ -58,4 +66,6 @@ reaches-requires-3 c =
 
 pub returns : goal.returns
 returns c =
-    test_valid c.args.c c.requires.0 (omega (arith, c.if-limit-j.false, c.requires.2)) (sym (valid_at (taken_at c.links_past-next.ensures c.taken_to-links.ensures) c.args.j c.reaches-2.ensures) ∙ c.if-not-reaches.false) (valid_at (taken_at (taken_at c.links_past-next.ensures c.taken_to-links.ensures) c.taken-through.ensures) (c.args.j + 1) c.reaches-3.ensures)
+    let at_end = taken_at c.links_past-next.ensures c.taken_to-links.ensures in
+    let through = taken_at at_end c.taken-through.ensures in
+    test_valid c.args.c c.requires.0 (omega (arith, c.if-limit-j.false, c.requires.2)) (sym (valid_at at_end c.args.j c.reaches-2.ensures) ∙ c.if-not-reaches.false) (valid_at through (c.args.j + 1) c.reaches-3.ensures)

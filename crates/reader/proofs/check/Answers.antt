@@ -1,7 +1,6 @@
 -- `reader::check` meets its contract: the header and the count of samples are the record's verdict. Assumes nothing.
-use mathlib.Core.Path.{sym, ◌∙◌, ap}
-use Rattle.commands.specs.Passing.{record_verdict}
-use Rattle.reader.proofs.ReadingLaws.{parse_start, parse_fault, header_after_first, verdict}
+use mathlib.Core.Path.{sym, ◌∙◌}
+use Rattle.reader.proofs.ReadingLaws.{parse_fault, header_after_first, counted}
 use Rattle.reader.proofs.check.Goals as goal
 
 pub count_samples-requires : goal.count_samples-requires
@@ -10,7 +9,7 @@ count_samples-requires c =
 
 pub returns-in-Start : goal.returns-in-Start
 returns-in-Start c =
-    verdict (record { byte = λ i. (c.type_inv.bytes i).fits }) (c.count_samples.ensures ∙ sym (ap record_verdict (parse_start _ (sym c.read_header-h.ensures ∙ c.in-Start.is))))
+    counted (record { byte = λ i. (c.type_inv.bytes i).fits }) (sym c.read_header-h.ensures ∙ c.in-Start.is) c.count_samples.ensures
 
 pub returns-in-Fault : goal.returns-in-Fault
 returns-in-Fault c =

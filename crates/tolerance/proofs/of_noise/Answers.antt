@@ -17,9 +17,11 @@ module _ (x y : Float) (a b : ℕ) (hx : Is x a 64) (lx : a ≤ 1023 * 64) (hy :
   few : a * b ≤ 1023 * 64 * (63 * 8)
   few = mul-le-mul lx ly
 
+  -- the one product loses nothing
   times : Is (mul binary64 x y) (a * b) 512
   times = mul_is x y a 64 b 8 (a * b) 9 (lit< tt) (lit< tt) hx hy (omega arith) (omega (arith, few)) (lit≤ tt)
 
+  -- nor does the number of 512ths
   number : Is (mul binary64 (mul binary64 x y) scale) (a * b) 1
   unfolding of_bits
   number = mul_is (mul binary64 x y) scale (a * b) 512 512 1 (a * b) 0 (lit< tt) (lit< tt) times (tt, refl) (omega arith) (omega (arith, few)) (lit≤ tt)

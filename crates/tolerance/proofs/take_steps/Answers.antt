@@ -9,36 +9,37 @@ abbrev float : ℕ → Float
 float n = of_int binary64 (pos n)
 
 module _ (k most : ℕ) (two : (j : ℕ) × (k ≡ 2 ^ j) × (j ≤ 9)) (bound : most ≤ 65535) where
-  k-pos : 0 < k
-  k-pos = rw two.1 (pow_pos two.0)
+  k_pos : 0 < k
+  k_pos = rw two.1 (pow_pos two.0)
 
-  k-le : k ≤ 512
-  k-le = rw two.1 (pow_mono {i = two.0} {j = 9} two.2)
+  k_le : k ≤ 512
+  k_le = rw two.1 (pow_mono {i = two.0} {j = 9} two.2)
 
-  most-le : most * k ≤ 65535 * 512
-  most-le = mul-le-mul bound k-le
+  most_le : most * k ≤ 65535 * 512
+  most_le = mul-le-mul bound k_le
 
   small : (n : ℕ) → n ≤ most * k → n < 2 ^ 53
-  small n l = omega (arith, most-le)
+  small n l = omega (arith, most_le)
 
   scaled : (x : Float) (n : ℕ) → Is x n k → n ≤ most * k → Is (mul binary64 x (float k)) n 1
-  scaled x n h l = mul_is x (float k) n k k 1 n 0 k-pos (omega arith) h (of_int_lem k (omega (arith, k-le))) (omega arith) (small n l) (omega arith)
+  scaled x n h l = mul_is x (float k) n k k 1 n 0 k_pos (omega arith) h (of_int_lem k (omega (arith, k_le))) (omega arith) (small n l) (omega arith)
 
   back : (n : ℕ) → n ≤ most * k → Is (div binary64 (float n) (float k)) n k
   back n l =
       subst (λ (z : ℕ). Is (div binary64 (float n) (float k)) n z) (sym two.1)
-      (div_is (float n) (float k) n 1 k 1 n two.0 (omega arith) k-pos (omega arith) (of_int_lem n (small n l)) (of_int_lem k (omega (arith, k-le))) (rw two.1 (omega arith)) (small n l) (omega (arith, two.2)))
+      (div_is (float n) (float k) n 1 k 1 n two.0 (omega arith) k_pos (omega arith) (of_int_lem n (small n l)) (of_int_lem k (omega (arith, k_le))) (rw two.1 (omega arith)) (small n l) (omega (arith, two.2)))
 
+  -- the whole part of the product
   part : (x : Float) (n : ℕ) → Is x n k → n ≤ most * k → to_unsigned 64 (mul binary64 x (float k)) ≡ n
-  part x n h l = whole_part (mul binary64 x (float k)) n (omega (arith, most-le)) (scaled x n h l)
+  part x n h l = whole_part (mul binary64 x (float k)) n (omega (arith, most_le)) (scaled x n h l)
 
-in-float : (n : ℕ) → n ≤ 2 ^ 53 → T (in_float binary64 (pos n))
+in_float_lem : (n : ℕ) → n ≤ 2 ^ 53 → T (in_float binary64 (pos n))
 unfolding in_float
-in-float n h = le→leb n (2 ^ 53) h
+in_float_lem n h = le→leb n (2 ^ 53) h
 
 pub int_to_float-scale : goal.int_to_float-scale
 int_to_float-scale c =
-    in-float c.args.k (omega (arith, k-le c.args.k c.args.most c.requires.by_index c.requires.most_bound))
+    in_float_lem c.args.k (omega (arith, k_le c.args.k c.args.most c.requires.by_index c.requires.most_bound))
 
 pub truncating_f64_to_u64-n-requires : goal.truncating_f64_to_u64-n-requires
 unfolding of_bits neg
@@ -46,11 +47,11 @@ truncating_f64_to_u64-n-requires c = record { lower_bound = subst T (sym c.if-y.
 
 pub overflow_mul-most : goal.overflow_mul-most
 overflow_mul-most c =
-    record { fits = omega (arith, most-le c.args.k c.args.most c.requires.by_index c.requires.most_bound) }
+    record { fits = omega (arith, most_le c.args.k c.args.most c.requires.by_index c.requires.most_bound) }
 
 pub int_to_float-n : goal.int_to_float-n
 int_to_float-n c =
-    in-float c.truncating_f64_to_u64-n.result (omega (arith, most-le c.args.k c.args.most c.requires.by_index c.requires.most_bound))
+    in_float_lem c.truncating_f64_to_u64-n.result (omega (arith, most_le c.args.k c.args.most c.requires.by_index c.requires.most_bound))
 
 pub returns-then-n-scale : goal.returns-then-n-scale
 returns-then-n-scale c =
@@ -59,7 +60,7 @@ returns-then-n-scale c =
     let n = c.truncating_f64_to_u64-n.result in
     let l : n ≤ most * k = c.if-n-most.true in
     let h = eq_is (div binary64 (float n) (float k)) c.args.x n k (back k most c.requires.by_index c.requires.most_bound n l) (subst T (sym c.if-n-scale.true) tt) in
-    sym (steps_whole c.args.x k most n (k-pos k most c.requires.by_index c.requires.most_bound) h l)
+    sym (steps_whole c.args.x k most n (k_pos k most c.requires.by_index c.requires.most_bound) h l)
 
 pub returns-else-n-scale : goal.returns-else-n-scale
 returns-else-n-scale c =
@@ -69,7 +70,7 @@ returns-else-n-scale c =
     let r = c.truncating_f64_to_u64-n.result in
     let e : r ≡ to_unsigned 64 (mul binary64 x (float k)) = c.truncating_f64_to_u64-n.ensures in
     sym (steps_other x k most (λ n h l.
-    let f = is_eq (div binary64 (float n) (float k)) x n k (k-pos k most c.requires.by_index c.requires.most_bound) (back k most c.requires.by_index c.requires.most_bound n l) h in
+    let f = is_eq (div binary64 (float n) (float k)) x n k (k_pos k most c.requires.by_index c.requires.most_bound) (back k most c.requires.by_index c.requires.most_bound n l) h in
     subst T c.if-n-scale.false (rw (e, part k most c.requires.by_index c.requires.most_bound x n h l) f)))
 
 pub returns-else-n-most : goal.returns-else-n-most
@@ -86,7 +87,7 @@ returns-else-y-2 c =
     let x = c.args.x in
     let k = c.args.k in
     let most = c.args.most in
-    sym (steps_other x k most (λ n h l. subst T c.if-y-2.false (below (mul binary64 x (float k)) n (omega (arith, most-le k most c.requires.by_index c.requires.most_bound)) (scaled k most c.requires.by_index c.requires.most_bound x n h l))))
+    sym (steps_other x k most (λ n h l. subst T c.if-y-2.false (below (mul binary64 x (float k)) n (omega (arith, most_le k most c.requires.by_index c.requires.most_bound)) (scaled k most c.requires.by_index c.requires.most_bound x n h l))))
 
 pub returns-else-y : goal.returns-else-y
 unfolding of_bits neg

@@ -12,17 +12,18 @@ use Rattle.format.specs.Number.{number_from, field}
 use Rattle.commands.proofs.numbers.field.Invariants.{Going}
 use Rattle.commands.proofs.numbers.field.Goals as goal
 
-slice-part : (s : List ℕ) (i k : ℕ) → slice i (i + k) s ≡ take k (drop i s)
-slice-part s zero k = rw zero-add
-slice-part [] (suc i) k = rw (suc-add, take-nil k)
-slice-part (x ∷ s) (suc i) k = rw suc-add (slice-part s i k)
+slice_part : (s : List ℕ) (i k : ℕ) → slice i (i + k) s ≡ take k (drop i s)
+slice_part s zero k = rw zero-add
+slice_part [] (suc i) k = rw (suc-add, take-nil k)
+slice_part (x ∷ s) (suc i) k = rw suc-add (slice_part s i k)
 
 begins : (s : List ℕ) (i k : ℕ) → Going s i k 0 i
 begins s i k =
     let z : i - i ≡ 0 = omega arith in
-    record { low = omega arith; high = omega arith; number = ap (λ (xs : List ℕ). number_from 0 xs) (slice-part s i k); below = rw z (omega arith) }
+    record { low = omega arith; high = omega arith; number = ap (λ (xs : List ℕ). number_from 0 xs) (slice_part s i k); below = rw z (omega arith) }
 
 module _ (s : List ℕ) (i k n j : ℕ) (g : Going s i k n j) (more : j < i + k) where
+  -- what is read so far has at most four bytes
   small : k ≤ 5 → n < 256 ^ 4
   small h = omega (arith, g.below, pow-le-pow_right {n = 256} (omega arith) {i = j - i} {j = 4} (omega arith))
 

@@ -12,20 +12,20 @@ use Rattle.writer.proofs.commands.put_number.Invariants.{Going}
 use Rattle.writer.proofs.commands.put_number.Goals as goal
 
 begins : (o : List ℕ) (k n : ℕ) → k ≤ length o → Going o k n o n k []
-begins o k n h = record { within = omega arith; bytes = refl; part_is = sym (take-append-drop k o); w-long = omega arith }
+begins o k n h = record { within = omega arith; bytes = refl; part_is = sym (take-append-drop k o); w_long = omega arith }
 
 module _ (o : List ℕ) (k n : ℕ) (part : List ℕ) (m j : ℕ) (w : List ℕ) (g : Going o k n part m j w) where
   long : k ≤ length o → length part ≡ length o
   long h =
       ap length g.part_is
-      ∙ simp (length-append, length-drop) (omega (arith, length-take-le j o (omega (arith, g.within)), g.w-long, g.within))
+      ∙ simp (length-append, length-drop) (omega (arith, length-take-le j o (omega (arith, g.within)), g.w_long, g.within))
 
   ends : j ≤ 0 → part ≡ overwrite (bytes_onto k n []) o
   unfolding bytes_onto
   ends h =
       let z : j ≡ 0 = omega arith in
       let e : bytes_onto k n [] ≡ w = g.bytes ∙ ap (λ (i : ℕ). bytes_onto i m w) z in
-      let l : length w ≡ k = omega (arith, g.w-long) in
+      let l : length w ≡ k = omega (arith, g.w_long) in
       rw (e, l) (g.part_is ∙ ap (λ (i : ℕ). take i o ++ (w ++ drop k o)) z)
 
 -- one byte more, at a number of bytes left that is not 0
@@ -38,7 +38,7 @@ stores o k n part m i w g h =
       within = omega (arith, g.within);
       bytes = g.bytes;
       part_is = rw e (set_at (take i o) (get_or o i 0) (w ++ drop k o) (m % 256) i (length-take-le i o (omega arith)));
-      w-long = omega (arith, g.w-long);
+      w_long = omega (arith, g.w_long);
     }
 
 goes_on : (o : List ℕ) (k n : ℕ) (part : List ℕ) (m j : ℕ) (w : List ℕ) → Going o k n part m j w → k ≤ length o → 0 < j → Going o k n (set part (j - 1) (m % 256)) (m / 256) (j - 1) (m % 256 ∷ w)

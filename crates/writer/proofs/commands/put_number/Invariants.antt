@@ -11,7 +11,7 @@ pub record Going (o : List ℕ) (k n : ℕ) (part : List ℕ) (m j : ℕ) (w : L
   pub within : j ≤ k
   pub bytes : bytes_onto k n [] ≡ bytes_onto j m w
   pub part_is : part ≡ take j o ++ (w ++ drop k o)
-  pub w-long : j + length w ≡ k
+  pub w_long : j + length w ≡ k
 
 abbrev pub invariant-loop-j : goal.invariant-loop-j
 invariant-loop-j l = (w : List ℕ) × Going l.initial.part l.k l.n l.part l.m l.j w

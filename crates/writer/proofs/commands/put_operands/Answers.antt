@@ -18,27 +18,29 @@ module _ (o : List ℕ) (kind i a j b : ℕ) (room : 1 + i + j ≤ length o) whe
   abbrev zero : List ℕ
   zero = set o 0 kind
 
+  -- the first operand comes back as ys
   module _ (ys : List ℕ) (ey : ys ≡ overwrite (bytes_onto i a []) (take (length zero - 1) (drop 1 zero))) where
     abbrev one : List ℕ
     one = put_mid 1 (length zero - 1) zero ys
 
-    one-is : one ≡ overwrite (kind ∷ bytes_onto i a []) o
-    one-is = written_part zero o (kind ∷ []) (bytes_onto i a []) ys 1 (overwrite_first o kind (omega arith)) refl ey
+    one_is : one ≡ overwrite (kind ∷ bytes_onto i a []) o
+    one_is = written_part zero o (kind ∷ []) (bytes_onto i a []) ys 1 (overwrite_first o kind (omega arith)) refl ey
 
-    one-length : length one ≡ length o
-    one-length = ap length one-is ∙ overwrite_length (kind ∷ bytes_onto i a []) o (omega (arith, bytes_length i a []))
+    one_length : length one ≡ length o
+    one_length = ap length one_is ∙ overwrite_length (kind ∷ bytes_onto i a []) o (omega (arith, bytes_length i a []))
 
     second_room : j ≤ length (take (length one - (1 + i)) (drop (1 + i) one))
-    second_room = rw (part_length one (1 + i), one-length) (omega arith)
+    second_room = rw (part_length one (1 + i), one_length) (omega arith)
 
+    -- the second one comes back as zs
     module _ (zs : List ℕ) (ez : zs ≡ overwrite (bytes_onto j b []) (take (length one - (1 + i)) (drop (1 + i) one))) where
       two_is : put_mid (1 + i) (length one - (1 + i)) one zs ≡ overwrite (kind ∷ bytes_onto i a (bytes_onto j b [])) o
       two_is =
-          written_part one o (kind ∷ bytes_onto i a []) (bytes_onto j b []) zs (1 + i) one-is (omega (arith, bytes_length i a [])) ez
+          written_part one o (kind ∷ bytes_onto i a []) (bytes_onto j b []) zs (1 + i) one_is (omega (arith, bytes_length i a [])) ez
           ∙ ap (λ (x : List ℕ). overwrite (kind ∷ x) o) (sym (bytes_append i a [] (bytes_onto j b [])))
 
-      two-length : length (put_mid (1 + i) (length one - (1 + i)) one zs) ≡ length o
-      two-length = ap length two_is ∙ overwrite_length (kind ∷ bytes_onto i a (bytes_onto j b [])) o (omega (arith, bytes_length i a (bytes_onto j b []), bytes_length j b []))
+      two_length : length (put_mid (1 + i) (length one - (1 + i)) one zs) ≡ length o
+      two_length = ap length two_is ∙ overwrite_length (kind ∷ bytes_onto i a (bytes_onto j b [])) o (omega (arith, bytes_length i a (bytes_onto j b []), bytes_length j b []))
 
 pub slice_bounds-put_number-count : goal.slice_bounds-put_number-count
 slice_bounds-put_number-count c = simp length-set (omega arith)
@@ -51,11 +53,11 @@ put_number-requires c = let a = c.args in rw (part_length (set a.part.now 0 a.ki
 
 pub slice_bounds-put_number-count-2 : goal.slice_bounds-put_number-count-2
 slice_bounds-put_number-count-2 c =
-    rw (one-length c.args.part.now c.args.kind c.args.i c.args.a c.args.j c.args.b c.requires.0 c.put_number.new.part c.put_number.ensures) (omega arith)
+    rw (one_length c.args.part.now c.args.kind c.args.i c.args.a c.args.j c.args.b c.requires.0 c.put_number.new.part c.put_number.ensures) (omega arith)
 
 pub slice_bounds-put_number-start-2 : goal.slice_bounds-put_number-start-2
 slice_bounds-put_number-start-2 c =
-    rw (one-length c.args.part.now c.args.kind c.args.i c.args.a c.args.j c.args.b c.requires.0 c.put_number.new.part c.put_number.ensures) (omega arith)
+    rw (one_length c.args.part.now c.args.kind c.args.i c.args.a c.args.j c.args.b c.requires.0 c.put_number.new.part c.put_number.ensures) (omega arith)
 
 pub put_number-requires-2 : goal.put_number-requires-2
 put_number-requires-2 c =
@@ -63,7 +65,7 @@ put_number-requires-2 c =
 
 pub shape_of-part : goal.shape_of-part
 shape_of-part c =
-    two-length c.args.part.now c.args.kind c.args.i c.args.a c.args.j c.args.b c.requires.0 c.put_number.new.part c.put_number.ensures c.put_number-2.new.part c.put_number-2.ensures
+    two_length c.args.part.now c.args.kind c.args.i c.args.a c.args.j c.args.b c.requires.0 c.put_number.new.part c.put_number.ensures c.put_number-2.new.part c.put_number-2.ensures
 
 pub returns : goal.returns
 returns c =

@@ -22,11 +22,11 @@ module _ (o : List ℕ) (x : Parts) (one : List ℕ) (e : one ≡ overwrite (0x4
   unfolding bytes_onto
   two_is = written_part one o (0x42 ∷ ratio_onto x.up []) (bytes_onto 5 x.down.p []) ys 9 e refl ey
 
-  sides-are : (zs : List ℕ) → zs ≡ overwrite (bytes_onto 3 x.down.q []) (take (length two - 14) (drop 14 two)) → put_mid 14 (length two - 14) two zs ≡ overwrite (command_onto (Sides x) []) o
+  sides_are : (zs : List ℕ) → zs ≡ overwrite (bytes_onto 3 x.down.q []) (take (length two - 14) (drop 14 two)) → put_mid 14 (length two - 14) two zs ≡ overwrite (command_onto (Sides x) []) o
   unfolding bytes_onto
-  sides-are zs ez = written_part two o (0x42 ∷ ratio_onto x.up (bytes_onto 5 x.down.p [])) (bytes_onto 3 x.down.q []) zs 14 two_is refl ez
+  sides_are zs ez = written_part two o (0x42 ∷ ratio_onto x.up (bytes_onto 5 x.down.p [])) (bytes_onto 3 x.down.q []) zs 14 two_is refl ez
 
 pub returns : goal.returns
 returns c =
     let a = c.args in
-    sides-are a.part.now a.x c.put_operands.new.part c.put_operands.ensures c.put_number.new.part c.put_number.ensures c.put_number-2.new.part c.put_number-2.ensures
+    sides_are a.part.now a.x c.put_operands.new.part c.put_operands.ensures c.put_number.new.part c.put_number.ensures c.put_number-2.new.part c.put_number-2.ensures
