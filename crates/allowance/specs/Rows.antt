@@ -4,8 +4,7 @@
 -- Laws are in RowLaws. Assumes nothing.
 use Rattle.std.specs.Prelude.{◌&&◌, List, ℕ, leb, ℤ, length}
 use Rattle.refusal.specs.declared.Refusal.TheVariants.{Allowance, Holes}
-use Rattle.refusal.specs.declared.Checked.{Checked}
-use Rattle.refusal.specs.Table.{row, room_row, ◌then_check◌}
+use Rattle.refusal.specs.Table.{row, room_row, ◌then_check◌, Checked}
 use Rattle.trace.specs.Trace.{trace_rows}
 use Rattle.limits.specs.Prepare.{gap_row}
 use Rattle.closest.specs.Closest.{fewest_samples}

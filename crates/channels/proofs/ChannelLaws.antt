@@ -1,92 +1,20 @@
--- Laws of channels: lengths that add up, row 11, parts and places.
+-- Laws of channels: row 11, parts and places.
 -- Assumes nothing.
-use mathlib.Core.Path.{◌≡◌, refl, sym, ◌∙◌, ap}
+use Rattle.std.specs.Prelude.{Ok}
+use mathlib.Core.Path.{◌≡◌, ap}
 use mathlib.Core.List.{List, [], ◌∷◌}
 use Prim.Native.Nat.{ℕ, zero, suc, ◌+◌, ◌-◌, ◌≤◌, ◌<◌}
-use native.Mathlib.Numerals.{add-one}
 use native.Mathlib.Omega.{arith}
-use mathlib.Core.Bool.{Bool, true, false, ◌&&◌}
-use lib.Dec.{leb, eqb}
 use lib.IntN.{ℤ}
-use borrow.Author.Tests.{eq-eqb, ne_eqb, eqb-true, eqb-false, le-leb, lt-leb, leb-true}
-use Rattle.lists.proofs.Tests.{by_test}
-use lib.ListN.{length, take, drop, get_or, length-drop, drop_of_length-le}
-use lib.Seq.{drop-cons, length-take-le}
-use Rattle.refusal.specs.declared.Refusal.TheVariants.{Crate}
-use Rattle.refusal.proofs.TableLaws.{row_fine}
-use Rattle.refusal.specs.declared.Checked.TheVariants.{Fine, Refused}
+use Rattle.std.proofs.lemmas.Bool.Decides.{nat_tests}
+use lib.ListN.{length, take, drop, get_or, length-drop}
+use lib.Seq.{length-take-le}
 use Rattle.channels.specs.Channels.{part, sum, place_of, of_channel, crate_row, Divided}
 
--- ---- lengths: those before i take n - left
-pub record Adding (ls : List ℕ) (n left i : ℕ) : Type 0 where
-  pub upto : i ≤ length ls
-  pub most : left ≤ n
-  pub rest : sum ls ≡ n - left + sum (drop i ls)
-
-pub adding_none : (ls : List ℕ) (n : ℕ) → Adding ls n n 0
-adding_none ls n = record { upto = omega arith; most = omega arith; rest = omega arith }
-
-module _ {ls : List ℕ} {n left i : ℕ} (h : Adding ls n left i) where
-  pub adding_more : {k : ℕ} → i < length ls → k ≡ get_or ls i 0 → k ≤ left → Adding ls n (left - k) (i + 1)
-  adding_more {k} lt e le =
-      let s = ap sum (drop-cons ls i 0 lt) in
-      record { upto = omega (arith, lt); most = omega (arith, h.most); rest = rw (add-one i) (omega (arith, h.most, h.rest, s, e, le)) }
-
-  pub adding_over : {k : ℕ} → i < length ls → k ≡ get_or ls i 0 → left < k → false ≡ eqb (sum ls) n
-  adding_over {k} lt e over =
-      let s = ap sum (drop-cons ls i 0 lt) in
-      sym (ne_eqb (sum ls) n (λ q. above (sum (drop (suc i) ls)) h.most h.rest s e over q))
-    where
-      above : {a b k g : ℕ} (r : ℕ) → left ≤ n → a ≡ n - left + b → b ≡ g + r → k ≡ g → left < k → a ≡ n → ⊥
-      above r p q s e o z = omega arith
-
-  pub adding_all : length ls ≤ i → eqb left 0 ≡ eqb (sum ls) n
-  adding_all ge =
-      let s = h.rest ∙ ap (λ (z : List ℕ). n - left + sum z) (drop_of_length-le ls {i = i} ge) in
-      by_test (eqb left 0) (λ t. t ∙ sym (eq-eqb (sum ls) n (is_all s (eqb-true left 0 t)))) (λ f. f ∙ sym (ne_eqb (sum ls) n (λ z. eqb-false left 0 f (none_left h.most s z))))
-    where
-      is_all : {a : ℕ} → a ≡ n - left + 0 → left ≡ 0 → a ≡ n
-      is_all p q = omega arith
-
-      none_left : {a : ℕ} → left ≤ n → a ≡ n - left + 0 → a ≡ n → left ≡ 0
-      none_left p q z = omega arith
-
 -- ---- row 11
-all_four : (a b c d : Bool) → (a && b && c && d) ≡ true → (b ≡ true) × (c ≡ true) × (d ≡ true)
-all_four true true true true e = (refl, refl, refl)
-all_four true true true false e = (cc, cc, cc)
-all_four true true false d e = (cc, cc, cc)
-all_four true false c d e = (cc, cc, cc)
-all_four false b c d e = (cc, cc, cc)
-
-module _ (ts : List ℕ) (vs : List ℤ) (ls : List ℕ) where
-  pub crate_none : length ls < 1 → Refused Crate ≡ crate_row ts vs ls
-  unfolding crate_row
-  crate_none lt = rw (lt-leb 1 (length ls) lt)
-
-  module _ (ge : 1 ≤ length ls) where
-    pub crate_many : 64 < length ls → Refused Crate ≡ crate_row ts vs ls
-    unfolding crate_row
-    crate_many gt = rw (le-leb 1 (length ls) ge, lt-leb (length ls) 64 gt)
-
-    module _ (few : length ls ≤ 64) where
-      pub crate_ticks_lem : eqb (sum ls) (length ts) ≡ false → Refused Crate ≡ crate_row ts vs ls
-      unfolding crate_row
-      crate_ticks_lem e = rw (le-leb 1 (length ls) ge, le-leb (length ls) 64 few, e)
-
-      pub crate_values_lem : eqb (sum ls) (length ts) ≡ true → eqb (sum ls) (length vs) ≡ false → Refused Crate ≡ crate_row ts vs ls
-      unfolding crate_row
-      crate_values_lem e f = rw (le-leb 1 (length ls) ge, le-leb (length ls) 64 few, e, f)
-
-      pub crate_fine : eqb (sum ls) (length ts) ≡ true → eqb (sum ls) (length vs) ≡ true → Fine ≡ crate_row ts vs ls
-      unfolding crate_row
-      crate_fine e f = rw (le-leb 1 (length ls) ge, le-leb (length ls) 64 few, e, f)
-
-  pub crate_divided : crate_row ts vs ls ≡ Fine → Divided ts vs ls
-  unfolding crate_row
-  crate_divided e =
-      let b = all_four (leb 1 (length ls)) (leb (length ls) 64) (eqb (sum ls) (length ts)) (eqb (sum ls) (length vs)) (row_fine _ Crate e) in
-      record { few = leb-true (length ls) 64 b.0; ticks = eqb-true (sum ls) (length ts) b.1; values = eqb-true (sum ls) (length vs) b.2 }
+pub crate_divided : (ts : List ℕ) (vs : List ℤ) (ls : List ℕ) → crate_row ts vs ls ≡ Ok tt → Divided ts vs ls
+unfolding crate_row
+crate_divided ts vs ls e = record { few = grind (arith, nat_tests); ticks = grind (arith, nat_tests); values = grind (arith, nat_tests) }
 
 -- ---- parts and places
 

@@ -5,9 +5,8 @@
 --   Divided                    what it shows: at most 64 channels, whose lengths add up to each list
 -- Laws are in ChannelLaws. Assumes nothing.
 use Rattle.std.specs.Prelude.{◌≡◌, ◌&&◌, List, [], ◌∷◌, ℕ, ◌+◌, ◌≤◌, leb, eqb, ℤ, length, take, drop, get_or}
-use Rattle.refusal.specs.declared.Checked.{Checked}
 use Rattle.refusal.specs.declared.Refusal.TheVariants.{Crate}
-use Rattle.refusal.specs.Table.{row}
+use Rattle.refusal.specs.Table.{row, Checked}
 
 abbrev pub part : {A : Type 0} → ℕ → ℕ → List A → List A
 part at n l = take n (drop at l)

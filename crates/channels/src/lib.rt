@@ -4,41 +4,31 @@
 ghost use Rattle.std.specs.Prelude.{◌≡◌, eqb};
 ghost use Rattle.channels.specs.Channels.{sum, crate_row};
 
-use refusal::{Checked, Refusal};
+use refusal::Refusal;
 
 // Whether the lengths add up to n.
 fn adds_up(lengths: &[usize], n: usize) -> bool
     ensures { result ≡ eqb (sum lengths.now) n }
 {
     let mut left = n;
-    let mut i = 0;
-    while i < lengths.len() {
-        let next = lengths[i];
+    for &next in lengths {
         if left < next {
             return false;
         }
         left -= next;
-        i += 1;
     }
     left == 0
 }
 
 // Check 11: there are 1 to 64 channels, and their lengths add up to each list.
-pub fn check(ticks: &[u32], values: &[i16], lengths: &[usize]) -> Checked
+#[tactic(auto, using(std::proofs::lemmas::Bool::Decides::nat_tests), unfolding(crate::specs::Channels::crate_row))]
+pub fn check(ticks: &[u32], values: &[i16], lengths: &[usize]) -> Result<(), Refusal>
     ensures { result ≡ crate_row ticks.now values.now lengths.now }
 {
     let m = lengths.len();
-    if m < 1 {
-        return Checked::Refused(Refusal::Crate);
+    if 1 <= m && m <= 64 && adds_up(lengths, ticks.len()) && adds_up(lengths, values.len()) {
+        Ok(())
+    } else {
+        Err(Refusal::Crate)
     }
-    if 64 < m {
-        return Checked::Refused(Refusal::Crate);
-    }
-    if !adds_up(lengths, ticks.len()) {
-        return Checked::Refused(Refusal::Crate);
-    }
-    if !adds_up(lengths, values.len()) {
-        return Checked::Refused(Refusal::Crate);
-    }
-    Checked::Fine
 }

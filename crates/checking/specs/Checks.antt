@@ -3,17 +3,16 @@
 --   TraceOutcome   the contract of `check_trace`: that row; where none applies, the two lists are a trace
 --   CrateOutcome   the contract of `check_crate`: row 11; where it does not apply, the lengths divide the two lists
 -- Assumes nothing.
-use Rattle.std.specs.Prelude.{◌≡◌, List, ℕ, ℤ}
-use Rattle.refusal.specs.declared.Checked.{Checked}
-use Rattle.refusal.specs.declared.Checked.TheVariants.{Fine}
+use Rattle.std.specs.Prelude.{◌≡◌, List, ℕ, ℤ, Ok}
 use Rattle.channels.specs.Channels.{crate_row, Divided}
 use Rattle.trace.specs.Trace.{Trace}
+use Rattle.refusal.specs.Table.{Checked}
 pub use Rattle.judging.specs.Measure.{own_rows}
 
 pub record TraceOutcome (ts : List ℕ) (vs : List ℤ) (r : Checked) : Type 0 where
   pub is : r ≡ own_rows ts vs
-  pub trace : r ≡ Fine → Trace ts vs
+  pub trace : r ≡ Ok tt → Trace ts vs
 
 pub record CrateOutcome (ts : List ℕ) (vs : List ℤ) (ls : List ℕ) (r : Checked) : Type 0 where
   pub is : r ≡ crate_row ts vs ls
-  pub divided : r ≡ Fine → Divided ts vs ls
+  pub divided : r ≡ Ok tt → Divided ts vs ls

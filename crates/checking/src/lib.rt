@@ -4,12 +4,5 @@
 use refusal::Refusal;
 use tolerance::Parts;
 
-// What `hold` answers: the parts of the tolerance in lowest terms, or a refusal.
-#[derive(Clone, Copy)]
-pub enum Holding {
-    Held(Parts),
-    Refused(Refusal),
-}
-
 pub mod checks;
 pub mod hold;

@@ -1,7 +1,7 @@
 -- Laws of the search for the least error: what may be tried, what a trial says, and where the search may end.
 -- Assumes nothing.
-use mathlib.Core.Path.{◌≡◌, refl, sym}
-use mathlib.Core.Bool.{true, false}
+use Rattle.std.specs.Prelude.{Some}
+use mathlib.Core.Path.{◌≡◌, sym}
 use mathlib.Core.List.{List}
 use mathlib.Core.Logic.{◌↔◌}
 use Prim.Native.Nat.{ℕ, suc, ◌+◌, ◌-◌, ◌*◌, ◌/◌, ◌≤◌, ◌<◌}
@@ -16,8 +16,7 @@ use Rattle.ratio.specs.Farey.{Searched, Surrounds}
 use Rattle.ratio.proofs.OrderLaws.{at_most_trans, at_most_below, common_product}
 use Rattle.ratio.proofs.FareyLaws.{nearest_below}
 use Rattle.lists.specs.Overwrite.{Wrote}
-use Rattle.lists.proofs.Tests.{true_false}
-use Rattle.lists.proofs.OverwriteLaws.{wrote_read, wrote_fits}
+use Rattle.lists.proofs.OverwriteLaws.{wrote_read}
 use Rattle.kept.specs.Kept.{KeptList, AllValid, Greedy}
 use Rattle.kept.specs.Stops.{list_by}
 use Rattle.kept.proofs.KeptLaws.{greedy_size}
@@ -83,33 +82,20 @@ module _ {l o o' : List ℕ} {k : ℕ} (w : Wrote l o k o') where
   pub wrote_kept : {n : ℕ} → KeptList n l → KeptList n (take k o')
   wrote_kept h = rw (wrote_read w) h
 
-  pub wrote_room : k ≤ length o'
-  wrote_room = wrote_fits w
-
-  pub wrote_length : k ≡ length (take k o')
-  wrote_length = rw (wrote_read w) w.count
-
 -- the minimum's list at x
 module _ (ts : List ℕ) (vs : List ℤ) (g : ℕ) (x : Ratio) {o o' : List ℕ} {k : ℕ} (w : Wrote (minimum_list ts vs (limited g x)) o k o') where
-  pub tried_long : {m : ℕ} → m < k → Tried ts vs g m x (record { fits = false; error = x })
-  tried_long lt = record { fit = λ e. true_false e refl; long = λ _. rw w.count at lt }
-
   pub tried_kept : KeptList (length ts - 1) (take k o')
   tried_kept = wrote_kept w (minimum_list_lem ts vs (limited g x)).kept
 
   -- the minimum's list has at most the error x
-  pub tried_fit : {m : ℕ} → Trace ts vs → k ≤ m → {y : Ratio} → y ≡ list_error ts vs (take k o') → Bounded (criterion y) → Tried ts vs g m x (record { fits = true; error = y })
+  pub tried_fit : {m : ℕ} → Trace ts vs → k ≤ m → {y : Ratio} → y ≡ list_error ts vs (take k o') → Bounded (criterion y) → Tried ts vs g m x (Some y)
   tried_fit t le {y} e b =
       let min = minimum_list_lem ts vs (limited g x) in
       let is : y ≡ list_error ts vs (minimum_list ts vs (limited g x)) = rw (wrote_read w) at e in
-      let v = (within_error t g _ min.kept x).0 min.valid in
-      record {
-        fit = λ _. (
-          record { list = minimum_list ts vs (limited g x); kept = min.kept; obeying = v.0; fits = omega (arith, w.count); error = sym is; allowed = b },
-          rw is v.1,
-        );
-        long = λ f. true_false refl f;
-      }
+      let v = (within_error t g _ min.kept x).0 min.valid in (
+        record { list = minimum_list ts vs (limited g x); kept = min.kept; obeying = v.0; fits = omega (arith, w.count); error = sym is; allowed = b },
+        rw is v.1,
+      )
 
 -- ---- the shortest list that obeys the gap limit
 

@@ -8,7 +8,7 @@
 --   Candidate     a fraction that may be tried
 --   Before        the greatest fraction below x of the denominators that link errors have
 -- Laws are in ClosestLaws. Assumes nothing.
-use Rattle.std.specs.Prelude.{◌≡◌, true, false, List, ℕ, ◌-◌, ◌≤◌, ◌<◌, ℤ, length}
+use Rattle.std.specs.Prelude.{◌≡◌, List, ℕ, ◌-◌, ◌≤◌, ◌<◌, ℤ, length, None, Option, Some}
 use Rattle.ratio.specs.declared.Ratio.{Ratio}
 use Rattle.ratio.specs.Order.{AtMost, Below, Small}
 use Rattle.kept.specs.Kept.{KeptList, AllValid}
@@ -17,7 +17,6 @@ use Rattle.kept.specs.Least.{obeying_error, least_of}
 use Rattle.trace.specs.Trace.{Trace}
 use Rattle.trace.specs.Link.{obeys, links_end, link_error, list_error, limited, criterion, Bounded}
 use Rattle.shortest.specs.Shortest.{minimum_list}
-use Rattle.closest.specs.declared.Trial.{Trial}
 use Rattle.closest.specs.declared.Interval.{Interval}
 
 abbrev pub least_error : List ℕ → List ℤ → ℕ → ℕ → Ratio
@@ -44,9 +43,9 @@ pub record Reached (ts : List ℕ) (vs : List ℤ) (g m : ℕ) (x : Ratio) : Typ
   pub error : list_error ts vs list ≡ x
   pub allowed : Bounded (criterion x)
 
-pub record Tried (ts : List ℕ) (vs : List ℤ) (g m : ℕ) (x : Ratio) (t : Trial) : Type 0 where
-  pub fit : t.fits ≡ true → Reached ts vs g m t.error × AtMost t.error x
-  pub long : t.fits ≡ false → m < length (minimum_list ts vs (limited g x))
+abbrev pub Tried : List ℕ → List ℤ → ℕ → ℕ → Ratio → Option Ratio → Type 0
+Tried ts vs g m x (Some e) = Reached ts vs g m e × AtMost e x
+Tried ts vs g m x None = m < length (minimum_list ts vs (limited g x))
 
 pub record Narrowed (ts : List ℕ) (vs : List ℤ) (g m : ℕ) (x : Ratio) (r : Interval) : Type 0 where
   pub low : Bounded (criterion r.low)

@@ -12,13 +12,6 @@ ghost use Rattle.closest.specs.Closest.{Task, least_error};
 use ratio::Ratio;
 use trace::Criterion;
 
-// Whether the minimum's list at a tolerance has at most m samples, and then its error.
-#[derive(Clone, Copy)]
-pub struct Trial {
-    pub fits: bool,
-    pub error: Ratio,
-}
-
 // Where a search stands: `low` is 0 or a tolerance at which no list fits, `high` the error of a list that fits.
 #[derive(Clone, Copy)]
 pub struct Interval {

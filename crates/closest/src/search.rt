@@ -10,23 +10,23 @@ use ratio::Ratio;
 use ratio::order::at_most;
 
 // Tries a tolerance in the middle.
-fn halve(ticks: &[u32], values: &[i16], gap: u32, m: usize, low: Ratio, high: Ratio) -> Interval
-    requires { Task ticks.now values.now gap m × Bounded (criterion low) × Reached ticks.now values.now gap m high }
-    ensures { Narrowed ticks.now values.now gap m high result }
+fn halve(ticks: &[u32], values: &[i16], gap: u32, m: usize, near: Interval) -> Interval
+    requires { Task ticks.now values.now gap m × Bounded (criterion near.low) × Reached ticks.now values.now gap m near.high }
+    ensures { Narrowed ticks.now values.now gap m near.high result }
 {
+    let low = near.low;
+    let high = near.high;
     if high.p == 0 {
-        return Interval { low, high };
+        return near;
     }
     let x = middle(low, high);
     if at_most(high, x) {
-        return Interval { low, high };
+        return near;
     }
-    let t = trial(ticks, values, gap, m, x);
-    if t.fits {
-        let error = t.error;
-        return Interval { low, high: error };
+    match trial(ticks, values, gap, m, x) {
+        Some(error) => Interval { low, high: error },
+        None => Interval { low: x, high },
     }
-    Interval { low: x, high }
 }
 
 // The error of some list of at most m samples that obeys the gap limit: 0 if there is one, otherwise that of the shortest such list.
@@ -34,12 +34,10 @@ fn first_error(ticks: &[u32], values: &[i16], gap: u32, m: usize) -> Ratio
     requires { Task ticks.now values.now gap m }
     ensures { Reached ticks.now values.now gap m result }
 {
-    let t = trial(ticks, values, gap, m, Ratio { p: 0, q: 1 });
-    if t.fits {
-        let error = t.error;
-        return error;
+    match trial(ticks, values, gap, m, Ratio { p: 0, q: 1 }) {
+        Some(error) => error,
+        None => obeying_error(ticks, values, gap, m),
     }
-    obeying_error(ticks, values, gap, m)
 }
 
 // Halves the tolerances below `from` until they are narrow: 24 times are enough, as fractions tried lie within 1/1,048,575 of the middle.
@@ -47,19 +45,17 @@ fn approach(ticks: &[u32], values: &[i16], gap: u32, m: usize, from: Ratio) -> I
     requires { Task ticks.now values.now gap m × Reached ticks.now values.now gap m from }
     ensures { Narrowed ticks.now values.now gap m from result }
 {
-    let mut low = Ratio { p: 0, q: 1 };
-    let mut high = from;
-    let mut turn: usize = 0;
-    while turn < 24 {
-        if narrow(low, high) {
-            return Interval { low, high };
+    let mut near = Interval {
+        low: Ratio { p: 0, q: 1 },
+        high: from,
+    };
+    for _ in 0..24 {
+        if narrow(near.low, near.high) {
+            return near;
         }
-        let next = halve(ticks, values, gap, m, low, high);
-        low = next.low;
-        high = next.high;
-        turn += 1;
+        near = halve(ticks, values, gap, m, near);
     }
-    Interval { low, high }
+    near
 }
 
 // Goes down from an error that is reached: no list fits below where it ends.
@@ -68,18 +64,20 @@ fn descend(ticks: &[u32], values: &[i16], gap: u32, m: usize, from: Interval) ->
     ensures is { result ≡ least_error ticks.now values.now gap m }
     ensures allowed { Bounded (criterion result) }
 {
-    let mut low = from.low;
-    let mut high = from.high;
-    while 0 < high.p {
-        let t = trial(ticks, values, gap, m, before(high));
-        if !t.fits {
-            return high;
+    let mut near = from;
+    while 0 < near.high.p {
+        match trial(ticks, values, gap, m, before(near.high)) {
+            Some(error) => {
+                let tried = Interval {
+                    low: near.low,
+                    high: error,
+                };
+                near = halve(ticks, values, gap, m, tried);
+            }
+            None => return near.high,
         }
-        let next = halve(ticks, values, gap, m, low, t.error);
-        low = next.low;
-        high = next.high;
     }
-    high
+    near.high
 }
 
 // The least error over the kept lists of at most m samples that obey the gap limit.

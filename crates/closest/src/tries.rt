@@ -5,18 +5,20 @@ ghost use Rattle.trace.specs.Trace.{Trace};
 ghost use Rattle.trace.specs.Link.{Bounded, criterion};
 ghost use Rattle.closest.specs.Closest.{Task, Reached, Tried, obeying_list, fewest_samples};
 
-use crate::Trial;
 use proposed::list_error;
 use ratio::Ratio;
 use trace::Criterion;
 use trace::gaps::links_end;
 
-// Tries the tolerance x by the minimum's list at it.
-pub fn trial(ticks: &[u32], values: &[i16], gap: u32, m: usize, x: Ratio) -> Trial
+// Fixed memory: least takes traces of at most 256 samples, so a list has no more.
+const NO_LIST: [u16; 256] = [0; 256];
+
+// Tries the tolerance x by the minimum's list at it: the list's error if it has at most m samples.
+pub fn trial(ticks: &[u32], values: &[i16], gap: u32, m: usize, x: Ratio) -> Option<Ratio>
     requires { Task ticks.now values.now gap m × Bounded (criterion x) }
     ensures { Tried ticks.now values.now gap m x result }
 {
-    let mut list = [0u16; 256];
+    let mut list = NO_LIST;
     let c = Criterion {
         up: x,
         down: x,
@@ -24,13 +26,9 @@ pub fn trial(ticks: &[u32], values: &[i16], gap: u32, m: usize, x: Ratio) -> Tri
     };
     let kept = shortest::minimum(ticks, values, c, &mut list);
     if m < kept {
-        return Trial {
-            fits: false,
-            error: x,
-        };
+        return None;
     }
-    let error = list_error(ticks, values, &list[..kept]);
-    Trial { fits: true, error }
+    Some(list_error(ticks, values, &list[..kept]))
 }
 
 // Writes the shortest list that obeys the gap limit over the front of `out`, and returns its kept number.
@@ -55,7 +53,7 @@ pub fn fewest(ticks: &[u32], values: &[i16], gap: u32) -> usize
     requires { Trace ticks.now values.now × (length ticks.now ≤ 256) }
     ensures { result ≡ fewest_samples ticks.now gap }
 {
-    let mut list = [0u16; 256];
+    let mut list = NO_LIST;
     obeying(ticks, values, gap, &mut list)
 }
 
@@ -64,7 +62,7 @@ pub fn obeying_error(ticks: &[u32], values: &[i16], gap: u32, m: usize) -> Ratio
     requires { Task ticks.now values.now gap m }
     ensures { Reached ticks.now values.now gap m result }
 {
-    let mut list = [0u16; 256];
+    let mut list = NO_LIST;
     let kept = obeying(ticks, values, gap, &mut list);
     list_error(ticks, values, &list[..kept])
 }

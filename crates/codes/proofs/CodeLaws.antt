@@ -1,6 +1,7 @@
 -- Laws of the values of codes, for all codes at once: what the shift gives in 16 bits, and the strict rise. A table of all
 -- values passes the check of a table, and codes expanded by it have the values that the rule gives.
 -- Assumes nothing.
+use Rattle.std.specs.Prelude.{Ok}
 use mathlib.Core.Path.{◌≡◌, refl, ap}
 use mathlib.Core.Logic.{⊎_elim}
 use mathlib.Core.List.{List, [], ◌∷◌}
@@ -11,7 +12,6 @@ use lib.Dec.{lt→ltb}
 use lib.IntN.{pos}
 use lib.ListN.{length, get_or}
 use lib.Pow.{pow_pos, pow_mono, shl_exact, shl_lt}
-use Rattle.refusal.specs.declared.Checked.TheVariants.{Fine}
 use Rattle.codes.specs.RangeTable.{value_in, values_in, Rises, table_row}
 use Rattle.codes.specs.Code.{code_value, code_values, values_from, code_table}
 use Rattle.codes.proofs.RangeTableLaws.{rises_fine}
@@ -79,7 +79,7 @@ code_table_rises = record {
 }
 
 -- it passes the check of a table
-pub code_table_fine : table_row code_table ≡ Fine
+pub code_table_fine : table_row code_table ≡ Ok tt
 code_table_fine = rises_fine code_table (values_length 256 0) code_table_rises
 
 -- codes expanded by it have their values

@@ -1,6 +1,7 @@
 -- Laws of tables of range values: row 12 applies to a table exactly if it is not 256 long or does not rise; where it rises,
 -- a higher code has a higher value.
 -- Assumes nothing.
+use Rattle.std.specs.Prelude.{Ok}
 use mathlib.Core.Path.{◌≡◌, refl, subst}
 use mathlib.Core.Bool.{false}
 use mathlib.Core.List.{List}
@@ -11,12 +12,10 @@ use lib.Dec.{le→leb, lt→ltb, ltb→lt}
 use lib.IntN.{ℤ, pos, negsuc}
 use lib.ListN.{length}
 use lib.Signed.{le_z, ◌≤ℤ◌, ◌<ℤ◌, le_z_yes, <ℤ-≤ℤ_trans, clash_ℤ}
-use borrow.Author.Tests.{le-leb, lt-leb, leb-true, leb-false, eq-eqb, ne_eqb, eqb-true}
+use borrow.Author.Tests.{leb-true, leb-false, eq-eqb, eqb-true}
 use Rattle.lists.specs.First.{first}
 use Rattle.lists.proofs.Tests.{true_false, is_true, is_false}
 use Rattle.lists.proofs.FirstLaws.{first_found, first_none, neighbours_clear, clear_neighbours}
-use Rattle.refusal.specs.declared.Refusal.TheVariants.{Table}
-use Rattle.refusal.specs.declared.Checked.TheVariants.{Fine, Refused}
 use Rattle.refusal.proofs.TableLaws.{row_fine, then_fine}
 use Rattle.codes.specs.RangeTable.{value_in, Rises, not_rising, table_row}
 
@@ -38,31 +37,16 @@ at_most (negsuc a) (pos b) h = record { le = tt }
 at_most (negsuc a) (negsuc b) h = record { le = le→leb b a (le_of_lt (ltb→lt b a h.lt)) }
 
 module _ (t : List ℤ) where
-  -- ---- row 12, as it is found
-
-  pub other_length : (length t ≡ 256 → ⊥) → Refused (Table 0) ≡ table_row t
-  unfolding table_row
-  other_length h = rw (ne_eqb (length t) 256 h)
-
-  module _ (all : length t ≡ 256) {c : ℕ} (e : c ≡ first (not_rising t) 1 256) where
-    pub first_bad : c < 256 → Refused (Table c) ≡ table_row t
-    unfolding table_row
-    first_bad h = rw (eq-eqb (length t) 256 all, ← e, lt-leb 256 c h)
-
-    pub none_bad : 256 ≤ c → Fine ≡ table_row t
-    unfolding table_row
-    none_bad h = rw (eq-eqb (length t) 256 all, ← e, le-leb 256 c h)
-
   -- ---- row 12 applies to no table of 256 values that rises, and to all others
 
-  pub rises_fine : length t ≡ 256 → Rises t → table_row t ≡ Fine
+  pub rises_fine : length t ≡ 256 → Rises t → table_row t ≡ Ok tt
   unfolding table_row
   rises_fine all r = rw (
     eq-eqb (length t) 256 all,
     first_none {f = not_rising t} {a = 1} {b = 256} (omega arith) (neighbours_clear (λ (d c : ℕ). le_z (value_in t d) (value_in t c)) (λ c l. not_above (r.rises c (omega arith)))),
   )
 
-  pub fine_rises : table_row t ≡ Fine → (length t ≡ 256) × Rises t
+  pub fine_rises : table_row t ≡ Ok tt → (length t ≡ 256) × Rises t
   unfolding table_row
   fine_rises e =
       let a = then_fine _ _ e in

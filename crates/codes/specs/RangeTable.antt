@@ -11,8 +11,7 @@ use Rattle.std.specs.Int.Signed.{le_z}
 use Rattle.lists.specs.First.{first}
 use Rattle.lists.specs.Select.{select}
 use Rattle.refusal.specs.declared.Refusal.TheVariants.{Length, Table}
-use Rattle.refusal.specs.declared.Checked.{Checked}
-use Rattle.refusal.specs.Table.{row, placed, room_row, ◌then_check◌}
+use Rattle.refusal.specs.Table.{row, placed, room_row, ◌then_check◌, Checked}
 
 abbrev pub value_in : List ℤ → ℕ → ℤ
 value_in t c = get_or t c (pos 0)

@@ -12,8 +12,9 @@ pub mod tables;
 fn value(c: u8) -> i16
     ensures { result ≡ pos (code_value c) }
 {
-    let e = c as u16 / 32;
-    let m = c as u16 % 32;
+    let code = u16::from(c);
+    let e = code / 32;
+    let m = code % 32;
     (((m + 32) << e) - 32) as i16
 }
 
@@ -33,10 +34,8 @@ pub fn expand(codes: &[u8], out: &mut [i16])
     ensures { out.new ≡ overwrite (code_values codes.now) out.old }
 {
     let n = codes.len();
-    let mut i = 0;
-    while i < n - i {
+    for i in 0..n.div_ceil(2) {
         put(codes, i, out);
         put(codes, n - 1 - i, out);
-        i += 1;
     }
 }

@@ -8,6 +8,7 @@ use mathlib.Core.Bool.{true, false}
 use mathlib.Core.List.{List, [], ◌∷◌, ◌++◌, append_assoc}
 use Prim.Native.Nat.{ℕ, suc, ◌+◌, ◌-◌, ◌≤◌, ◌<◌}
 use native.Mathlib.Omega.{arith}
+use Rattle.std.specs.Prelude.{Ok}
 use lib.IntN.{ℤ}
 use lib.ListN.{length, set, length-append}
 use Rattle.lists.specs.Overwrite.{overwrite}
@@ -21,7 +22,6 @@ use Rattle.format.specs.Number.{Bytes, value_of}
 use Rattle.format.specs.Format.{step_of, Samples, fault, samples, onto, steps, samples_from, attach}
 use Rattle.format.proofs.RuleLaws.{in_limits_le}
 use Rattle.format.proofs.EncodeParse.{stepped}
-use Rattle.commands.specs.declared.Verdict.TheVariants.{Samples as Gives}
 use Rattle.commands.specs.Passing.{record_verdict, is_sample, closed_by, CursorOk, AfterFirst, Entry, Fitting, Filled}
 
 -- samples before the others
@@ -91,7 +91,7 @@ module _ {b : List ℕ} {start : Cursor} where
       where
         go : (s : Step) → step_of b c ≡ s → closed_by x c s ≡ record_verdict (attach x (samples_from b start))
         go (Sample d) e = true_false (ap is_sample e) q
-        go Ended e = rw (ends e) (ap (λ (n : ℕ). Gives n x) (sym counts))
+        go Ended e = rw (ends e) (ap (λ (n : ℕ). Ok (record { samples = n; tolerance = x })) (sym counts))
         go (Fault k) e = rw (faults e)
 
 -- ---- copying
@@ -109,9 +109,6 @@ fitting_more w v c (samples ts vs) n k m f =
     (omega (arith, f.0), f.1, f.2)
 
 module _ {b : List ℕ} {start : Cursor} {n : ℕ} {o : List ℕ} {u : List ℤ} where
-  pub copying_begins : AfterFirst (length b) start → Fitting (samples_from b start) n (length o) (length u) → Copying b start n o u o u start [] []
-  copying_begins h f = record { passed = begins h; fitting = f; ticks = refl; values = refl }
-
   module _ {ts : List ℕ} {vs : List ℤ} {c : Cursor} {w : List ℕ} {v : List ℤ} (f : Copying b start n o u ts vs c w v) where
     -- the samples passed and the one at the cursor are among the n
     among : {w' : List ℕ} {v' : List ℤ} {d : Cursor} → Passed b start d w' v' → (length w' < n) × (n ≤ length o) × (n ≤ length u)
@@ -147,15 +144,6 @@ module _ {b : List ℕ} {start : Cursor} {n : ℕ} {o : List ℕ} {u : List ℤ}
           let m : c.count - 1 ≡ length v = omega (arith, p.values) in (
             et ∙ rw (n, f.ticks) (overwrite_snoc w o c.tick room.0),
             ev ∙ rw (m, f.values) (overwrite_snoc v u (value_of c.level) (omega (arith, room.1, n, m))),
-          )
-
-      pub stored_lengths : (length ts' ≡ length o) × (length vs' ≡ length u)
-      stored_lengths =
-          let p = f.passed in
-          let n = length-append w (c.tick ∷ []) in
-          let m = length-append v (value_of c.level ∷ []) in (
-            ap length stored.0 ∙ overwrite_length (w ++ (c.tick ∷ [])) o (omega (arith, n, room.0)),
-            ap length stored.1 ∙ overwrite_length (v ++ (value_of c.level ∷ [])) u (omega (arith, m, room.1, p.ticks, p.values)),
           )
 
       pub fills : {d : Cursor} → Bytes b → step_of b c ≡ Sample d → Copying b start n o u ts' vs' d (w ++ (c.tick ∷ [])) (v ++ (value_of c.level ∷ []))

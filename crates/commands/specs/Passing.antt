@@ -1,23 +1,26 @@
 -- What the passes over the commands of a record go by (document 01, "The record").
---   record_verdict           a record's verdict
---   is_sample                a step leads to a sample
+--   Verdict, record_verdict  what is answered of a record: what it says, or its fault; that of what is parsed
+--   is_sample, sample_of     a step leads to a sample; which, if it does
 --   closed_by                the verdict after the last sample
 --   CursorOk, AfterFirst     a cursor within a record; one after the first sample
 --   Entry, Fitting, Filled   lists with an entry for a sample; for all samples; samples written over them
 -- Laws are in PassLaws and CommandsAt. Assumes nothing.
-use Rattle.std.specs.Prelude.{◌≡◌, Bool, true, false, List, ℕ, ◌≤◌, ℤ, length}
+use Rattle.std.specs.Prelude.{◌≡◌, Bool, true, false, List, ℕ, ◌≤◌, ℤ, length, Option, Some, None, Result, Ok, Err}
 use Rattle.lists.specs.Overwrite.{overwrite}
 use Rattle.tolerance.specs.declared.Parts.{Parts}
 use Rattle.format.specs.declared.Cursor.{Cursor}
 use Rattle.format.specs.declared.Step.{Step}
 use Rattle.format.specs.declared.Step.TheVariants.{Sample, End as Ended, Fault as Faulty}
 use Rattle.format.specs.Format.{Samples, fault, samples, Parsed, faulty, says}
-use Rattle.commands.specs.declared.Verdict.{Verdict}
-use Rattle.commands.specs.declared.Verdict.TheVariants.{Samples as Gives, Fault}
+use Rattle.format.specs.declared.Fault.{Fault}
+use Rattle.commands.specs.declared.Content.{Content}
+
+abbrev pub Verdict : Type 0
+Verdict = Result Content Fault
 
 abbrev pub record_verdict : Parsed → Verdict
-record_verdict (faulty k) = Fault k
-record_verdict (says x) = Gives (length x.ticks) x.tolerance
+record_verdict (faulty k) = Err (record { at = k })
+record_verdict (says x) = Ok (record { samples = length x.ticks; tolerance = x.tolerance })
 
 -- a step leads to a sample
 abbrev pub is_sample : Step → Bool
@@ -25,11 +28,17 @@ is_sample (Sample d) = true
 is_sample Ended = false
 is_sample (Faulty k) = false
 
+-- the sample to which a step leads
+abbrev pub sample_of : Step → Option Cursor
+sample_of (Sample d) = Some d
+sample_of Ended = None
+sample_of (Faulty k) = None
+
 -- the verdict at a cursor that no sample follows
 abbrev pub closed_by : Parts → Cursor → Step → Verdict
-closed_by x c (Sample d) = Fault c.at
-closed_by x c Ended = Gives c.count x
-closed_by x c (Faulty k) = Fault k
+closed_by x c (Sample d) = Err (record { at = c.at })
+closed_by x c Ended = Ok (record { samples = c.count; tolerance = x })
+closed_by x c (Faulty k) = Err (record { at = k })
 
 -- a cursor within a record of n bytes
 pub record CursorOk (n : ℕ) (c : Cursor) : Type 0 where

@@ -4,48 +4,42 @@ ghost use Rattle.format.specs.Number.{value_of};
 ghost use Rattle.format.specs.Format.{attach, samples_from, step_of};
 ghost use Rattle.commands.specs.Passing.{record_verdict, is_sample, closed_by, CursorOk, AfterFirst, Entry, Fitting, Filled};
 
-use crate::Verdict;
-use crate::numbers::field;
-use crate::steps::{is_step, next_sample};
-use format::Cursor;
+use crate::Content;
+use crate::command::command_at;
+use crate::steps::{next_sample, step};
+use format::{Command, Cursor, Fault};
 use tolerance::Parts;
 
-// The verdict at a cursor that no sample follows: the end, or a fault.
-fn close(bytes: &[u8], x: Parts, c: Cursor) -> Verdict
+// What is answered at a cursor that no sample follows: at the end what the record says, else the fault.
+fn close(bytes: &[u8], x: Parts, c: Cursor) -> Result<Content, Fault>
     requires { CursorOk (length bytes.now) c × (is_sample (step_of bytes.now c) ≡ false) }
     ensures { result ≡ closed_by x c (step_of bytes.now c) }
 {
-    let at = c.at;
-    let n = bytes.len();
-    if n - at < 3 {
-        return Verdict::Fault(at);
-    }
-    let kind = bytes[at];
-    if kind != 0x45 {
-        return Verdict::Fault(at);
-    }
-    let samples = field(bytes, at + 1, 2);
+    let Command::End(samples) = command_at(bytes, c.at) else {
+        return Err(Fault { at: c.at });
+    };
     if samples != c.count as u64 {
-        return Verdict::Fault(at);
+        return Err(Fault { at: c.at });
     }
-    if at + 3 != n {
-        return Verdict::Fault(at + 3);
+    if c.at + 3 != bytes.len() {
+        return Err(Fault { at: c.at + 3 });
     }
-    Verdict::Samples(c.count, x)
+    Ok(Content {
+        samples: c.count,
+        tolerance: x,
+    })
 }
 
 // Counts the samples, from the cursor after the first one on.
-pub fn count_samples(bytes: &[u8], x: Parts, start: Cursor) -> Verdict
+pub fn count_samples(bytes: &[u8], x: Parts, start: Cursor) -> Result<Content, Fault>
     requires { AfterFirst (length bytes.now) start }
     ensures { result ≡ record_verdict (attach x (samples_from bytes.now start)) }
 {
     let mut c = start;
-    loop {
-        if !is_step(bytes, c) {
-            return close(bytes, x, c);
-        }
-        c = next_sample(bytes, c);
+    while let Some(next) = step(bytes, c) {
+        c = next;
     }
+    close(bytes, x, c)
 }
 
 // The value of a level.
@@ -66,17 +60,15 @@ fn put_sample(ticks: &mut [u32], values: &mut [i16], c: Cursor)
     values[i] = value(c.level);
 }
 
-// Writes the n samples of a record without fault, from the cursor after the first one on.
+// Writes the n samples of a record without fault, from the cursor after the first one on. The cursor counts the samples.
 pub fn fill(bytes: &[u8], start: Cursor, n: usize, ticks: &mut [u32], values: &mut [i16])
     requires { AfterFirst (length bytes.now) start × Fitting (samples_from bytes.now start) n (length ticks.old) (length values.old) }
     ensures { Filled (samples_from bytes.now start) ticks.old values.old ticks.new values.new }
 {
     let mut c = start;
-    loop {
-        put_sample(ticks, values, c);
-        if n <= c.count {
-            return;
-        }
+    put_sample(ticks, values, c);
+    while c.count < n {
         c = next_sample(bytes, c);
+        put_sample(ticks, values, c);
     }
 }

@@ -1,12 +1,12 @@
 -- The outcome of least, from what its checks and its search give.
 -- Assumes nothing.
+use Rattle.std.specs.Prelude.{Ok}
 use mathlib.Core.Path.{◌≡◌}
 use mathlib.Core.List.{List}
 use Prim.Native.Nat.{ℕ, ◌-◌}
 use lib.IntN.{ℤ}
 use lib.ListN.{length}
 use Rattle.lists.specs.Overwrite.{Wrote}
-use Rattle.refusal.specs.declared.Checked.TheVariants.{Fine}
 use Rattle.kept.specs.Minimum.{minimum_of}
 use Rattle.kept.proofs.LeastLaws.{least_error_lem}
 use Rattle.trace.specs.Link.{criterion, Bounded}
@@ -18,7 +18,7 @@ use Rattle.closest.proofs.ClosestLaws.{obeying_kept, obeying_obeys}
 use Rattle.allowance.proofs.RowLaws.{least_task}
 use Rattle.engine.specs.Least.{ok_at, LeastKept}
 
-pub least_kept : {ts : List ℕ} {vs : List ℤ} {g m : ℕ} {o o' : List ℕ} {f : Found} → least_rows ts vs g m (length o) ≡ Fine → f.error ≡ least_error ts vs g m
+pub least_kept : {ts : List ℕ} {vs : List ℤ} {g m : ℕ} {o o' : List ℕ} {f : Found} → least_rows ts vs g m (length o) ≡ Ok tt → f.error ≡ least_error ts vs g m
     → Bounded (criterion f.error) → Wrote (minimum_of (ok_at ts vs g f.error) (length ts - 1)) o f.kept o' → LeastKept ts vs g m o f o'
 least_kept {ts} {vs} {g} {m} {o} rows e b w =
     let t = (least_task ts vs g m (length o) rows).0 in

@@ -2,10 +2,17 @@
 ghost use Rattle.reporting.specs.Report.{Surveyed, ReportOutcome};
 
 use limits::Limits;
-use sheet::{Reported, Sheet, Summary};
+use refusal::Refusal;
+use sheet::{Sheet, Summary, Totals};
 
 // The whole report by value: checks 11, 4, 15 and 10, and the rows.
-pub fn sheet_of(ticks: &[u32], values: &[i16], lengths: &[usize], t: Limits, room: usize) -> Sheet
+pub fn sheet_of(
+    ticks: &[u32],
+    values: &[i16],
+    lengths: &[usize],
+    t: Limits,
+    room: usize,
+) -> Result<Sheet, Refusal>
     ensures { Surveyed ticks.now values.now lengths.now t room result }
 {
     reporting::sheet_of(ticks, values, lengths, t, room)
@@ -18,10 +25,10 @@ pub fn report(
     lengths: &[usize],
     t: Limits,
     out: &mut [Summary],
-) -> Reported
+) -> Result<Totals, Refusal>
     ensures { ReportOutcome ticks.now values.now lengths.now t out.old result out.new }
 {
-    let s = sheet_of(ticks, values, lengths, t, out.len());
-    sheet::fill(out, s);
-    sheet::answer_of(s)
+    let sheet = sheet_of(ticks, values, lengths, t, out.len())?;
+    sheet::fill(out, &sheet);
+    Ok(sheet.totals)
 }

@@ -1,8 +1,7 @@
 // The public call `sum`: two traces added and their kept lists joined (document 02, "Summed channels").
 ghost use Rattle.engine.specs.Sum.{SumOutcome};
 
-use crate::Reduced;
-use refusal::Checked;
+use refusal::Refusal;
 
 // Writes the sum of each sample into the first entries of `sums`, and the samples of either list in rising order into those of `joined`, each of
 // which has as many entries as the traces have samples or more; returns how many samples the joined list keeps.
@@ -15,10 +14,10 @@ pub fn sum(
     list2: &[u16],
     sums: &mut [i16],
     joined: &mut [u16],
-) -> Reduced
+) -> Result<usize, Refusal>
     ensures { SumOutcome ticks1.now values1.now ticks2.now values2.now list1.now list2.now sums.old joined.old result sums.new joined.new }
 {
-    let checked = summed::check(
+    summed::check(
         ticks1,
         values1,
         ticks2,
@@ -27,12 +26,7 @@ pub fn sum(
         list2,
         sums.len(),
         joined.len(),
-    );
-    match checked {
-        Checked::Fine => {
-            summed::adding::add(values1, values2, sums);
-            Reduced::Kept(summed::joining::join(ticks1.len(), list1, list2, joined))
-        }
-        Checked::Refused(x) => Reduced::Refused(x),
-    }
+    )?;
+    summed::adding::add(values1, values2, sums);
+    Ok(summed::joining::join(ticks1.len(), list1, list2, joined))
 }

@@ -1,2 +1,1 @@
 -- The laws of the crate `expanding`.
-pub mod ExpandLaws

@@ -1,22 +1,18 @@
 // The call `expand`: the values of range codes.
 ghost use Rattle.expanding.specs.Expand.{ExpandOutcome};
 
-use refusal::{Refusal, Written};
+use refusal::{Refusal, check_room};
 
 // Writes the value of each code into the first entries of `out`, which has as many entries as there are codes or more.
-pub fn expand(codes: &[u8], out: &mut [i16]) -> Written
+#[tactic(auto, unfolding(crate::specs::Expand::expand_rows))]
+pub fn expand(codes: &[u8], out: &mut [i16]) -> Result<usize, Refusal>
     ensures { ExpandOutcome codes.now out.old result out.new }
 {
     let n = codes.len();
-    if n < 1 {
-        return Written::Refused(Refusal::Length);
+    if n < 1 || 4096 < n {
+        return Err(Refusal::Length);
     }
-    if 4096 < n {
-        return Written::Refused(Refusal::Length);
-    }
-    if out.len() < n {
-        return Written::Refused(Refusal::Room(n));
-    }
+    check_room(n, out.len())?;
     codes::expand(codes, out);
-    Written::Count(n)
+    Ok(n)
 }

@@ -1,19 +1,14 @@
 // The call `expand_with`: the values of range codes in a table that the caller brings.
 ghost use Rattle.expanding.specs.Expand.{ExpandWithOutcome};
 
-use refusal::{Checked, Written};
+use refusal::Refusal;
 
 // Writes the table's value of each code into the first entries of `out`, which has as many entries as there are codes or more.
 // The table has 256 values, each above the one before.
-pub fn expand_with(codes: &[u8], table: &[i16], out: &mut [i16]) -> Written
+pub fn expand_with(codes: &[u8], table: &[i16], out: &mut [i16]) -> Result<usize, Refusal>
     ensures { ExpandWithOutcome codes.now table.now out.old result out.new }
 {
-    let checked = codes::tables::check(codes, table, out.len());
-    match checked {
-        Checked::Fine => {
-            codes::tables::expand_by(table, codes, out);
-            Written::Count(codes.len())
-        }
-        Checked::Refused(x) => Written::Refused(x),
-    }
+    codes::tables::check(codes, table, out.len())?;
+    codes::tables::expand_by(table, codes, out);
+    Ok(codes.len())
 }

@@ -1,5 +1,6 @@
 -- The figures of document 01, "Figures to reproduce", over the definitions that the contracts name, each by computation.
 -- Assumes nothing.
+use Rattle.std.specs.Prelude.{Err, Ok}
 use mathlib.Core.Path.{◌≡◌, refl}
 use mathlib.Core.Bool.{true, false}
 use mathlib.Core.List.{List, [], ◌∷◌}
@@ -14,7 +15,6 @@ use Rattle.kept.specs.Minimum.{best_stop, links_in, links_of, next_of, minimum_o
 use Rattle.kept.specs.Least.{least_over, least_from, least_of}
 use Rattle.kept.specs.Gallop.{probe_of, doubling, bisection, search_by, gallop_search, gallop_of, gallop_probes, sum_from}
 use Rattle.refusal.specs.declared.Refusal.TheVariants.{Tick, Span}
-use Rattle.refusal.specs.declared.Checked.TheVariants.{Fine, Refused}
 use Rattle.refusal.specs.Table.{number_of, returned_of}
 use Rattle.tolerance.specs.declared.Tolerance.TheVariants.{Ratio}
 use Rattle.trace.specs.declared.Criterion.{Criterion}
@@ -148,11 +148,11 @@ unfolding criterion_of valid obeys hole all_within all_from within above below d
 slope_invalid = refl
 
 -- so judge passes the list 0 2 at the one, and names link 0 and its sample 1 at the other
-slope_passed : judge_of slope_ticks slope_values (0 ∷ 2 ∷ []) (unlimited (Ratio 4 6)) ≡ Yes
+slope_passed : judge_of slope_ticks slope_values (0 ∷ 2 ∷ []) (unlimited (Ratio 4 6)) ≡ Ok Yes
 unfolding judge_of judge_rows common_rows criterion_of list_verdict trace_rows list_row bad_at first_invalid first first_of valid obeys hole all_within all_from within above below deviation gcd euclid
 slope_passed = refl
 
-slope_named : judge_of slope_ticks slope_values (0 ∷ 2 ∷ []) (unlimited (Ratio 665 1000)) ≡ No 0 (record { error = over 2 3; sample = 1; side = Above })
+slope_named : judge_of slope_ticks slope_values (0 ∷ 2 ∷ []) (unlimited (Ratio 665 1000)) ≡ Ok (No 0 (record { error = over 2 3; sample = 1; side = Above }))
 unfolding judge_of judge_rows common_rows criterion_of list_verdict trace_rows list_row bad_at first_invalid fault_of worst_sample first first_of valid obeys hole all_within all_from within above below link_error farthest greatest deviation gcd euclid
 slope_named = refl
 
@@ -161,7 +161,7 @@ slope_named = refl
 abbrev flat : List ℤ
 flat = pos 0 ∷ pos 0 ∷ []
 
-span_passes : trace_rows 4096 (0 ∷ 1048575 ∷ []) flat ≡ Fine
+span_passes : trace_rows 4096 (0 ∷ 1048575 ∷ []) flat ≡ Ok tt
 unfolding trace_rows first first_of
 span_passes = refl
 
@@ -169,14 +169,14 @@ span_passes = refl
 span_too_long_number : (number_of (Span 1) ≡ 3) × (returned_of (Span 1) ≡ 1)
 span_too_long_number = (refl, refl)
 
-span_too_long : trace_rows 4096 (0 ∷ 1048576 ∷ []) flat ≡ Refused (Span 1)
+span_too_long : trace_rows 4096 (0 ∷ 1048576 ∷ []) flat ≡ Err (Span 1)
 unfolding trace_rows first first_of
 span_too_long = refl
 
 tick_not_above_number : (number_of (Tick 1) ≡ 2) × (returned_of (Tick 1) ≡ 1)
 tick_not_above_number = (refl, refl)
 
-tick_not_above : trace_rows 4096 (5 ∷ 5 ∷ []) flat ≡ Refused (Tick 1)
+tick_not_above : trace_rows 4096 (5 ∷ 5 ∷ []) flat ≡ Err (Tick 1)
 unfolding trace_rows first first_of
 tick_not_above = refl
 

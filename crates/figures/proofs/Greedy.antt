@@ -1,6 +1,7 @@
 -- Examples of the request "Lists from other labs" of document 02, over the definitions that the contract names, each by computation: lists that pass and
 -- lists at fault, with the gap limit and with two parts; and two weaker questions from which the size bound does not follow.
 -- Assumes nothing.
+use Rattle.std.specs.Prelude.{Ok, Err}
 use mathlib.Core.Path.{◌≡◌, refl}
 use mathlib.Core.Bool.{Bool, false}
 use mathlib.Core.List.{List, [], ◌∷◌}
@@ -26,7 +27,7 @@ use Rattle.proposed.specs.Proposed.{bad_at, list_row}
 use Rattle.limits.specs.declared.Limits.{Limits}
 use Rattle.limits.specs.Prepare.{unlimited, common_rows, criterion_of}
 use Rattle.judging.specs.Judge.{judge_rows}
-use Rattle.greedy.specs.declared.GreedyVerdict.TheVariants.{Yes, Link, Stop, Refused}
+use Rattle.greedy.specs.declared.GreedyVerdict.TheVariants.{Yes, Link, Stop}
 use Rattle.greedy.specs.Greedy.{first_faulty, list_greedy, judge_greedy_of}
 
 abbrev five_ticks : List ℕ
@@ -40,25 +41,25 @@ at_two = unlimited (Ratio 2 1)
 abbrev peaks : List ℤ
 peaks = pos 0 ∷ pos 3 ∷ pos 0 ∷ pos 3 ∷ pos 0 ∷ []
 
-peaks_all : judge_greedy_of five_ticks peaks (0 ∷ 1 ∷ 2 ∷ 3 ∷ 4 ∷ []) at_two ≡ Yes
+peaks_all : judge_greedy_of five_ticks peaks (0 ∷ 1 ∷ 2 ∷ 3 ∷ 4 ∷ []) at_two ≡ Ok Yes
 unfolding judge_greedy_of judge_rows common_rows trace_rows list_row bad_at list_greedy first_faulty first first_of criterion_of valid obeys hole all_within all_from within above below deviation gcd euclid
 peaks_all = refl
 
-peaks_later : judge_greedy_of five_ticks peaks (0 ∷ 3 ∷ 4 ∷ []) at_two ≡ Yes
+peaks_later : judge_greedy_of five_ticks peaks (0 ∷ 3 ∷ 4 ∷ []) at_two ≡ Ok Yes
 unfolding judge_greedy_of judge_rows common_rows trace_rows list_row bad_at list_greedy first_faulty first first_of criterion_of valid obeys hole all_within all_from within above below deviation gcd euclid
 peaks_later = refl
 
-peaks_earlier : judge_greedy_of five_ticks peaks (0 ∷ 1 ∷ 4 ∷ []) at_two ≡ Yes
+peaks_earlier : judge_greedy_of five_ticks peaks (0 ∷ 1 ∷ 4 ∷ []) at_two ≡ Ok Yes
 unfolding judge_greedy_of judge_rows common_rows trace_rows list_row bad_at list_greedy first_faulty first first_of criterion_of valid obeys hole all_within all_from within above below deviation gcd euclid
 peaks_earlier = refl
 
 -- 0 4 is at fault at 0, the link
-peaks_ends : judge_greedy_of five_ticks peaks (0 ∷ 4 ∷ []) at_two ≡ Link 0
+peaks_ends : judge_greedy_of five_ticks peaks (0 ∷ 4 ∷ []) at_two ≡ Ok (Link 0)
 unfolding judge_greedy_of judge_rows common_rows trace_rows list_row bad_at list_greedy first_faulty first first_of criterion_of valid obeys hole all_within all_from within above below deviation gcd euclid
 peaks_ends = refl
 
 -- 0 to 2 is invalid and 0 to 3 is valid: where both faults share a position the link is named
-peaks_both : judge_greedy_of five_ticks peaks (0 ∷ 2 ∷ 3 ∷ 4 ∷ []) at_two ≡ Link 0
+peaks_both : judge_greedy_of five_ticks peaks (0 ∷ 2 ∷ 3 ∷ 4 ∷ []) at_two ≡ Ok (Link 0)
 unfolding judge_greedy_of judge_rows common_rows trace_rows list_row bad_at list_greedy first_faulty first first_of criterion_of valid obeys hole all_within all_from within above below deviation gcd euclid
 peaks_both = refl
 
@@ -67,25 +68,25 @@ peaks_both = refl
 abbrev swing : List ℤ
 swing = pos 0 ∷ pos 2 ∷ pos 0 ∷ negsuc 1 ∷ pos 0 ∷ []
 
-swing_two_links : judge_greedy_of five_ticks swing (0 ∷ 2 ∷ 4 ∷ []) at_two ≡ Yes
+swing_two_links : judge_greedy_of five_ticks swing (0 ∷ 2 ∷ 4 ∷ []) at_two ≡ Ok Yes
 unfolding judge_greedy_of judge_rows common_rows trace_rows list_row bad_at list_greedy first_faulty first first_of criterion_of valid obeys hole all_within all_from within above below deviation gcd euclid
 swing_two_links = refl
 
-swing_one_link : judge_greedy_of five_ticks swing (0 ∷ 4 ∷ []) at_two ≡ Yes
+swing_one_link : judge_greedy_of five_ticks swing (0 ∷ 4 ∷ []) at_two ≡ Ok Yes
 unfolding judge_greedy_of judge_rows common_rows trace_rows list_row bad_at list_greedy first_faulty first first_of criterion_of valid obeys hole all_within all_from within above below deviation gcd euclid
 swing_one_link = refl
 
 -- from 0 the link to 2 is valid too: a stop at 1 is at fault
-swing_stop : judge_greedy_of five_ticks swing (0 ∷ 1 ∷ 4 ∷ []) at_two ≡ Stop 0
+swing_stop : judge_greedy_of five_ticks swing (0 ∷ 1 ∷ 4 ∷ []) at_two ≡ Ok (Stop 0)
 unfolding judge_greedy_of judge_rows common_rows trace_rows list_row bad_at list_greedy first_faulty first first_of criterion_of valid obeys hole all_within all_from within above below deviation gcd euclid
 swing_stop = refl
 
-swing_link : judge_greedy_of five_ticks swing (0 ∷ 3 ∷ 4 ∷ []) at_two ≡ Link 0
+swing_link : judge_greedy_of five_ticks swing (0 ∷ 3 ∷ 4 ∷ []) at_two ≡ Ok (Link 0)
 unfolding judge_greedy_of judge_rows common_rows trace_rows list_row bad_at list_greedy first_faulty first first_of criterion_of valid obeys hole all_within all_from within above below deviation gcd euclid
 swing_link = refl
 
 -- a stop has the position of the link that ends there
-swing_second : judge_greedy_of five_ticks swing (0 ∷ 2 ∷ 3 ∷ 4 ∷ []) at_two ≡ Stop 1
+swing_second : judge_greedy_of five_ticks swing (0 ∷ 2 ∷ 3 ∷ 4 ∷ []) at_two ≡ Ok (Stop 1)
 unfolding judge_greedy_of judge_rows common_rows trace_rows list_row bad_at list_greedy first_faulty first first_of criterion_of valid obeys hole all_within all_from within above below deviation gcd euclid
 swing_second = refl
 
@@ -94,17 +95,17 @@ swing_second = refl
 abbrev uneven : Limits
 uneven = unlimited (Parts (record { up = over 2 1; down = over 1 1 }))
 
-swing_parts : judge_greedy_of five_ticks swing (0 ∷ 2 ∷ 3 ∷ 4 ∷ []) uneven ≡ Yes
+swing_parts : judge_greedy_of five_ticks swing (0 ∷ 2 ∷ 3 ∷ 4 ∷ []) uneven ≡ Ok Yes
 unfolding judge_greedy_of judge_rows common_rows trace_rows list_row bad_at list_greedy first_faulty first first_of criterion_of valid obeys hole all_within all_from within above below deviation gcd euclid
 swing_parts = refl
 
-swing_parts_link : judge_greedy_of five_ticks swing (0 ∷ 2 ∷ 4 ∷ []) uneven ≡ Link 1
+swing_parts_link : judge_greedy_of five_ticks swing (0 ∷ 2 ∷ 4 ∷ []) uneven ≡ Ok (Link 1)
 unfolding judge_greedy_of judge_rows common_rows trace_rows list_row bad_at list_greedy first_faulty first first_of criterion_of valid obeys hole all_within all_from within above below deviation gcd euclid
 swing_parts_link = refl
 
 -- ---- one sample
 
-one_sample : judge_greedy_of (9 ∷ []) (pos 7 ∷ []) (0 ∷ []) at_two ≡ Yes
+one_sample : judge_greedy_of (9 ∷ []) (pos 7 ∷ []) (0 ∷ []) at_two ≡ Ok Yes
 unfolding judge_greedy_of judge_rows common_rows trace_rows list_row bad_at list_greedy first_faulty first first_of criterion_of valid obeys hole all_within all_from within above below deviation gcd euclid
 one_sample = refl
 
@@ -127,11 +128,11 @@ rough_gallop : gallop_list seven_ticks rough (criterion_of at_three) ≡ 0 ∷ 4
 unfolding gallop_of gallop_search probe_of search_by doubling bisection stops criterion_of valid obeys hole all_within all_from within above below deviation gcd euclid
 rough_gallop = refl
 
-rough_walk_passes : judge_greedy_of seven_ticks rough (0 ∷ 2 ∷ 6 ∷ []) at_three ≡ Yes
+rough_walk_passes : judge_greedy_of seven_ticks rough (0 ∷ 2 ∷ 6 ∷ []) at_three ≡ Ok Yes
 unfolding judge_greedy_of judge_rows common_rows trace_rows list_row bad_at list_greedy first_faulty first first_of criterion_of valid obeys hole all_within all_from within above below deviation gcd euclid
 rough_walk_passes = refl
 
-rough_gallop_passes : judge_greedy_of seven_ticks rough (0 ∷ 4 ∷ 5 ∷ 6 ∷ []) at_three ≡ Yes
+rough_gallop_passes : judge_greedy_of seven_ticks rough (0 ∷ 4 ∷ 5 ∷ 6 ∷ []) at_three ≡ Ok Yes
 unfolding judge_greedy_of judge_rows common_rows trace_rows list_row bad_at list_greedy first_faulty first first_of criterion_of valid obeys hole all_within all_from within above below deviation gcd euclid
 rough_gallop_passes = refl
 
@@ -146,25 +147,25 @@ level = pos 0 ∷ pos 0 ∷ pos 0 ∷ pos 0 ∷ pos 0 ∷ pos 0 ∷ []
 abbrev under : ℕ → Limits
 under g = record { tolerance = Ratio 0 1; gap = g }
 
-holed_7 : judge_greedy_of holed_ticks level (0 ∷ 2 ∷ 3 ∷ 5 ∷ []) (under 7) ≡ Yes
+holed_7 : judge_greedy_of holed_ticks level (0 ∷ 2 ∷ 3 ∷ 5 ∷ []) (under 7) ≡ Ok Yes
 unfolding judge_greedy_of judge_rows common_rows trace_rows list_row bad_at list_greedy first_faulty first first_of criterion_of valid obeys hole all_within all_from within above below deviation gcd euclid
 holed_7 = refl
 
-holed_8 : judge_greedy_of holed_ticks level (0 ∷ 2 ∷ 3 ∷ 5 ∷ []) (under 8) ≡ Stop 0
+holed_8 : judge_greedy_of holed_ticks level (0 ∷ 2 ∷ 3 ∷ 5 ∷ []) (under 8) ≡ Ok (Stop 0)
 unfolding judge_greedy_of judge_rows common_rows trace_rows list_row bad_at list_greedy first_faulty first first_of criterion_of valid obeys hole all_within all_from within above below deviation gcd euclid
 holed_8 = refl
 
-holed_across : judge_greedy_of holed_ticks level (0 ∷ 5 ∷ []) (under 7) ≡ Link 0
+holed_across : judge_greedy_of holed_ticks level (0 ∷ 5 ∷ []) (under 7) ≡ Ok (Link 0)
 unfolding judge_greedy_of judge_rows common_rows trace_rows list_row bad_at list_greedy first_faulty first first_of criterion_of valid obeys hole all_within all_from within above below deviation gcd euclid
 holed_across = refl
 
 -- 15 is checked before 6; a list that stops short is named by its length
 
-holed_gap : judge_greedy_of holed_ticks level (0 ∷ 1 ∷ []) (under 0) ≡ Refused Gap
+holed_gap : judge_greedy_of holed_ticks level (0 ∷ 1 ∷ []) (under 0) ≡ Err Gap
 unfolding judge_greedy_of judge_rows common_rows trace_rows list_row bad_at list_greedy first_faulty first first_of criterion_of valid obeys hole all_within all_from within above below deviation gcd euclid
 holed_gap = refl
 
-holed_short : judge_greedy_of holed_ticks level (0 ∷ 1 ∷ []) (under 7) ≡ Refused (NoKeptList 2)
+holed_short : judge_greedy_of holed_ticks level (0 ∷ 1 ∷ []) (under 7) ≡ Err (NoKeptList 2)
 unfolding judge_greedy_of judge_rows common_rows trace_rows list_row bad_at list_greedy first_faulty first first_of criterion_of valid obeys hole all_within all_from within above below deviation gcd euclid
 holed_short = refl
 

@@ -1,6 +1,7 @@
 -- Examples of the requests of document 02 about links, over the definitions that the contracts name, each by computation: dropouts, and where
 -- the line strays.
 -- Assumes nothing.
+use Rattle.std.specs.Prelude.{Err, Ok}
 use mathlib.Core.Path.{◌≡◌, refl, ap}
 use mathlib.Core.List.{List, [], ◌∷◌}
 use Prim.Native.Nat.{ℕ, ◌≤◌}
@@ -18,7 +19,6 @@ use Rattle.kept.specs.Minimum.{best_stop, links_in, links_of, next_of, minimum_o
 use Rattle.kept.specs.Least.{least_over, least_from, least_of}
 use Rattle.kept.specs.Gallop.{probe_of, doubling, bisection, search_by, gallop_search, gallop_of, gallop_probes, sum_from}
 use Rattle.refusal.specs.declared.Refusal.TheVariants.{Tick, List as NoKeptList, Gap, Holes, Link, Allowance}
-use Rattle.refusal.specs.declared.Checked.TheVariants.{Fine, Refused}
 use Rattle.refusal.specs.Table.{NotAllowedTolerance as Tolerance}
 use Rattle.tolerance.specs.declared.Tolerance.TheVariants.{Ratio}
 use Rattle.trace.specs.declared.Side.TheVariants.{On, Above, Below, Gap as OverGap}
@@ -33,7 +33,6 @@ use Rattle.closest.specs.Closest.{obeying_list, least_error}
 use Rattle.allowance.specs.Rows.{allowed_rows, least_rows}
 use Rattle.proposed.specs.Proposed.{bad_at, list_row, ends_row, first_invalid, first_worst, list_sample, list_stray}
 use Rattle.limits.specs.declared.Limits.{Limits}
-use Rattle.judging.specs.declared.Measured.TheVariants.{Link as Measured}
 use Rattle.judging.specs.declared.Verdict.TheVariants.{No}
 use Rattle.limits.specs.Prepare.{common_rows, criterion_of, output_rows}
 use Rattle.judging.specs.Measure.{measure_rows, measured_by}
@@ -69,11 +68,11 @@ unfolding minimum_of next_of links_of links_in best_stop stops criterion_of vali
 holed_minimum_7 = refl
 
 -- least with m = 3 is 16, with m = 4 it is 0/1
-holed_least_3 : least_rows holed_ticks level 7 3 6 ≡ Refused Holes
+holed_least_3 : least_rows holed_ticks level 7 3 6 ≡ Err Holes
 unfolding least_rows allowed_rows trace_rows obeying_list links_end first first_of stops hole
 holed_least_3 = refl
 
-holed_least_fine : least_rows holed_ticks level 7 4 6 ≡ Fine
+holed_least_fine : least_rows holed_ticks level 7 4 6 ≡ Ok tt
 unfolding least_rows allowed_rows trace_rows obeying_list links_end first first_of stops hole
 holed_least_fine = refl
 
@@ -98,45 +97,45 @@ unfolding minimum_of next_of links_of links_in best_stop stops criterion_of vali
 holed_minimum_8 = refl
 
 -- the list 0 5 crosses a hole of 7: judge's link 0, with an error of 0 and the sample before the hole, and the writer's cause 7
-holed_judged : judge_of holed_ticks level (0 ∷ 5 ∷ []) (under 7) ≡ No 0 (record { error = over 0 1; sample = 2; side = OverGap })
+holed_judged : judge_of holed_ticks level (0 ∷ 5 ∷ []) (under 7) ≡ Ok (No 0 (record { error = over 0 1; sample = 2; side = OverGap }))
 unfolding judge_of judge_rows common_rows criterion_of list_verdict trace_rows list_row bad_at first_invalid fault_of first first_of valid obeys hole all_within all_from within above below link_error farthest greatest deviation gcd euclid
 holed_judged = refl
 
-holed_written : write_rows holed_ticks level (0 ∷ 2 ∷ 5 ∷ []) (under 7) 99 0 ≡ Refused (Link 1)
+holed_written : write_rows holed_ticks level (0 ∷ 2 ∷ 5 ∷ []) (under 7) 99 0 ≡ Err (Link 1)
 unfolding write_rows judge_rows common_rows criterion_of trace_rows list_row bad_at first_invalid first first_of valid obeys hole all_within all_from within above below deviation gcd euclid
 holed_written = refl
 
 -- 4 before 15 before 6 and 10; in least 15 before 5 before 16 before 10; in a report 11 before 4 before 15 before 10
 
-gap_after_tolerance : common_rows holed_ticks level (record { tolerance = Ratio 1 0; gap = 0 }) ≡ Refused Tolerance
+gap_after_tolerance : common_rows holed_ticks level (record { tolerance = Ratio 1 0; gap = 0 }) ≡ Err Tolerance
 unfolding common_rows trace_rows first first_of
 gap_after_tolerance = refl
 
-gap_before_list : judge_rows holed_ticks level [] (under 0) ≡ Refused Gap
+gap_before_list : judge_rows holed_ticks level [] (under 0) ≡ Err Gap
 unfolding judge_rows common_rows trace_rows first first_of gcd euclid
 gap_before_list = refl
 
-gap_before_room : output_rows holed_ticks level (under 1048576) 0 ≡ Refused Gap
+gap_before_room : output_rows holed_ticks level (under 1048576) 0 ≡ Err Gap
 unfolding output_rows common_rows trace_rows first first_of gcd euclid
 gap_before_room = refl
 
-least_gap_first : least_rows holed_ticks level 0 1 0 ≡ Refused Gap
+least_gap_first : least_rows holed_ticks level 0 1 0 ≡ Err Gap
 unfolding least_rows allowed_rows trace_rows first first_of
 least_gap_first = refl
 
-least_allowance_next : least_rows holed_ticks level 7 1 0 ≡ Refused Allowance
+least_allowance_next : least_rows holed_ticks level 7 1 0 ≡ Err Allowance
 unfolding least_rows allowed_rows trace_rows first first_of
 least_allowance_next = refl
 
-least_holes_next : least_rows holed_ticks level 7 3 0 ≡ Refused Holes
+least_holes_next : least_rows holed_ticks level 7 3 0 ≡ Err Holes
 unfolding least_rows allowed_rows trace_rows obeying_list links_end first first_of stops hole
 least_holes_next = refl
 
-report_gap_after_tolerance : crate_rows holed_ticks level (6 ∷ []) (record { tolerance = Ratio 1 0; gap = 0 }) 0 ≡ Refused Tolerance
+report_gap_after_tolerance : crate_rows holed_ticks level (6 ∷ []) (record { tolerance = Ratio 1 0; gap = 0 }) 0 ≡ Err Tolerance
 unfolding crate_rows crate_row
 report_gap_after_tolerance = refl
 
-report_gap_before_room : crate_rows holed_ticks level (6 ∷ []) (under 0) 0 ≡ Refused Gap
+report_gap_before_room : crate_rows holed_ticks level (6 ∷ []) (under 0) 0 ≡ Err Gap
 unfolding crate_rows crate_row gcd euclid
 report_gap_before_room = refl
 
@@ -174,11 +173,11 @@ not_of_all_lists no_longer =
 abbrev slope_ticks : List ℕ
 slope_ticks = 0 ∷ 1 ∷ 3 ∷ []
 
-slope_measured : measured_by slope_ticks (pos 0 ∷ pos 1 ∷ pos 1 ∷ []) 0 2 ≡ Measured (record { error = over 2 3; sample = 1; side = Above })
+slope_measured : measured_by slope_ticks (pos 0 ∷ pos 1 ∷ pos 1 ∷ []) 0 2 ≡ Ok (record { error = over 2 3; sample = 1; side = Above })
 unfolding measured_by measure_rows ends_row trace_rows worst_sample first first_of link_error farthest greatest deviation gcd euclid
 slope_measured = refl
 
-level_measured : measured_by slope_ticks (pos 0 ∷ pos 0 ∷ pos 0 ∷ []) 0 2 ≡ Measured (record { error = over 0 1; sample = 0; side = On })
+level_measured : measured_by slope_ticks (pos 0 ∷ pos 0 ∷ pos 0 ∷ []) 0 2 ≡ Ok (record { error = over 0 1; sample = 0; side = On })
 unfolding measured_by measure_rows ends_row trace_rows worst_sample first first_of link_error farthest greatest deviation gcd euclid
 level_measured = refl
 
@@ -196,28 +195,28 @@ tie_below = refl
 
 -- 6 with 0 for a first sample beyond the trace, with 1 for a second beyond it, equal to the first or below it; 2 comes first
 
-beyond_first : measure_rows four_ticks (pos 0 ∷ pos 0 ∷ pos 0 ∷ pos 0 ∷ []) 4 9 ≡ Refused (NoKeptList 0)
+beyond_first : measure_rows four_ticks (pos 0 ∷ pos 0 ∷ pos 0 ∷ pos 0 ∷ []) 4 9 ≡ Err (NoKeptList 0)
 unfolding measure_rows ends_row trace_rows first first_of
 beyond_first = refl
 
-beyond_second : measure_rows four_ticks (pos 0 ∷ pos 0 ∷ pos 0 ∷ pos 0 ∷ []) 3 4 ≡ Refused (NoKeptList 1)
+beyond_second : measure_rows four_ticks (pos 0 ∷ pos 0 ∷ pos 0 ∷ pos 0 ∷ []) 3 4 ≡ Err (NoKeptList 1)
 unfolding measure_rows ends_row trace_rows first first_of
 beyond_second = refl
 
-equal_samples : measure_rows four_ticks (pos 0 ∷ pos 0 ∷ pos 0 ∷ pos 0 ∷ []) 3 3 ≡ Refused (NoKeptList 1)
+equal_samples : measure_rows four_ticks (pos 0 ∷ pos 0 ∷ pos 0 ∷ pos 0 ∷ []) 3 3 ≡ Err (NoKeptList 1)
 unfolding measure_rows ends_row trace_rows first first_of
 equal_samples = refl
 
-swapped_samples : measure_rows four_ticks (pos 0 ∷ pos 0 ∷ pos 0 ∷ pos 0 ∷ []) 2 1 ≡ Refused (NoKeptList 1)
+swapped_samples : measure_rows four_ticks (pos 0 ∷ pos 0 ∷ pos 0 ∷ pos 0 ∷ []) 2 1 ≡ Err (NoKeptList 1)
 unfolding measure_rows ends_row trace_rows first first_of
 swapped_samples = refl
 
-trace_before_link : measure_rows (0 ∷ 1 ∷ 1 ∷ []) (pos 0 ∷ pos 0 ∷ pos 0 ∷ []) 9 0 ≡ Refused (Tick 2)
+trace_before_link : measure_rows (0 ∷ 1 ∷ 1 ∷ []) (pos 0 ∷ pos 0 ∷ pos 0 ∷ []) 9 0 ≡ Err (Tick 2)
 unfolding measure_rows ends_row trace_rows first first_of
 trace_before_link = refl
 
 -- a link that crosses a hole and is not within the tolerance has its plain measure
-both_faults : judge_of holed_ticks (pos 0 ∷ pos 0 ∷ pos 0 ∷ pos 0 ∷ pos 9 ∷ pos 0 ∷ []) (0 ∷ 5 ∷ []) (under 7) ≡ No 0 (record { error = over 9 1; sample = 4; side = Above })
+both_faults : judge_of holed_ticks (pos 0 ∷ pos 0 ∷ pos 0 ∷ pos 0 ∷ pos 9 ∷ pos 0 ∷ []) (0 ∷ 5 ∷ []) (under 7) ≡ Ok (No 0 (record { error = over 9 1; sample = 4; side = Above }))
 unfolding judge_of judge_rows common_rows criterion_of list_verdict trace_rows list_row bad_at first_invalid fault_of worst_sample first first_of valid obeys hole all_within all_from within above below link_error farthest greatest deviation gcd euclid
 both_faults = refl
 

@@ -1,6 +1,7 @@
 -- Examples of the request "Above and below" of document 02, over the definitions that the contracts name, each by computation: the lists of walk, gallop
 -- and minimum at unequal parts, three statements about the size of greedy lists that are false, the sample that judge names, and the rows.
 -- Assumes nothing.
+use Rattle.std.specs.Prelude.{Err, Ok}
 use mathlib.Core.Path.{◌≡◌, refl, ap}
 use mathlib.Core.Bool.{true, false}
 use mathlib.Core.List.{List, [], ◌∷◌}
@@ -18,7 +19,6 @@ use Rattle.kept.specs.Walk.{walk_from, walk_of}
 use Rattle.kept.specs.Minimum.{best_stop, links_in, links_of, next_of, minimum_of}
 use Rattle.kept.specs.Gallop.{probe_of, doubling, bisection, search_by, gallop_search, gallop_of, gallop_probes, sum_from}
 use Rattle.refusal.specs.declared.Refusal.TheVariants.{Tolerance as ToleranceAt}
-use Rattle.refusal.specs.declared.Checked.TheVariants.{Refused}
 use Rattle.refusal.specs.Table.{NotAllowedTolerance}
 use Rattle.tolerance.specs.declared.Tolerance.{Tolerance}
 use Rattle.tolerance.specs.declared.Tolerance.TheVariants.{Ratio, Parts}
@@ -39,7 +39,6 @@ use Rattle.tolerances.specs.Tolerances.{bad_at as bad_tolerance, several_rows, s
 use Rattle.judging.specs.declared.Verdict.TheVariants.{No}
 use Rattle.judging.specs.Judge.{judge_rows, list_verdict, judge_of}
 use Rattle.pedestals.specs.declared.Cause.TheVariants.{Call}
-use Rattle.pedestals.specs.declared.Check.TheVariants.{Refused as NotCompared}
 use Rattle.pedestals.specs.Compare.{run_of, runs_row, compare_rows}
 
 -- U and D
@@ -199,7 +198,7 @@ crooked = pos 1 ∷ pos 0 ∷ pos 1 ∷ negsuc 0 ∷ []
 abbrev none_below : Tolerance
 none_below = parts (over 5 1) (over 0 1)
 
-crooked_judged : judge_of four_ticks crooked (0 ∷ 3 ∷ []) (unlimited none_below) ≡ No 0 (record { error = over 4 3; sample = 2; side = Above })
+crooked_judged : judge_of four_ticks crooked (0 ∷ 3 ∷ []) (unlimited none_below) ≡ Ok (No 0 (record { error = over 4 3; sample = 2; side = Above }))
 unfolding judge_of judge_rows common_rows criterion_of list_verdict trace_rows list_row bad_at first_invalid fault_of worst_sample first first_of valid obeys hole all_within all_from within above below link_error farthest greatest deviation gcd euclid
 crooked_judged = refl
 
@@ -209,11 +208,11 @@ crooked_samples = (refl, refl)
 
 -- ---- rows: a part that is not allowed is 4, in a scan with its position; parts that are equal as values are one tolerance
 
-bad_above : common_rows four_ticks dip (unlimited (parts (over 65536 1) (over 1 1))) ≡ Refused NotAllowedTolerance
+bad_above : common_rows four_ticks dip (unlimited (parts (over 65536 1) (over 1 1))) ≡ Err NotAllowedTolerance
 unfolding common_rows trace_rows first first_of
 bad_above = refl
 
-bad_below : common_rows four_ticks dip (unlimited (parts (over 1 1) (over 1 0))) ≡ Refused NotAllowedTolerance
+bad_below : common_rows four_ticks dip (unlimited (parts (over 1 1) (over 1 0))) ≡ Err NotAllowedTolerance
 unfolding common_rows trace_rows first first_of
 bad_below = refl
 
@@ -223,7 +222,7 @@ several = record {
   list = record { tolerance = none_below } ∷ record { tolerance = parts (over 2 1) (over 1 1048576) } ∷ replicate 14 (record { tolerance = Ratio 1 0 });
 }
 
-bad_in_scan : scan_rows four_ticks dip several 0 0 ≡ Refused (ToleranceAt 1)
+bad_in_scan : scan_rows four_ticks dip several 0 0 ≡ Err (ToleranceAt 1)
 unfolding scan_rows several_rows bad_tolerance trace_rows first first_of gcd euclid
 bad_in_scan = refl
 
@@ -232,6 +231,6 @@ unfolding criterion_of gcd euclid
 equal_values = refl
 
 -- pedestals refuses parts that differ, and no others
-unequal_pedestals : compare_rows (run_of (0 ∷ []) (pos 0 ∷ []) (1 ∷ [])) (run_of (0 ∷ []) (pos 0 ∷ []) (1 ∷ [])) (parts (over 2 1) (over 1 1)) 1 1 1 ≡ NotCompared (Call NotAllowedTolerance)
+unequal_pedestals : compare_rows (run_of (0 ∷ []) (pos 0 ∷ []) (1 ∷ [])) (run_of (0 ∷ []) (pos 0 ∷ []) (1 ∷ [])) (parts (over 2 1) (over 1 1)) 1 1 1 ≡ Err (Call NotAllowedTolerance)
 unfolding compare_rows runs_row crate_row agree gcd euclid
 unequal_pedestals = refl

@@ -1,6 +1,7 @@
 -- Examples of the request "Same record, strictly" of document 02, over the definitions that the contract names: a trace kept at 2 counts and at 5
 -- ends with the same samples, and its two records are not the same; two forms of one tolerance give the same record; rows 8 and 9.
 -- Assumes nothing.
+use Rattle.std.specs.Prelude.{Err, Ok, Result}
 use mathlib.Core.Path.{◌≡◌, refl, ap}
 use mathlib.Core.List.{List, [], ◌∷◌}
 use Prim.Native.Nat.{ℕ}
@@ -11,7 +12,6 @@ use Rattle.ratio.specs.Gcd.{gcd, euclid}
 use Rattle.kept.specs.Stops.{stops}
 use Rattle.kept.specs.Walk.{walk_from, walk_of}
 use Rattle.refusal.specs.declared.Refusal.TheVariants.{Record, SecondRecord}
-use Rattle.refusal.specs.declared.Checked.TheVariants.{Fine, Refused}
 use Rattle.refusal.specs.Table.{number_of, returned_of}
 use Rattle.tolerance.specs.declared.Parts.{Parts}
 use Rattle.tolerance.specs.declared.Tolerance.{Tolerance}
@@ -23,10 +23,11 @@ use Rattle.format.specs.Command.{command_of}
 use Rattle.format.specs.Format.{Content, SameRecord, is_held, short_step, long_step, end_step, steps, parse, steps_onto, samples_onto, tolerance_command, encode}
 use Rattle.reduction.specs.Walking.{walk_list}
 use Rattle.reader.specs.declared.Comparison.{Comparison}
-use Rattle.reader.specs.declared.Comparison.TheVariants.{Same, Different, Refused as NotCompared}
+use Rattle.reader.specs.declared.Comparison.TheVariants.{Same, Different}
 use Rattle.reader.specs.Reading.{same_rows, SameOutcome}
 use Rattle.limits.specs.Prepare.{unlimited, criterion_of}
 use Rattle.engine.specs.Write.{content_of}
+use Rattle.refusal.specs.declared.Refusal.{Refusal}
 
 -- ---- ticks 0 to 4, values 0 2 0 2 0: at 2 counts and at 5 the ends are kept
 
@@ -63,15 +64,15 @@ not_same : SameRecord (content_at (Ratio 2 1)) (content_at (Ratio 5 1)) → ⊥
 unfolding criterion_of gcd euclid
 not_same s = omega (arith, ap (λ (x : Parts). x.up.p) s.tolerance)
 
-both_accepted : same_rows at2 at5 ≡ Fine
+both_accepted : same_rows at2 at5 ≡ Ok tt
 unfolding parse steps short_step long_step end_step command_of is_held gcd euclid number_from value_of
 both_accepted = refl
 
 -- so that the answer is no
-different : (r : Comparison) → SameOutcome at2 at5 r → r ≡ Different
-different Same o = let e = o.bytes.0 o.holds in cc
-different Different o = refl
-different (NotCompared c) o = let e = both_accepted in cc
+different : (r : Result Comparison Refusal) → SameOutcome at2 at5 r → r ≡ Ok Different
+different (Ok Same) o = let e = o.bytes.0 o.holds in cc
+different (Ok Different) o = refl
+different (Err c) o = let e = both_accepted in cc
 
 -- 5/1 and 10/2 are one tolerance
 same_tolerance : SameRecord (content_at (Ratio 5 1)) (content_at (Ratio 10 2))
@@ -83,11 +84,11 @@ same_tolerance = record { tolerance = refl; ticks = refl; values = refl }
 abbrev cut : List ℕ
 cut = take 21 at2
 
-faulty_alike : same_rows cut cut ≡ Refused (Record 19)
+faulty_alike : same_rows cut cut ≡ Err (Record 19)
 unfolding parse steps short_step long_step end_step command_of is_held gcd euclid number_from value_of
 faulty_alike = refl
 
-faulty_second : same_rows at2 cut ≡ Refused (SecondRecord 19)
+faulty_second : same_rows at2 cut ≡ Err (SecondRecord 19)
 unfolding parse steps short_step long_step end_step command_of is_held gcd euclid number_from value_of
 faulty_second = refl
 

@@ -1,5 +1,6 @@
 -- Examples of the requests of document 02 about crates, probes and range tables, over the definitions that the contracts name, each by computation.
 -- Assumes nothing.
+use Rattle.std.specs.Prelude.{Err, Ok}
 use mathlib.Core.Path.{◌≡◌, refl, ap}
 use mathlib.Core.List.{List, [], ◌∷◌}
 use Prim.Native.Nat.{ℕ, zero, suc, ◌+◌, ◌*◌}
@@ -14,7 +15,6 @@ use Rattle.kept.specs.Stops.{stops}
 use Rattle.kept.specs.Walk.{walk_from, walk_of}
 use Rattle.kept.specs.Gallop.{sum_from, list_probes}
 use Rattle.refusal.specs.declared.Refusal.TheVariants.{Length, Tick, Room, Crate, Table, Samples, Factor}
-use Rattle.refusal.specs.declared.Checked.TheVariants.{Fine, Refused}
 use Rattle.refusal.specs.Table.{NotAllowedTolerance as Tolerance, number_of, returned_of}
 use Rattle.tolerance.specs.declared.Tolerance.TheVariants.{Ratio}
 use Rattle.tolerance.specs.Meaning.{meaning, agree}
@@ -28,7 +28,6 @@ use Rattle.proposed.specs.Proposed.{first_worst, list_sample}
 use Rattle.limits.specs.Prepare.{unlimited, criterion_of}
 use Rattle.reporting.specs.Report.{crate_rows, report_rows}
 use Rattle.pedestals.specs.declared.Cause.TheVariants.{Call, Trace}
-use Rattle.pedestals.specs.declared.Check.TheVariants.{Fine as Passes, Refused as Declines}
 use Rattle.verdicts.specs.Sums.{spread, moved, noisy}
 use Rattle.pedestals.specs.Compare.{Run, run_of, held_ratio, cause_number, cause_value, runs_row, channel_row, compare_rows, moved_channels, noisy_channels}
 
@@ -43,7 +42,7 @@ crate_values = pos 0 ∷ pos 2 ∷ pos 0 ∷ negsuc 1 ∷ pos 0 ∷ pos 1 ∷ po
 abbrev crate_lengths : List ℕ
 crate_lengths = 5 ∷ 0 ∷ 2 ∷ 1 ∷ []
 
-crate_fine : crate_rows crate_ticks crate_values crate_lengths (unlimited (Ratio 2 1)) 4 ≡ Fine
+crate_fine : crate_rows crate_ticks crate_values crate_lengths (unlimited (Ratio 2 1)) 4 ≡ Ok tt
 unfolding crate_rows crate_row
 crate_fine = refl
 
@@ -87,38 +86,38 @@ own_values : values_in own (0 ∷ 127 ∷ 128 ∷ 255 ∷ []) ≡ negsuc 32767 �
 unfolding own_from
 own_values = refl
 
-own_fine : expand_with_rows (0 ∷ 127 ∷ 128 ∷ 255 ∷ []) own 4 ≡ Fine
+own_fine : expand_with_rows (0 ∷ 127 ∷ 128 ∷ 255 ∷ []) own 4 ≡ Ok tt
 unfolding expand_with_rows table_row first first_of own_from
 own_fine = refl
 
 -- code 255 with the value of code 254; code 0 with the greatest value; 255 values
 
-own_level : table_row (set own 255 (get_or own 254 (pos 0))) ≡ Refused (Table 255)
+own_level : table_row (set own 255 (get_or own 254 (pos 0))) ≡ Err (Table 255)
 unfolding table_row first first_of own_from
 own_level = refl
 
 own_number : (number_of (Table 255) ≡ 12) × (returned_of (Table 255) ≡ 255)
 own_number = (refl, refl)
 
-own_falling : table_row (set own 0 (pos 32767)) ≡ Refused (Table 1)
+own_falling : table_row (set own 0 (pos 32767)) ≡ Err (Table 1)
 unfolding table_row first first_of own_from
 own_falling = refl
 
-own_short : table_row (own_from 0 255) ≡ Refused (Table 0)
+own_short : table_row (own_from 0 255) ≡ Err (Table 0)
 unfolding table_row own_from
 own_short = refl
 
 -- 1 before 12 before 10
 
-own_length_first : expand_with_rows [] (own_from 0 255) 0 ≡ Refused Length
+own_length_first : expand_with_rows [] (own_from 0 255) 0 ≡ Err Length
 unfolding expand_with_rows
 own_length_first = refl
 
-own_table_next : expand_with_rows (0 ∷ []) (own_from 0 255) 0 ≡ Refused (Table 0)
+own_table_next : expand_with_rows (0 ∷ []) (own_from 0 255) 0 ≡ Err (Table 0)
 unfolding expand_with_rows table_row own_from
 own_table_next = refl
 
-own_room_last : expand_with_rows (0 ∷ []) own 0 ≡ Refused (Room 1)
+own_room_last : expand_with_rows (0 ∷ []) own 0 ≡ Err (Room 1)
 unfolding expand_with_rows table_row first first_of own_from
 own_room_last = refl
 
@@ -134,7 +133,7 @@ today = run_of pedestal_ticks (pos 11 ∷ pos 13 ∷ pos 11 ∷ pos 13 ∷ negsu
 abbrev earlier : Run
 earlier = run_of pedestal_ticks (pos 10 ∷ pos 12 ∷ pos 10 ∷ pos 12 ∷ negsuc 4 ∷ negsuc 4 ∷ negsuc 4 ∷ negsuc 4 ∷ pos 0 ∷ pos 1 ∷ pos 0 ∷ pos 1 ∷ []) (4 ∷ 4 ∷ 4 ∷ [])
 
-pedestals_fine : compare_rows today earlier (Ratio 1 2) 2 3 3 ≡ Passes
+pedestals_fine : compare_rows today earlier (Ratio 1 2) 2 3 3 ≡ Ok tt
 unfolding compare_rows runs_row crate_row channel_row trace_rows first first_of agree gcd euclid
 pedestals_fine = refl
 
@@ -162,11 +161,11 @@ pedestals_back = refl
 
 -- 14 before 11 before 4 before the channels before 10
 
-pedestals_factor_first : compare_rows today (run_of [] [] []) (Ratio 1 0) 17 0 0 ≡ Declines (Call Factor)
+pedestals_factor_first : compare_rows today (run_of [] [] []) (Ratio 1 0) 17 0 0 ≡ Err (Call Factor)
 unfolding compare_rows
 pedestals_factor_first = refl
 
-pedestals_counts : compare_rows today (run_of (0 ∷ []) (pos 0 ∷ []) (1 ∷ [])) (Ratio 1 0) 16 0 0 ≡ Declines (Call Crate)
+pedestals_counts : compare_rows today (run_of (0 ∷ []) (pos 0 ∷ []) (1 ∷ [])) (Ratio 1 0) 16 0 0 ≡ Err (Call Crate)
 unfolding compare_rows runs_row crate_row
 pedestals_counts = refl
 
@@ -174,11 +173,11 @@ pedestals_counts = refl
 abbrev faulty : Run
 faulty = run_of (0 ∷ 1 ∷ 2 ∷ 3 ∷ 0 ∷ 1 ∷ 1 ∷ 0 ∷ 1 ∷ 2 ∷ 3 ∷ 4 ∷ []) earlier.values (4 ∷ 3 ∷ 5 ∷ [])
 
-pedestals_tolerance : compare_rows today faulty (Ratio 1 0) 16 0 0 ≡ Declines (Call Tolerance)
+pedestals_tolerance : compare_rows today faulty (Ratio 1 0) 16 0 0 ≡ Err (Call Tolerance)
 unfolding compare_rows runs_row crate_row
 pedestals_tolerance = refl
 
-pedestals_own : compare_rows today faulty (Ratio 1 2) 16 0 0 ≡ Declines (Trace 1 (Tick 2))
+pedestals_own : compare_rows today faulty (Ratio 1 2) 16 0 0 ≡ Err (Trace 1 (Tick 2))
 unfolding compare_rows runs_row crate_row channel_row trace_rows first first_of agree gcd euclid
 pedestals_own = refl
 
@@ -186,13 +185,13 @@ pedestals_own_number : (cause_number (Trace 1 (Tick 2)) ≡ 2) × (cause_value (
 pedestals_own_number = (refl, refl)
 
 -- with ticks that rise, 13 at channel 1, though channel 2 differs too
-pedestals_samples : compare_rows today (run_of (0 ∷ 1 ∷ 2 ∷ 3 ∷ 0 ∷ 1 ∷ 2 ∷ 0 ∷ 1 ∷ 2 ∷ 3 ∷ 4 ∷ []) earlier.values (4 ∷ 3 ∷ 5 ∷ [])) (Ratio 1 2) 16 0 0 ≡ Declines (Call (Samples 1))
+pedestals_samples : compare_rows today (run_of (0 ∷ 1 ∷ 2 ∷ 3 ∷ 0 ∷ 1 ∷ 2 ∷ 0 ∷ 1 ∷ 2 ∷ 3 ∷ 4 ∷ []) earlier.values (4 ∷ 3 ∷ 5 ∷ [])) (Ratio 1 2) 16 0 0 ≡ Err (Call (Samples 1))
 unfolding compare_rows runs_row crate_row channel_row trace_rows first first_of agree gcd euclid
 pedestals_samples = refl
 
 pedestals_samples_number : (cause_number (Call (Samples 1)) ≡ 13) × (cause_value (Call (Samples 1)) ≡ 1)
 pedestals_samples_number = (refl, refl)
 
-pedestals_room_last : compare_rows today earlier (Ratio 1 2) 16 3 2 ≡ Declines (Call (Room 3))
+pedestals_room_last : compare_rows today earlier (Ratio 1 2) 16 3 2 ≡ Err (Call (Room 3))
 unfolding compare_rows runs_row crate_row channel_row trace_rows first first_of agree gcd euclid
 pedestals_room_last = refl

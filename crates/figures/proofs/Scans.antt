@@ -1,6 +1,7 @@
 -- Examples of the request "Sixteen tolerances in one reading" of document 02, over the definitions that the contract names, each by computation: the lists at
 -- three tolerances, the answers so far after each sample, holes, and the rows in their order.
 -- Assumes nothing.
+use Rattle.std.specs.Prelude.{Err, Ok}
 use mathlib.Core.Path.{◌≡◌, refl}
 use mathlib.Core.Bool.{Bool}
 use mathlib.Core.List.{List, [], ◌∷◌, ◌++◌}
@@ -9,7 +10,6 @@ use lib.IntN.{ℤ, pos, negsuc}
 use lib.ListN.{replicate}
 use Rattle.lists.specs.First.{first, first_of}
 use Rattle.refusal.specs.declared.Refusal.TheVariants.{Length, Tick, Span, Tolerance, Gap, Room, Count}
-use Rattle.refusal.specs.declared.Checked.TheVariants.{Fine, Refused}
 use Rattle.refusal.specs.Table.{number_of, returned_of}
 use Rattle.ratio.specs.Gcd.{gcd, euclid}
 use Rattle.tolerance.specs.declared.Tolerance.TheVariants.{Ratio}
@@ -42,7 +42,7 @@ list_at a = walk_list five wave (criterion_of (limits_at three 1048575 a))
 
 -- ---- values 0 2 0 -2 0 at 2, 8/3 and 1/2
 
-wave_fine : scan_rows five wave three 1048575 15 ≡ Fine
+wave_fine : scan_rows five wave three 1048575 15 ≡ Ok tt
 unfolding scan_rows several_rows trace_rows bad_at first first_of gcd euclid
 wave_fine = refl
 
@@ -88,45 +88,45 @@ bad = record { count = 3; list = ratio 1 1 ∷ ratio 1 0 ∷ ratio 2 0 ∷ [] }
 abbrev many : ℕ → Tolerances
 many m = record { count = m; list = replicate 16 (ratio 1 1) }
 
-length_first : scan_rows [] [] none 0 0 ≡ Refused Length
+length_first : scan_rows [] [] none 0 0 ≡ Err Length
 unfolding scan_rows trace_rows
 length_first = refl
 
-tick_first : scan_rows (1 ∷ 1 ∷ []) (pos 0 ∷ pos 0 ∷ []) none 0 0 ≡ Refused (Tick 1)
+tick_first : scan_rows (1 ∷ 1 ∷ []) (pos 0 ∷ pos 0 ∷ []) none 0 0 ≡ Err (Tick 1)
 unfolding scan_rows trace_rows first first_of
 tick_first = refl
 
-span_first : scan_rows (0 ∷ 1048576 ∷ []) (pos 0 ∷ pos 0 ∷ []) none 0 0 ≡ Refused (Span 1)
+span_first : scan_rows (0 ∷ 1048576 ∷ []) (pos 0 ∷ pos 0 ∷ []) none 0 0 ≡ Err (Span 1)
 unfolding scan_rows trace_rows first first_of
 span_first = refl
 
-count_before_tolerances : scan_rows five wave none 0 0 ≡ Refused Count
+count_before_tolerances : scan_rows five wave none 0 0 ≡ Err Count
 unfolding scan_rows several_rows trace_rows first first_of
 count_before_tolerances = refl
 
-seventeen_refused : scan_rows five wave (many 17) 0 0 ≡ Refused Count
+seventeen_refused : scan_rows five wave (many 17) 0 0 ≡ Err Count
 unfolding scan_rows several_rows trace_rows first first_of
 seventeen_refused = refl
 
-sixteen_pass : scan_rows five wave (many 16) 1 80 ≡ Fine
+sixteen_pass : scan_rows five wave (many 16) 1 80 ≡ Ok tt
 unfolding scan_rows several_rows trace_rows bad_at first first_of gcd euclid
 sixteen_pass = refl
 
 -- the position of the first that is not allowed, and not 0
-tolerance_position : scan_rows five wave bad 0 0 ≡ Refused (Tolerance 1)
+tolerance_position : scan_rows five wave bad 0 0 ≡ Err (Tolerance 1)
 unfolding scan_rows several_rows trace_rows bad_at first first_of gcd euclid
 tolerance_position = refl
 
 -- tolerances behind the last are not asked
-behind_the_last : scan_rows five wave (record { count = 1; list = bad.list }) 1 5 ≡ Fine
+behind_the_last : scan_rows five wave (record { count = 1; list = bad.list }) 1 5 ≡ Ok tt
 unfolding scan_rows several_rows trace_rows bad_at first first_of gcd euclid
 behind_the_last = refl
 
-scan_gap_before_room : scan_rows five wave three 0 0 ≡ Refused Gap
+scan_gap_before_room : scan_rows five wave three 0 0 ≡ Err Gap
 unfolding scan_rows several_rows trace_rows bad_at first first_of gcd euclid
 scan_gap_before_room = refl
 
-room_for_each : scan_rows five wave three 1 14 ≡ Refused (Room 15)
+room_for_each : scan_rows five wave three 1 14 ≡ Err (Room 15)
 unfolding scan_rows several_rows trace_rows bad_at first first_of gcd euclid
 room_for_each = refl
 

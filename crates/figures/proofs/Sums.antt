@@ -1,6 +1,7 @@
 -- Examples of the request "Summed channels" of document 02, over the definitions that the contract names, each by computation: a joined list whose
 -- error is exactly 2 (T1 + T2), one whose error is above T1 + T2, and the rows in their order.
 -- Assumes nothing.
+use Rattle.std.specs.Prelude.{Err, Ok}
 use mathlib.Core.Path.{◌≡◌, refl}
 use mathlib.Core.List.{List, [], ◌∷◌}
 use Prim.Native.Nat.{ℕ, ◌+◌, ◌*◌}
@@ -9,9 +10,7 @@ use lib.ListN.{length}
 use Rattle.lists.specs.First.{first, first_of}
 use Rattle.lists.proofs.Tests.{true_false}
 use Rattle.refusal.specs.declared.Refusal.TheVariants.{Length, Tick, List as NoKeptList, Room, Mismatch, Overflow}
-use Rattle.refusal.specs.declared.Checked.{Checked}
-use Rattle.refusal.specs.declared.Checked.TheVariants.{Fine, Refused}
-use Rattle.refusal.specs.Table.{number_of, returned_of}
+use Rattle.refusal.specs.Table.{number_of, returned_of, Checked}
 use Rattle.ratio.specs.declared.Ratio.{Ratio}
 use Rattle.ratio.specs.Gcd.{gcd, euclid}
 use Rattle.ratio.specs.Order.{over, greater}
@@ -40,7 +39,7 @@ wavy = pos 3 ∷ pos 4 ∷ pos 2 ∷ pos 4 ∷ pos 3 ∷ []
 abbrev wavy_list : List ℕ
 wavy_list = 0 ∷ 4 ∷ []
 
-reached_fine : sum_rows five_ticks steep five_ticks wavy steep_list wavy_list 5 5 ≡ Fine
+reached_fine : sum_rows five_ticks steep five_ticks wavy steep_list wavy_list 5 5 ≡ Ok tt
 unfolding sum_rows mismatch_row overflow_row trace_rows list_row bad_at first first_of
 reached_fine = refl
 
@@ -115,35 +114,35 @@ plain_sum_false within = true_false (within (over 1 3) (over 0 1) 1 (refl, tt) (
 -- ---- the rows: trace 1, trace 2, list 1, list 2, 17, 18, 10
 
 -- trace 1 has a tick that is not above the one before, and trace 2 no samples
-trace_1_first : sum_rows (0 ∷ 1 ∷ 1 ∷ []) (pos 0 ∷ pos 0 ∷ pos 0 ∷ []) [] [] [] [] 0 0 ≡ Refused (Tick 2)
+trace_1_first : sum_rows (0 ∷ 1 ∷ 1 ∷ []) (pos 0 ∷ pos 0 ∷ pos 0 ∷ []) [] [] [] [] 0 0 ≡ Err (Tick 2)
 unfolding sum_rows trace_rows first first_of
 trace_1_first = refl
 
-trace_2_next : sum_rows (0 ∷ []) (pos 0 ∷ []) [] [] [] [] 0 0 ≡ Refused Length
+trace_2_next : sum_rows (0 ∷ []) (pos 0 ∷ []) [] [] [] [] 0 0 ≡ Err Length
 unfolding sum_rows trace_rows first first_of
 trace_2_next = refl
 
 -- list 1 ends beyond trace 1, and list 2 is empty
-list_1_next : sum_rows (0 ∷ 1 ∷ []) (pos 0 ∷ pos 0 ∷ []) (5 ∷ []) (pos 0 ∷ []) (0 ∷ 2 ∷ []) [] 0 0 ≡ Refused (NoKeptList 1)
+list_1_next : sum_rows (0 ∷ 1 ∷ []) (pos 0 ∷ pos 0 ∷ []) (5 ∷ []) (pos 0 ∷ []) (0 ∷ 2 ∷ []) [] 0 0 ≡ Err (NoKeptList 1)
 unfolding sum_rows trace_rows list_row bad_at first first_of
 list_1_next = refl
 
 -- list 2 is one of trace 1, and not of trace 2
-list_2_next : sum_rows (0 ∷ 1 ∷ []) (pos 0 ∷ pos 0 ∷ []) (5 ∷ []) (pos 0 ∷ []) (0 ∷ 1 ∷ []) (0 ∷ 1 ∷ []) 0 0 ≡ Refused (NoKeptList 1)
+list_2_next : sum_rows (0 ∷ 1 ∷ []) (pos 0 ∷ pos 0 ∷ []) (5 ∷ []) (pos 0 ∷ []) (0 ∷ 1 ∷ []) (0 ∷ 1 ∷ []) 0 0 ≡ Err (NoKeptList 1)
 unfolding sum_rows trace_rows list_row bad_at first first_of
 list_2_next = refl
 
 -- ticks differ at the samples 1 and 2, and the first sum is 32,768
-mismatch_next : sum_rows (0 ∷ 1 ∷ 2 ∷ []) (pos 32767 ∷ pos 0 ∷ pos 0 ∷ []) (0 ∷ 2 ∷ 3 ∷ []) (pos 1 ∷ pos 0 ∷ pos 0 ∷ []) (0 ∷ 2 ∷ []) (0 ∷ 2 ∷ []) 0 0 ≡ Refused (Mismatch 1)
+mismatch_next : sum_rows (0 ∷ 1 ∷ 2 ∷ []) (pos 32767 ∷ pos 0 ∷ pos 0 ∷ []) (0 ∷ 2 ∷ 3 ∷ []) (pos 1 ∷ pos 0 ∷ pos 0 ∷ []) (0 ∷ 2 ∷ []) (0 ∷ 2 ∷ []) 0 0 ≡ Err (Mismatch 1)
 unfolding sum_rows mismatch_row trace_rows list_row bad_at first first_of
 mismatch_next = refl
 
 -- one trace goes on where the other ends, either way
-missing_2 : sum_rows (0 ∷ 1 ∷ 2 ∷ []) (pos 0 ∷ pos 0 ∷ pos 0 ∷ []) (0 ∷ []) (pos 0 ∷ []) (0 ∷ 2 ∷ []) (0 ∷ []) 3 3 ≡ Refused (Mismatch 1)
+missing_2 : sum_rows (0 ∷ 1 ∷ 2 ∷ []) (pos 0 ∷ pos 0 ∷ pos 0 ∷ []) (0 ∷ []) (pos 0 ∷ []) (0 ∷ 2 ∷ []) (0 ∷ []) 3 3 ≡ Err (Mismatch 1)
 unfolding sum_rows mismatch_row trace_rows list_row bad_at first first_of
 missing_2 = refl
 
-missing_1 : sum_rows (0 ∷ []) (pos 0 ∷ []) (0 ∷ 1 ∷ 2 ∷ []) (pos 0 ∷ pos 0 ∷ pos 0 ∷ []) (0 ∷ []) (0 ∷ 2 ∷ []) 3 3 ≡ Refused (Mismatch 1)
+missing_1 : sum_rows (0 ∷ []) (pos 0 ∷ []) (0 ∷ 1 ∷ 2 ∷ []) (pos 0 ∷ pos 0 ∷ pos 0 ∷ []) (0 ∷ []) (0 ∷ 2 ∷ []) 3 3 ≡ Err (Mismatch 1)
 unfolding sum_rows mismatch_row trace_rows list_row bad_at first first_of
 missing_1 = refl
 
@@ -151,11 +150,11 @@ mismatch_number : (number_of (Mismatch 1) ≡ 17) × (returned_of (Mismatch 1) �
 mismatch_number = (refl, refl)
 
 -- the sums 0 32,768 32,769, and 0 -32,769 -32,769
-overflow_next : sum_rows (0 ∷ 1 ∷ 2 ∷ []) (pos 0 ∷ pos 32767 ∷ pos 32767 ∷ []) (0 ∷ 1 ∷ 2 ∷ []) (pos 0 ∷ pos 1 ∷ pos 2 ∷ []) (0 ∷ 2 ∷ []) (0 ∷ 2 ∷ []) 0 0 ≡ Refused (Overflow 1)
+overflow_next : sum_rows (0 ∷ 1 ∷ 2 ∷ []) (pos 0 ∷ pos 32767 ∷ pos 32767 ∷ []) (0 ∷ 1 ∷ 2 ∷ []) (pos 0 ∷ pos 1 ∷ pos 2 ∷ []) (0 ∷ 2 ∷ []) (0 ∷ 2 ∷ []) 0 0 ≡ Err (Overflow 1)
 unfolding sum_rows mismatch_row overflow_row trace_rows list_row bad_at first first_of
 overflow_next = refl
 
-overflow_below : overflow_row (pos 0 ∷ negsuc 32767 ∷ negsuc 32767 ∷ []) (pos 0 ∷ negsuc 0 ∷ negsuc 0 ∷ []) ≡ Refused (Overflow 1)
+overflow_below : overflow_row (pos 0 ∷ negsuc 32767 ∷ negsuc 32767 ∷ []) (pos 0 ∷ negsuc 0 ∷ negsuc 0 ∷ []) ≡ Err (Overflow 1)
 unfolding overflow_row first first_of
 overflow_below = refl
 
@@ -169,14 +168,14 @@ two_ticks = 0 ∷ 1 ∷ []
 abbrev outermost : ℕ → ℕ → Checked
 outermost room room' = sum_rows two_ticks (pos 32766 ∷ negsuc 32766 ∷ []) two_ticks (pos 1 ∷ negsuc 0 ∷ []) two_ticks two_ticks room room'
 
-outermost_fine : outermost 2 2 ≡ Fine
+outermost_fine : outermost 2 2 ≡ Ok tt
 unfolding sum_rows mismatch_row overflow_row trace_rows list_row bad_at first first_of
 outermost_fine = refl
 
-room_for_sums : outermost 1 2 ≡ Refused (Room 2)
+room_for_sums : outermost 1 2 ≡ Err (Room 2)
 unfolding sum_rows mismatch_row overflow_row trace_rows list_row bad_at first first_of
 room_for_sums = refl
 
-room_for_joined : outermost 2 1 ≡ Refused (Room 2)
+room_for_joined : outermost 2 1 ≡ Err (Room 2)
 unfolding sum_rows mismatch_row overflow_row trace_rows list_row bad_at first first_of
 room_for_joined = refl

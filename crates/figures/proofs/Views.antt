@@ -1,6 +1,7 @@
 -- Examples of the request "Live view" of document 02, over the definitions that the contracts name, each by computation: a view whose error is exactly twice that
 -- of a list with k inner samples, lists and states for which there is no such bound, equal costs, and the rows in their order.
 -- Assumes nothing.
+use Rattle.std.specs.Prelude.{Err, Ok}
 use mathlib.Core.Path.{◌≡◌, refl}
 use mathlib.Core.List.{List, [], ◌∷◌, ◌++◌}
 use Prim.Native.Nat.{ℕ}
@@ -9,7 +10,6 @@ use lib.IntN.{ℤ, pos, negsuc}
 use lib.ListN.{replicate}
 use Rattle.lists.specs.First.{first, first_of}
 use Rattle.refusal.specs.declared.Refusal.TheVariants.{Length, Tick, Span, View as NoView}
-use Rattle.refusal.specs.declared.Checked.TheVariants.{Fine, Refused}
 use Rattle.refusal.specs.Table.{number_of, returned_of}
 use Rattle.ratio.specs.Gcd.{gcd, euclid}
 use Rattle.ratio.specs.Order.{over, greater, AtMost}
@@ -29,7 +29,7 @@ eight_ticks = 0 ∷ 1 ∷ 2 ∷ 3 ∷ 4 ∷ 5 ∷ 6 ∷ 7 ∷ []
 
 -- ---- a view is begun with the list 0, and k above 32 is refused
 
-begun : (begun_of 0 ≡ record { checked = Fine; view = fresh 0 1 }) × (begun_of 32 ≡ record { checked = Fine; view = fresh 32 1 }) × (begun_of 33 ≡ record { checked = Refused NoView; view = fresh 0 0 })
+begun : (begun_of 0 ≡ Ok (fresh 0 1)) × (begun_of 32 ≡ Ok (fresh 32 1)) × (begun_of 33 ≡ Err NoView)
 unfolding begun_of
 begun = (refl, refl, refl)
 
@@ -76,7 +76,7 @@ turn = pos 0 ∷ pos 1 ∷ pos 0 ∷ negsuc 0 ∷ []
 abbrev by_hand : View
 by_hand = record { k = 1; count = 2; samples = 0 ∷ 2 ∷ replicate 64 9 }
 
-by_hand_fine : add_rows (0 ∷ 1 ∷ 2 ∷ 3 ∷ []) turn by_hand ≡ Fine
+by_hand_fine : add_rows (0 ∷ 1 ∷ 2 ∷ 3 ∷ []) turn by_hand ≡ Ok tt
 unfolding add_rows state_row is_view trace_rows list_row bad_at first first_of
 by_hand_fine = refl
 
@@ -126,22 +126,22 @@ no_state = fresh 0 0
 abbrev holding : ℕ → ℕ → List ℕ → View
 holding k count l = record { k = k; count = count; samples = l ++ replicate 62 0 }
 
-length_before_state : add_rows [] [] no_state ≡ Refused Length
+length_before_state : add_rows [] [] no_state ≡ Err Length
 unfolding add_rows trace_rows
 length_before_state = refl
 
-tick_before_state : add_rows (1 ∷ 1 ∷ []) (pos 0 ∷ pos 0 ∷ []) no_state ≡ Refused (Tick 1)
+tick_before_state : add_rows (1 ∷ 1 ∷ []) (pos 0 ∷ pos 0 ∷ []) no_state ≡ Err (Tick 1)
 unfolding add_rows trace_rows first first_of
 tick_before_state = refl
 
-span_before_state : add_rows (0 ∷ 1048576 ∷ []) (pos 0 ∷ pos 0 ∷ []) no_state ≡ Refused (Span 1)
+span_before_state : add_rows (0 ∷ 1048576 ∷ []) (pos 0 ∷ pos 0 ∷ []) no_state ≡ Err (Span 1)
 unfolding add_rows trace_rows first first_of
 span_before_state = refl
 
 -- a count of 0; one beyond the room; k above 32; more than 2k inner samples; a list that stops short, falls, or begins late; the new sample in it; no earlier sample
-states_refused : (add_rows five teeth no_state ≡ Refused NoView) × (add_rows five teeth (holding 32 67 (0 ∷ 1 ∷ 2 ∷ 3 ∷ [])) ≡ Refused NoView) × (add_rows five teeth (holding 33 4 (0 ∷ 1 ∷ 2 ∷ 3 ∷ [])) ≡ Refused NoView)
-    × (add_rows five teeth (holding 0 3 (0 ∷ 1 ∷ 3 ∷ 0 ∷ [])) ≡ Refused NoView) × (add_rows five teeth (holding 1 3 (0 ∷ 1 ∷ 2 ∷ 0 ∷ [])) ≡ Refused NoView) × (add_rows five teeth (holding 1 4 (0 ∷ 2 ∷ 1 ∷ 3 ∷ [])) ≡ Refused NoView)
-    × (add_rows five teeth (holding 1 2 (1 ∷ 3 ∷ 0 ∷ 0 ∷ [])) ≡ Refused NoView) × (add_rows five teeth (holding 1 3 (0 ∷ 1 ∷ 4 ∷ 0 ∷ [])) ≡ Refused NoView) × (add_rows (0 ∷ []) (pos 0 ∷ []) (fresh 1 1) ≡ Refused NoView)
+states_refused : (add_rows five teeth no_state ≡ Err NoView) × (add_rows five teeth (holding 32 67 (0 ∷ 1 ∷ 2 ∷ 3 ∷ [])) ≡ Err NoView) × (add_rows five teeth (holding 33 4 (0 ∷ 1 ∷ 2 ∷ 3 ∷ [])) ≡ Err NoView)
+    × (add_rows five teeth (holding 0 3 (0 ∷ 1 ∷ 3 ∷ 0 ∷ [])) ≡ Err NoView) × (add_rows five teeth (holding 1 3 (0 ∷ 1 ∷ 2 ∷ 0 ∷ [])) ≡ Err NoView) × (add_rows five teeth (holding 1 4 (0 ∷ 2 ∷ 1 ∷ 3 ∷ [])) ≡ Err NoView)
+    × (add_rows five teeth (holding 1 2 (1 ∷ 3 ∷ 0 ∷ 0 ∷ [])) ≡ Err NoView) × (add_rows five teeth (holding 1 3 (0 ∷ 1 ∷ 4 ∷ 0 ∷ [])) ≡ Err NoView) × (add_rows (0 ∷ []) (pos 0 ∷ []) (fresh 1 1) ≡ Err NoView)
 unfolding add_rows state_row is_view trace_rows list_row bad_at first first_of
 states_refused = (refl, refl, refl, refl, refl, refl, refl, refl, refl)
 

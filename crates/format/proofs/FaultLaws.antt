@@ -11,6 +11,7 @@ use mathlib.Core.List.{List, [], ◌∷◌, ◌++◌}
 use Prim.Native.Nat.{ℕ, zero, suc, ◌+◌, ◌≤◌}
 use native.Mathlib.Nat.{add-zero}
 use native.Mathlib.Omega.{arith}
+use Rattle.std.specs.Prelude.{Ok}
 use borrow.Author.Tests.{eqb-true}
 use lib.Dec.{eqb}
 use lib.IntN.{ℤ}
@@ -29,7 +30,6 @@ use Rattle.format.specs.declared.Command.{Command}
 use Rattle.format.specs.declared.Command.TheVariants.{Tolerance, Sides, First, Short, Long, End, Invalid}
 use Rattle.format.specs.declared.Step.{Step}
 use Rattle.format.specs.declared.Step.TheVariants.{Sample, End as Ended, Fault}
-use Rattle.format.specs.declared.Header.TheVariants.{Start}
 use Rattle.format.proofs.NumberLaws.{bytes_drop, level_value, value_short}
 use Rattle.format.proofs.CommandLaws.{Starts, Read, read, command_append, command_length, command_read, command_rest}
 use Rattle.format.proofs.RuleLaws.{in_limits_le, Follows, first_sample, legal_follows, follows_legal}
@@ -210,7 +210,7 @@ module _ {b : List ℕ} (by : Bytes b) where
       obeyed_steps (fault k) a = obeyed_ahead k a
       obeyed_steps (samples ts vs) a = tt
 
-      obeyed_first : Obeyed b (began b (Start x (start k₁ t l)))
+      obeyed_first : Obeyed b (began b (Ok (record { tolerance = x; first = start k₁ t l })))
       obeyed_first = obeyed_steps (steps b 4096 (start k₁ t l)) (ahead 4096 (start k₁ t l) (omega (arith, w.whole, v.whole, length-drop k₁ b)) (omega arith))
 
   obeyed : Obeyed b (began b (header_of b))

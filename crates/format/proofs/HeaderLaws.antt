@@ -7,6 +7,7 @@ use mathlib.Core.Bool.{Bool, true, false, not, ◌&&◌}
 use mathlib.Core.List.{List}
 use Prim.Native.Nat.{ℕ, ◌+◌, ◌≤◌}
 use native.Mathlib.Omega.{arith}
+use Rattle.std.specs.Prelude.{Result, Ok}
 use borrow.Author.Tests.{not-true}
 use lib.IntN.{ℤ}
 use lib.ListN.{drop}
@@ -17,12 +18,12 @@ use Rattle.tolerance.specs.Meaning.{HeldParts, alike, agree}
 use Rattle.tolerance.proofs.Agreement.{agree_alike, agree_exact, agree_parts}
 use Rattle.format.specs.Number.{Bytes}
 use Rattle.format.specs.Command.{size_of, choose, command_of, command_onto, Operands}
-use Rattle.format.specs.Format.{is_held, are_sides, sample_header, tolerance_header, header_of, tolerance_command, samples_onto, encode}
+use Rattle.format.specs.Format.{is_held, are_sides, no_header, sample_header, tolerance_header, header_of, tolerance_command, samples_onto, encode}
 use Rattle.format.specs.declared.Cursor.{Cursor}
 use Rattle.format.specs.declared.Command.{Command}
 use Rattle.format.specs.declared.Command.TheVariants.{Tolerance, Sides, First, Short, Long, End, Invalid}
 use Rattle.format.specs.declared.Header.{Header}
-use Rattle.format.specs.declared.Header.TheVariants.{Start, Fault as NoHeader}
+use Rattle.format.specs.declared.Fault.{Fault}
 use Rattle.format.proofs.NumberLaws.{bytes_drop}
 use Rattle.format.proofs.CommandLaws.{Starts, Read, read, command_read}
 use Rattle.format.proofs.RuleLaws.{is_held_true, held_is_held}
@@ -92,9 +93,9 @@ module _ (x : Parts) (h : HeldParts x) where
 abbrev pub start : ℕ → ℕ → ℕ → Cursor
 start k t l = record { at = k + 7; first = t; tick = t; level = l; count = 1 }
 
-module _ {b : List ℕ} (by : Bytes b) (P : Header → Type 0) where
+module _ {b : List ℕ} (by : Bytes b) (P : Result Header Fault → Type 0) where
   -- after a tolerance of k bytes stands a first sample, or the fault is there
-  pub by_first : (k : ℕ) (x : Parts) → P (NoHeader k) → ((t l : ℕ) → Starts (drop k b) (First t l) → P (Start x (start k t l))) → P (sample_header k x (command_of (drop k b)))
+  pub by_first : (k : ℕ) (x : Parts) → P (no_header k) → ((t l : ℕ) → Starts (drop k b) (First t l) → P (Ok (record { tolerance = x; first = start k t l }))) → P (sample_header k x (command_of (drop k b)))
   by_first k x missing found = go (command_of (drop k b)) (read (bytes_drop k by))
     where
       go : (m : Command) → Read (drop k b) m → P (sample_header k x m)
@@ -107,17 +108,17 @@ module _ {b : List ℕ} (by : Bytes b) (P : Header → Type 0) where
       go Invalid w = missing
 
   -- the record opens with a tolerance that is held, as it is written, or the fault is at 0
-  pub by_tolerance : P (NoHeader 0) → ((x : Parts) → HeldParts x → Starts b (tolerance_command x) → P (sample_header (tolerance_size x) x (command_of (drop (tolerance_size x) b)))) → P (header_of b)
+  pub by_tolerance : P (no_header 0) → ((x : Parts) → HeldParts x → Starts b (tolerance_command x) → P (sample_header (tolerance_size x) x (command_of (drop (tolerance_size x) b)))) → P (header_of b)
   by_tolerance missing found = go (command_of b) (read by)
     where
       held : (x : Parts) (m : Command) → HeldParts x → tolerance_command x ≡ m → Starts b m → P (sample_header (size_of m) x (command_of (drop (size_of m) b)))
       held x m h e s = subst (λ (n : Command). P (sample_header (size_of n) x (command_of (drop (size_of n) b)))) e (found x h (subst (Starts b) (sym e) s))
 
-      one : (r : Ratio) → Starts b (Tolerance r) → (a : Bool) → is_held r ≡ a → P (choose a (sample_header 9 (alike r) (command_of (drop 9 b))) (NoHeader 0))
+      one : (r : Ratio) → Starts b (Tolerance r) → (a : Bool) → is_held r ≡ a → P (choose a (sample_header 9 (alike r) (command_of (drop 9 b))) (no_header 0))
       one r s true e = let h = is_held_true r e in held (alike r) (Tolerance r) (record { up = h; down = h }) (alike_command r) s
       one r s false e = missing
 
-      two : (x : Parts) → Starts b (Sides x) → (a : Bool) → are_sides x ≡ a → P (choose a (sample_header 17 x (command_of (drop 17 b))) (NoHeader 0))
+      two : (x : Parts) → Starts b (Sides x) → (a : Bool) → are_sides x ≡ a → P (choose a (sample_header 17 x (command_of (drop 17 b))) (no_header 0))
       two x s true e = let h = are_sides_true x e in held x (Sides x) h.0 (sides_command x h.1) s
       two x s false e = missing
 

@@ -14,13 +14,16 @@ use lib.Seq.{get_or-drop}
 use lib.Signed.{mag}
 use borrow.Author.Tests.{lt-ltb, le-ltb, ltb-true, ltb-false}
 use mir.Syntax.{w8, w16}
-use mir.Val.{of_z}
+use mir.Val.{Fits, of_z}
 use Rattle.trace.specs.Level.{level}
 use Rattle.trace.proofs.Difference.{Diff, less}
 use Rattle.trace.proofs.Level.{level_diff}
 use Rattle.format.specs.Number.{number_from, bytes_onto, Bytes, flip16, flip8, value_of}
 
 -- ---- bytes
+
+pub bytes_fit : {s : List ℕ} → ((i : ℕ) → Fits w8 (get_or s i 0)) → Bytes s
+bytes_fit h = record { byte = λ i. (h i).fits }
 
 pub bytes_drop : {s : List ℕ} (i : ℕ) → Bytes s → Bytes (drop i s)
 bytes_drop {s} i b = record { byte = λ k. rw (get_or-drop i s k 0) (b.byte (i + k)) }

@@ -11,6 +11,7 @@
 --   Samples                             samples, or the fault's byte
 --   onto, follow                        a sample before others; a step, and the samples after it
 --   steps, samples_from                 the samples that the commands from a cursor on give; with the cursor's own before them
+--   no_header                           a header's fault
 --   sample_header, tolerance_header     the first sample's command after a tolerance of k bytes; the tolerance's command, and then that one
 --   header_of                           the tolerance and the first sample of a record, or the fault's byte
 --   Parsed                              what a record says, or the fault's byte
@@ -23,7 +24,7 @@
 --   SameRecord                          two records are the same: both parts of their tolerances agree, and their kept samples
 -- Where a fault lies is said without the parser in Fault.
 -- Laws are in RuleLaws, HeaderLaws, ParseEncode, EncodeParse, FaultLaws and SameLaws; examples are in proofs/Examples. Assumes nothing.
-use Rattle.std.specs.Prelude.{◌≡◌, Bool, not, ◌&&◌, List, [], ◌∷◌, ℕ, zero, suc, ◌+◌, ◌-◌, ◌≤◌, ◌<◌, leb, eqb, ltb, ℤ, length, drop}
+use Rattle.std.specs.Prelude.{◌≡◌, Bool, not, ◌&&◌, List, [], ◌∷◌, ℕ, zero, suc, ◌+◌, ◌-◌, ◌≤◌, ◌<◌, leb, eqb, ltb, ℤ, length, drop, Result, Ok, Err}
 use Rattle.std.specs.Int.Signed.{mag}
 use Rattle.ratio.specs.declared.Ratio.{Ratio}
 use Rattle.ratio.specs.Gcd.{gcd}
@@ -39,7 +40,7 @@ use Rattle.format.specs.declared.Command.TheVariants.{Tolerance, Sides, First, S
 use Rattle.format.specs.declared.Step.{Step}
 use Rattle.format.specs.declared.Step.TheVariants.{Sample, End as Ended, Fault}
 use Rattle.format.specs.declared.Header.{Header}
-use Rattle.format.specs.declared.Header.TheVariants.{Start, Fault as NoHeader}
+use Rattle.format.specs.declared.Fault.{Fault as FaultPlace}
 
 -- ---- what a record says
 
@@ -140,27 +141,31 @@ steps b (suc n) c = follow (step_of b c) (λ d. steps b n d)
 abbrev pub samples_from : List ℕ → Cursor → Samples
 samples_from b c = onto c (steps b 4096 c)
 
+-- no header: the fault lies at byte k
+abbrev pub no_header : ℕ → Result Header FaultPlace
+no_header k = Err (record { at = k })
+
 -- after a tolerance x of k bytes, the first sample
-abbrev pub sample_header : ℕ → Parts → Command → Header
-sample_header k x (First t l) = Start x (record { at = k + 7; first = t; tick = t; level = l; count = 1 })
-sample_header k x (Tolerance _) = NoHeader k
-sample_header k x (Sides _) = NoHeader k
-sample_header k x (Short _ _) = NoHeader k
-sample_header k x (Long _ _) = NoHeader k
-sample_header k x (End _) = NoHeader k
-sample_header k x Invalid = NoHeader k
+abbrev pub sample_header : ℕ → Parts → Command → Result Header FaultPlace
+sample_header k x (First t l) = Ok (record { tolerance = x; first = record { at = k + 7; first = t; tick = t; level = l; count = 1 } })
+sample_header k x (Tolerance _) = no_header k
+sample_header k x (Sides _) = no_header k
+sample_header k x (Short _ _) = no_header k
+sample_header k x (Long _ _) = no_header k
+sample_header k x (End _) = no_header k
+sample_header k x Invalid = no_header k
 
 -- the tolerance at the front of b, and then the first sample
-abbrev pub tolerance_header : List ℕ → Command → Header
-tolerance_header b (Tolerance r) = choose (is_held r) (sample_header 9 (alike r) (command_of (drop 9 b))) (NoHeader 0)
-tolerance_header b (Sides x) = choose (are_sides x) (sample_header 17 x (command_of (drop 17 b))) (NoHeader 0)
-tolerance_header b (First _ _) = NoHeader 0
-tolerance_header b (Short _ _) = NoHeader 0
-tolerance_header b (Long _ _) = NoHeader 0
-tolerance_header b (End _) = NoHeader 0
-tolerance_header b Invalid = NoHeader 0
+abbrev pub tolerance_header : List ℕ → Command → Result Header FaultPlace
+tolerance_header b (Tolerance r) = choose (is_held r) (sample_header 9 (alike r) (command_of (drop 9 b))) (no_header 0)
+tolerance_header b (Sides x) = choose (are_sides x) (sample_header 17 x (command_of (drop 17 b))) (no_header 0)
+tolerance_header b (First _ _) = no_header 0
+tolerance_header b (Short _ _) = no_header 0
+tolerance_header b (Long _ _) = no_header 0
+tolerance_header b (End _) = no_header 0
+tolerance_header b Invalid = no_header 0
 
-abbrev pub header_of : List ℕ → Header
+abbrev pub header_of : List ℕ → Result Header FaultPlace
 header_of b = tolerance_header b (command_of b)
 
 pub data Parsed : Type 0 where
@@ -171,9 +176,9 @@ abbrev pub attach : Parts → Samples → Parsed
 attach x (fault k) = faulty k
 attach x (samples ts vs) = says (record { tolerance = x; ticks = ts; values = vs })
 
-abbrev pub began : List ℕ → Header → Parsed
-began b (Start x c) = attach x (samples_from b c)
-began b (NoHeader k) = faulty k
+abbrev pub began : List ℕ → Result Header FaultPlace → Parsed
+began b (Ok h) = attach h.tolerance (samples_from b h.first)
+began b (Err e) = faulty e.at
 
 unfoldable pub parse : List ℕ → Parsed
 parse b = began b (header_of b)

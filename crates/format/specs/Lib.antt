@@ -1,4 +1,5 @@
 -- The definitions of the crate `format`.
+pub mod Kind
 pub mod Number
 pub mod Command
 pub mod Format

@@ -1,9 +1,10 @@
 -- Laws of `judge_greedy`: what the cone of a link says of it and of the next; a list is passed exactly if it is greedy, so the size bound holds of it;
 -- a no names the first fault.
 -- Assumes nothing.
-use mathlib.Core.Path.{◌≡◌, refl, sym, ap, ◌∙◌}
+use Rattle.std.specs.Prelude.{Result, Ok}
+use mathlib.Core.Path.{◌≡◌, sym, ap, ◌∙◌}
 use mathlib.Core.Logic.{◌↔◌}
-use mathlib.Core.Bool.{Bool, true, false, not}
+use mathlib.Core.Bool.{true, false, not}
 use mathlib.Core.List.{List}
 use Prim.Native.Nat.{ℕ, suc, ◌+◌, ◌-◌, ◌≤◌, ◌<◌}
 use native.Mathlib.Decide.{dec_le, dec_lt}
@@ -16,12 +17,10 @@ use borrow.Author.Tests.{le-leb, lt-leb, lt-ltb, le-ltb, ltb-true, not-false}
 use Rattle.lists.proofs.Tests.{by_test, and_first, and_second, or_false}
 use Rattle.lists.proofs.FirstLaws.{Searching, searching_more, searched_at, searched_none, first_found, first_none}
 use Rattle.refusal.specs.declared.Refusal.{Refusal}
-use Rattle.refusal.specs.declared.Checked.{Checked}
-use Rattle.refusal.specs.declared.Checked.TheVariants.{Fine, Refused}
 use Rattle.kept.specs.Kept.{KeptList, Greedy}
 use Rattle.kept.proofs.KeptLaws.{links_at, links_of_lem, kept_links}
 use Rattle.limits.specs.declared.Limits.{Limits}
-use Rattle.limits.specs.Prepare.{common_rows, criterion_of}
+use Rattle.limits.specs.Prepare.{criterion_of}
 use Rattle.trace.specs.declared.Criterion.{Criterion}
 use Rattle.trace.specs.Link.{Linked, Bounded, all_within, valid, links_end, NoLonger}
 use Rattle.trace.proofs.Holes.{links_end_inside, obeys_to, obeys_past}
@@ -30,13 +29,13 @@ use Rattle.trace.proofs.Half.{greedy_short}
 use Rattle.outgoing.specs.declared.Links.{Links}
 use Rattle.outgoing.specs.Outgoing.{TakenIn, Next}
 use Rattle.outgoing.proofs.OutgoingLaws.{next_at}
-use Rattle.proposed.specs.Proposed.{entry, list_row}
+use Rattle.proposed.specs.Proposed.{entry}
 use Rattle.judging.specs.Judge.{judge_rows}
 use Rattle.judging.proofs.JudgeLaws.{rows_are_trace, rows_kept}
-use Rattle.greedy.specs.declared.Tested.{Tested}
 use Rattle.greedy.specs.declared.GreedyVerdict.{GreedyVerdict}
-use Rattle.greedy.specs.declared.GreedyVerdict.TheVariants.{Yes, Link, Stop, Refused as Declined}
-use Rattle.greedy.specs.Greedy.{further, test_of, faulty_at, first_faulty, fault_at, list_greedy, decline_greedy, judge_greedy_of, greedy_at, FirstAt, LinkFault, StopFault, JudgeGreedyOutcome}
+use Rattle.greedy.specs.declared.GreedyVerdict.TheVariants.{Yes, Link, Stop}
+use Rattle.greedy.specs.Greedy.{further, faulty_at, first_faulty, fault_at, list_greedy, judge_greedy_of, FirstAt, LinkFault, StopFault, JudgeGreedyOutcome}
+use Rattle.refusal.proofs.TableLaws.{then_given}
 
 -- ---- the test of a link and of the next
 
@@ -52,17 +51,11 @@ module _ {ts : List ℕ} {vs : List ℤ} (c : Criterion) {i j : ℕ} (link : Lin
   limit_valid h = obeying_valid ts vs c i j (obeys_to ts c.gap i start_inside j h)
 
   -- no link goes further than the limit
-  no_further : links_end ts c.gap i ≤ j → further ts vs c i j ≡ false
+  pub no_further : links_end ts c.gap i ≤ j → further ts vs c i j ≡ false
   no_further h = elim (dec_lt j (length ts - 1)) [
     | yes lt ↦ rw (lt-ltb j (length ts - 1) lt) (hole_invalid ts vs c i (suc j) (obeys_past ts c.gap i start_inside (suc j) (omega arith) (omega arith)))
     | no end ↦ rw (le-ltb j (length ts - 1) (omega arith))
   ]
-
-  pub test_at_limit : {b : Bool} → links_end ts c.gap i ≤ j → b ≡ valid ts vs c i j → record { valid = b; further = false } ≡ test_of ts vs c i j
-  test_at_limit h e = rw (e, no_further h) (by_test (valid ts vs c i j) (λ v. rw v) (λ v. rw v))
-
-  pub test_invalid : valid ts vs c i j ≡ false → record { valid = false; further = false } ≡ test_of ts vs c i j
-  test_invalid h = rw h
 
   -- before the limit there is a next sample
   module _ (before : j < links_end ts c.gap i) where
@@ -71,14 +64,11 @@ module _ {ts : List ℕ} {vs : List ℤ} (c : Criterion) {i j : ℕ} (link : Lin
 
     -- links that are ready for the end, and for the sample after it
     module _ {l : Links} (b : Bounded c) where
-      pub end_ready : TakenIn ts vs c i j l → Next ts vs c l j
-      end_ready h = next_at h link.trace b link.forward (omega arith) link.inside
-
       pub next_ready : TakenIn ts vs c i (j + 1) l → Next ts vs c l (j + 1)
       next_ready h = next_at h link.trace b (omega (arith, link.forward)) (omega arith) next_inside
 
-    pub test_valid : {b : Bool} → valid ts vs c i j ≡ true → b ≡ valid ts vs c i (j + 1) → record { valid = true; further = b } ≡ test_of ts vs c i j
-    test_valid h e = rw (h, lt-ltb j (length ts - 1) (omega (arith, next_inside)), e, add-one j)
+    pub further_valid : further ts vs c i j ≡ valid ts vs c i (j + 1)
+    further_valid = rw (lt-ltb j (length ts - 1) (omega (arith, next_inside)), add-one j)
 
 -- ---- the first fault
 
@@ -100,26 +90,20 @@ module _ (ts : List ℕ) (vs : List ℤ) (l : List ℕ) (c : Criterion) where
   found_none s le = sym (greedy_yes (omega (arith, searched_none s le)))
 
   -- what the test of the link at position k tells
-  module _ {k : ℕ} (s : Sound k) (lt : k < length l - 1) {r : Tested} (e : r ≡ test_of ts vs c (entry l k) (entry l (suc k))) where
+  module _ {k : ℕ} (s : Sound k) (lt : k < length l - 1) where
     found : faulty_at ts vs c l k ≡ true → fault_at ts vs c l k ≡ list_greedy ts vs l c
     unfolding first_faulty
     found f = let q = searched_at s lt f in sym (greedy_no (omega (arith, q)) ∙ ap (fault_at ts vs c l) (sym q))
 
-    link_test : r.valid ≡ valid ts vs c (entry l k) (entry l (suc k))
-    link_test = ap (λ (x : Tested). x.valid) e
+    pub found_link : valid ts vs c (entry l k) (entry l (suc k)) ≡ false → Link k ≡ list_greedy ts vs l c
+    found_link v = rw v at (found (rw v))
 
-    further_test : r.valid ≡ true → r.further ≡ further ts vs c (entry l k) (entry l (suc k))
-    further_test v = rw (sym link_test ∙ v) at (ap (λ (x : Tested). x.further) e)
+    module _ (v : valid ts vs c (entry l k) (entry l (suc k)) ≡ true) where
+      pub found_stop : further ts vs c (entry l k) (entry l (suc k)) ≡ true → Stop k ≡ list_greedy ts vs l c
+      found_stop f = rw v at (found (rw v f))
 
-    pub found_link : r.valid ≡ false → Link k ≡ list_greedy ts vs l c
-    found_link v = let f = sym link_test ∙ v in rw f at (found (rw f))
-
-    module _ (v : r.valid ≡ true) where
-      pub found_stop : r.further ≡ true → Stop k ≡ list_greedy ts vs l c
-      found_stop g = let f = sym link_test ∙ v in rw f at (found (rw f (sym (further_test v) ∙ g)))
-
-      pub sound_more : r.further ≡ false → Sound (k + 1)
-      sound_more g = searching_more s lt (rw (sym link_test ∙ v) (sym (further_test v) ∙ g))
+      pub sound_more : further ts vs c (entry l k) (entry l (suc k)) ≡ false → Sound (k + 1)
+      sound_more f = searching_more s lt (rw v f)
 
   -- a link that is not at fault, and the other way round
   sound_at : (k : ℕ) → faulty_at ts vs c l k ≡ false
@@ -208,52 +192,32 @@ module _ (ts : List ℕ) (vs : List ℤ) (l : List ℕ) (c : Criterion) where
         record { first = first_at kept at n.0; link_valid = rw at at v; not_last = ltb-true _ _ (and_first _ _ f); next_valid = and_second (ltb (entry l (suc k)) (length ts - 1)) _ f })
         (λ v. let g = rw v at n.1 in let z : ◌≡◌ {A = ℕ} 0 1 = cc in absurd (omega arith))
 
--- ---- the answer, where a check passes and where it does not
-
-decline_only : (x : Checked) {v w : GreedyVerdict} → decline_greedy x v ≡ w → ((r : Refusal) → w ≡ Declined r → ⊥) → (x ≡ Fine) × (v ≡ w)
-decline_only Fine e given = (refl, e)
-decline_only (Refused r) e given = absurd (given r (sym e))
+-- ---- the answer
 
 module _ (ts : List ℕ) (vs : List ℤ) (l : List ℕ) where
-  pub list_fine : (c : Criterion) → list_row (length ts) l ≡ Fine → list_greedy ts vs l c ≡ greedy_at ts vs l c
-  unfolding greedy_at
-  list_fine c h = rw h
-
-  pub list_refused : (c : Criterion) {x : Refusal} → list_row (length ts) l ≡ Refused x → Declined x ≡ greedy_at ts vs l c
-  unfolding greedy_at
-  list_refused c h = rw h
-
-  pub common_fine : (t : Limits) → common_rows ts vs t ≡ Fine → greedy_at ts vs l (criterion_of t) ≡ judge_greedy_of ts vs l t
-  unfolding judge_greedy_of judge_rows greedy_at
-  common_fine t h = rw h
-
-  pub common_refused : (t : Limits) {x : Refusal} → common_rows ts vs t ≡ Refused x → Declined x ≡ judge_greedy_of ts vs l t
-  unfolding judge_greedy_of judge_rows
-  common_refused t h = rw h
-
   module _ (t : Limits) where
     -- the verdict behind an answer that is no refusal
-    pub answered : {w : GreedyVerdict} → judge_greedy_of ts vs l t ≡ w → ((r : Refusal) → w ≡ Declined r → ⊥) → (judge_rows ts vs l t ≡ Fine) × (list_greedy ts vs l (criterion_of t) ≡ w)
+    pub answered : {w : GreedyVerdict} → judge_greedy_of ts vs l t ≡ Ok w → (judge_rows ts vs l t ≡ Ok tt) × (list_greedy ts vs l (criterion_of t) ≡ w)
     unfolding judge_greedy_of
-    answered e given = decline_only (judge_rows ts vs l t) e given
+    answered e = then_given (judge_rows ts vs l t) e
 
-    passes : judge_greedy_of ts vs l t ≡ Yes ↔ (judge_rows ts vs l t ≡ Fine) × Greedy (valid ts vs (criterion_of t)) (length ts - 1) l
+    passes : judge_greedy_of ts vs l t ≡ Ok Yes ↔ (judge_rows ts vs l t ≡ Ok tt) × Greedy (valid ts vs (criterion_of t)) (length ts - 1) l
     unfolding judge_greedy_of
     passes = (
-      λ e. let d = answered e (λ r q. let z : ◌≡◌ {A = ℕ} 0 1 = cc in omega arith) in (d.0, (greedy_list ts vs l (criterion_of t) (rows_kept ts vs l t d.0)).0 d.1),
-      λ h. rw h.0 ((greedy_list ts vs l (criterion_of t) h.1.kept).1 h.1),
+      λ e. let d = answered e in (d.0, (greedy_list ts vs l (criterion_of t) (rows_kept ts vs l t d.0)).0 d.1),
+      λ h. rw (h.0, (greedy_list ts vs l (criterion_of t) h.1.kept).1 h.1),
     )
 
     -- demand 3: one theorem for walk's lists, gallop's and these
-    short : judge_greedy_of ts vs l t ≡ Yes → NoLonger ts vs (criterion_of t) (length l)
+    short : judge_greedy_of ts vs l t ≡ Ok Yes → NoLonger ts vs (criterion_of t) (length l)
     short e = let p = passes.0 e in greedy_short ts vs (criterion_of t) (rows_are_trace ts vs l t p.0) p.1
 
-    at_link : (k : ℕ) → judge_greedy_of ts vs l t ≡ Link k → LinkFault ts vs (criterion_of t) l k
-    at_link k e = let d = answered e (λ r q. let z : ◌≡◌ {A = ℕ} 0 1 = cc in omega arith) in link_fault ts vs l (criterion_of t) (rows_kept ts vs l t d.0) d.1
+    at_link : (k : ℕ) → judge_greedy_of ts vs l t ≡ Ok (Link k) → LinkFault ts vs (criterion_of t) l k
+    at_link k e = let d = answered e in link_fault ts vs l (criterion_of t) (rows_kept ts vs l t d.0) d.1
 
-    at_stop : (k : ℕ) → judge_greedy_of ts vs l t ≡ Stop k → StopFault ts vs (criterion_of t) l k
-    at_stop k e = let d = answered e (λ r q. let z : ◌≡◌ {A = ℕ} 0 1 = cc in omega arith) in stop_fault ts vs l (criterion_of t) (rows_kept ts vs l t d.0) d.1
+    at_stop : (k : ℕ) → judge_greedy_of ts vs l t ≡ Ok (Stop k) → StopFault ts vs (criterion_of t) l k
+    at_stop k e = let d = answered e in stop_fault ts vs l (criterion_of t) (rows_kept ts vs l t d.0) d.1
 
     -- the contract, from the answer
-    pub greedy_outcome : {r : GreedyVerdict} → r ≡ judge_greedy_of ts vs l t → JudgeGreedyOutcome ts vs l t r
+    pub greedy_outcome : {r : Result GreedyVerdict Refusal} → r ≡ judge_greedy_of ts vs l t → JudgeGreedyOutcome ts vs l t r
     greedy_outcome e = record { is = e; passed = rw e passes; size = rw e short; link = rw e at_link; stop = rw e at_stop }

@@ -1,6 +1,7 @@
 -- Laws of `judge`: a list is passed exactly if each of its links is valid, and a no names what makes the first invalid link invalid.
 -- Assumes nothing.
-use mathlib.Core.Path.{◌≡◌, refl, sym, ◌∙◌}
+use Rattle.std.specs.Prelude.{Result, Ok}
+use mathlib.Core.Path.{◌≡◌, sym, ◌∙◌}
 use mathlib.Core.Logic.{◌↔◌}
 use mathlib.Core.List.{List}
 use mathlib.Core.Bool.{false}
@@ -12,9 +13,7 @@ use lib.ListN.{length}
 use borrow.Author.Tests.{le-leb, lt-leb, not-true}
 use Rattle.lists.proofs.FirstLaws.{first_found}
 use Rattle.refusal.specs.declared.Refusal.{Refusal}
-use Rattle.refusal.specs.declared.Checked.{Checked}
-use Rattle.refusal.specs.declared.Checked.TheVariants.{Fine, Refused}
-use Rattle.refusal.proofs.TableLaws.{then_fine}
+use Rattle.refusal.proofs.TableLaws.{then_fine, then_given}
 use Rattle.kept.specs.Kept.{KeptList, AllValid}
 use Rattle.limits.specs.declared.Limits.{Limits}
 use Rattle.trace.specs.declared.Criterion.{Criterion}
@@ -23,12 +22,12 @@ use Rattle.trace.specs.Trace.{Trace}
 use Rattle.trace.specs.Link.{valid}
 use Rattle.measures.specs.Measure.{Offends}
 use Rattle.measures.proofs.MeasureLaws.{fault_offends}
-use Rattle.proposed.specs.Proposed.{entry, list_row, invalid_at, first_invalid, fault_at}
+use Rattle.proposed.specs.Proposed.{entry, invalid_at, first_invalid, fault_at}
 use Rattle.proposed.proofs.ProposedLaws.{row_kept, kept_link, all_valid}
 use Rattle.judging.specs.declared.Verdict.{Verdict}
-use Rattle.judging.specs.declared.Verdict.TheVariants.{Yes, No, Refused as Declined}
+use Rattle.judging.specs.declared.Verdict.TheVariants.{Yes, No}
 use Rattle.limits.specs.Prepare.{common_rows, criterion_of}
-use Rattle.judging.specs.Judge.{judge_rows, list_verdict, decline_or, judge_of, judged_at, JudgeOutcome}
+use Rattle.judging.specs.Judge.{judge_rows, list_verdict, judge_of, JudgeOutcome}
 use Rattle.limits.proofs.PrepareLaws.{common_trace}
 
 -- ---- the verdict
@@ -76,63 +75,39 @@ module _ (ts : List ℕ) (vs : List ℤ) (l : List ℕ) (c : Criterion) where
       let v = no_verdict e in
       rw v.2 (fault_offends (kept_link k t kept v.0) c (first_is_invalid v.1 v.0))
 
--- ---- the answer, where a check passes and where it does not
-
-decline_fine : {x : Checked} {v : Verdict} → decline_or x v ≡ Yes → (x ≡ Fine) × (v ≡ Yes)
-decline_fine {x = Fine} e = (refl, e)
-decline_fine {x = Refused r} e = let z : ◌≡◌ {A = ℕ} 0 1 = cc in absurd (omega arith)
-
-decline_no : (x : Checked) {v : Verdict} {k : ℕ} {m : Measure} → decline_or x v ≡ No k m → (x ≡ Fine) × (v ≡ No k m)
-decline_no Fine e = (refl, e)
-decline_no (Refused r) e = let z : ◌≡◌ {A = ℕ} 0 1 = cc in absurd (omega arith)
+-- ---- the answer
 
 module _ (ts : List ℕ) (vs : List ℤ) (l : List ℕ) where
-  pub list_fine : (c : Criterion) → list_row (length ts) l ≡ Fine → list_verdict ts vs l c ≡ judged_at ts vs l c
-  unfolding judged_at
-  list_fine c h = rw h
-
-  pub list_refused : (c : Criterion) {x : Refusal} → list_row (length ts) l ≡ Refused x → Declined x ≡ judged_at ts vs l c
-  unfolding judged_at
-  list_refused c h = rw h
-
-  pub common_fine : (t : Limits) → common_rows ts vs t ≡ Fine → judged_at ts vs l (criterion_of t) ≡ judge_of ts vs l t
-  unfolding judge_of judge_rows judged_at
-  common_fine t h = rw h
-
-  pub judge_refused : (t : Limits) {x : Refusal} → common_rows ts vs t ≡ Refused x → Declined x ≡ judge_of ts vs l t
-  unfolding judge_of judge_rows
-  judge_refused t h = rw h
-
   -- what the rows say of a trace and a list that none of them refuses
-  pub rows_are_trace : (t : Limits) → judge_rows ts vs l t ≡ Fine → Trace ts vs
+  pub rows_are_trace : (t : Limits) → judge_rows ts vs l t ≡ Ok tt → Trace ts vs
   unfolding judge_rows
   rows_are_trace t h = common_trace ts vs t (then_fine (common_rows ts vs t) _ h).0
 
-  pub rows_kept : (t : Limits) → judge_rows ts vs l t ≡ Fine → KeptList (length ts - 1) l
+  pub rows_kept : (t : Limits) → judge_rows ts vs l t ≡ Ok tt → KeptList (length ts - 1) l
   unfolding judge_rows
   rows_kept t h =
       let a = then_fine (common_rows ts vs t) _ h in
       (row_kept (common_trace ts vs t a.0).some l).0 a.1
 
   -- demand 2: a list is passed exactly if each of its links is within the tolerance
-  pub judge_passes : (t : Limits) → judge_of ts vs l t ≡ Yes ↔ (judge_rows ts vs l t ≡ Fine) × KeptList (length ts - 1) l × AllValid (valid ts vs (criterion_of t)) l
+  pub judge_passes : (t : Limits) → judge_of ts vs l t ≡ Ok Yes ↔ (judge_rows ts vs l t ≡ Ok tt) × KeptList (length ts - 1) l × AllValid (valid ts vs (criterion_of t)) l
   unfolding judge_of
   judge_passes t = (
-    λ e. let d = decline_fine {x = judge_rows ts vs l t} e in
+    λ e. let d = then_given (judge_rows ts vs l t) e in
         (d.0, rows_kept t d.0, (all_valid ts vs (criterion_of t) l).0 (yes_verdict ts vs l (criterion_of t) d.1)),
-    λ h. rw h.0 (verdict_yes ts vs l (criterion_of t) ((all_valid ts vs (criterion_of t) l).1 h.2)),
+    λ h. rw (h.0, verdict_yes ts vs l (criterion_of t) ((all_valid ts vs (criterion_of t) l).1 h.2)),
   )
 
-  pub judge_fault : (t : Limits) {k : ℕ} {m : Measure} → judge_of ts vs l t ≡ No k m → m ≡ fault_at ts vs (criterion_of t) l k
+  pub judge_fault : (t : Limits) {k : ℕ} {m : Measure} → judge_of ts vs l t ≡ Ok (No k m) → m ≡ fault_at ts vs (criterion_of t) l k
   unfolding judge_of
-  judge_fault t e = (no_verdict ts vs l (criterion_of t) (decline_no (judge_rows ts vs l t) e).1).2
+  judge_fault t e = (no_verdict ts vs l (criterion_of t) (then_given (judge_rows ts vs l t) e).1).2
 
-  judge_names : (t : Limits) (k : ℕ) (m : Measure) → judge_of ts vs l t ≡ No k m → Offends ts vs (criterion_of t) (entry l k) (entry l (suc k)) m
+  judge_names : (t : Limits) (k : ℕ) (m : Measure) → judge_of ts vs l t ≡ Ok (No k m) → Offends ts vs (criterion_of t) (entry l k) (entry l (suc k)) m
   unfolding judge_of
   judge_names t k m e =
-      let d = decline_no (judge_rows ts vs l t) e in
+      let d = then_given (judge_rows ts vs l t) e in
       no_offends ts vs l (criterion_of t) (rows_are_trace t d.0) (rows_kept t d.0) k m d.1
 
 -- the contract, from the answer
-pub judge_outcome : (ts : List ℕ) (vs : List ℤ) (l : List ℕ) (t : Limits) {r : Verdict} → r ≡ judge_of ts vs l t → JudgeOutcome ts vs l t r
+pub judge_outcome : (ts : List ℕ) (vs : List ℤ) (l : List ℕ) (t : Limits) {r : Result Verdict Refusal} → r ≡ judge_of ts vs l t → JudgeOutcome ts vs l t r
 judge_outcome ts vs l t e = record { is = e; passed = rw e (judge_passes ts vs l t); named = rw e (judge_names ts vs l t) }

@@ -1,27 +1,16 @@
-// The C interface: each export is a public call of `engine` or of a product above it, with the numbers and structs of `border` for its enums.
+// The C interface: each export is a public call of `engine` or of a product above it, with the numbers and structs of `border` for its answers.
 #![tactic(auto)]
 
-ghost use Rattle.reporting.specs.Report.{Surveyed};
-ghost use Rattle.border.specs.Border.{limits_of};
 ghost use Rattle.kovrelna.specs.Exports.{HoldExport, MeasureExport, JudgeExport, JudgeGreedyExport, WalkExport, ScanExport, GallopExport, MinimumExport, LeastExport, ViewBeginExport, ViewAddExport, SumExport, ExpandExport, ExpandWithExport, WriteExport, ReadExport, SameExport, ReportExport, PedestalsExport};
 ghost use Rattle.pedestals.specs.Compare.{run_of};
 
 use border::{
     Answer, Begun, Closest, Compared, Content, Galloped, Held, Judged, JudgedGreedy, Limits,
-    Measured, Report, Scanned, Stepped, Tolerance, Tolerances, Verdict, begun_of, closest_of,
-    compared_of, galloped_of, held_of, judged_greedy_of, judged_of, kept_of, limits_of, listed_of,
-    measured_of, read_of, report_of, scanned_of, stepped_of, tolerance_of, tolerances_of,
-    written_of,
+    Measured, Report, Scanned, Tolerance, Tolerances, Verdict,
 };
 use live::View;
+use pedestals::Run;
 use sheet::{Sheet, Summary};
-
-// The report by value, for a list of `room` summaries.
-fn border_sheet(ticks: &[u32], values: &[i16], lengths: &[usize], t: Limits, room: usize) -> Sheet
-    ensures { Surveyed ticks.now values.now lengths.now (limits_of t) room result }
-{
-    engine::report::sheet_of(ticks, values, lengths, limits_of(t), room)
-}
 
 // Writes a row for each channel into the first entries of `out`.
 #[unsafe(no_mangle)]
@@ -34,9 +23,7 @@ pub extern "C" fn kovrelna_report(
 ) -> Report
     ensures { ReportExport ticks.now values.now lengths.now t out.old result out.new }
 {
-    let s = border_sheet(ticks, values, lengths, t, out.len());
-    sheet::fill(out, s);
-    report_of(s)
+    Report::from(engine::report::report(ticks, values, lengths, t.into(), out))
 }
 
 // The ratio in lowest terms that a tolerance means.
@@ -44,7 +31,7 @@ pub extern "C" fn kovrelna_report(
 pub extern "C" fn kovrelna_hold(t: Tolerance) -> Held
     ensures { HoldExport t result }
 {
-    held_of(engine::hold::hold(tolerance_of(t)))
+    Held::from(engine::hold::hold(t.into()))
 }
 
 // Where the link i to j strays.
@@ -52,7 +39,7 @@ pub extern "C" fn kovrelna_hold(t: Tolerance) -> Held
 pub extern "C" fn kovrelna_measure(ticks: &[u32], values: &[i16], i: usize, j: usize) -> Measured
     ensures { MeasureExport ticks.now values.now i j result }
 {
-    measured_of(engine::measure::measure(ticks, values, i, j))
+    Measured::from(engine::measure::measure(ticks, values, i, j))
 }
 
 // Whether each link of the list is valid.
@@ -60,7 +47,7 @@ pub extern "C" fn kovrelna_measure(ticks: &[u32], values: &[i16], i: usize, j: u
 pub extern "C" fn kovrelna_judge(ticks: &[u32], values: &[i16], list: &[u16], t: Limits) -> Judged
     ensures { JudgeExport ticks.now values.now list.now t result }
 {
-    judged_of(engine::judge::judge(ticks, values, list, limits_of(t)))
+    Judged::from(engine::judge::judge(ticks, values, list, t.into()))
 }
 
 // Whether the list is greedy.
@@ -73,7 +60,7 @@ pub extern "C" fn kovrelna_judge_greedy(
 ) -> JudgedGreedy
     ensures { JudgeGreedyExport ticks.now values.now list.now t result }
 {
-    judged_greedy_of(engine::judge_greedy::judge_greedy(ticks, values, list, limits_of(t)))
+    JudgedGreedy::from(engine::judge_greedy::judge_greedy(ticks, values, list, t.into()))
 }
 
 // Writes walk's list into the first entries of `out`.
@@ -81,7 +68,7 @@ pub extern "C" fn kovrelna_judge_greedy(
 pub extern "C" fn kovrelna_walk(ticks: &[u32], values: &[i16], t: Limits, out: &mut [u16]) -> Answer
     ensures { WalkExport ticks.now values.now t out.old result out.new }
 {
-    kept_of(engine::walk::walk(ticks, values, limits_of(t), out))
+    Answer::from(engine::walk::walk(ticks, values, t.into(), out))
 }
 
 // Writes walk's list at each tolerance into the first entries of its part of `out`.
@@ -95,7 +82,7 @@ pub extern "C" fn kovrelna_scan(
 ) -> Scanned
     ensures { ScanExport ticks.now values.now t gap out.old result out.new }
 {
-    scanned_of(engine::scan::scan(ticks, values, tolerances_of(t), gap, out))
+    Scanned::from(engine::scan::scan(ticks, values, t.into(), gap, out))
 }
 
 // Writes gallop's list into the first entries of `out`.
@@ -108,7 +95,7 @@ pub extern "C" fn kovrelna_gallop(
 ) -> Galloped
     ensures { GallopExport ticks.now values.now t out.old result out.new }
 {
-    galloped_of(engine::gallop::gallop(ticks, values, limits_of(t), out))
+    Galloped::from(engine::gallop::gallop(ticks, values, t.into(), out))
 }
 
 // Writes the minimum's list into the first entries of `out`.
@@ -121,7 +108,7 @@ pub extern "C" fn kovrelna_minimum(
 ) -> Answer
     ensures { MinimumExport ticks.now values.now t out.old result out.new }
 {
-    kept_of(engine::minimum::minimum(ticks, values, limits_of(t), out))
+    Answer::from(engine::minimum::minimum(ticks, values, t.into(), out))
 }
 
 // Writes the list with the least error of at most `allowance` samples into the first entries of `out`.
@@ -135,7 +122,7 @@ pub extern "C" fn kovrelna_least(
 ) -> Closest
     ensures { LeastExport ticks.now values.now gap allowance out.old result out.new }
 {
-    closest_of(engine::least::least(ticks, values, gap, allowance as usize, out))
+    Closest::from(engine::least::least(ticks, values, gap, allowance as usize, out))
 }
 
 // A view of the first sample.
@@ -143,14 +130,7 @@ pub extern "C" fn kovrelna_least(
 pub extern "C" fn kovrelna_view_begin(k: u64) -> Begun
     ensures { ViewBeginExport k result }
 {
-    begun_of(engine::view::begin(k))
-}
-
-// An addition by value.
-fn border_step(view: View, ticks: &[u32], values: &[i16]) -> Stepped
-    ensures { ViewAddExport ticks.now values.now view result.answer result.view }
-{
-    stepped_of(engine::view::added(view, ticks, values))
+    Begun::from(engine::view::begin(k))
 }
 
 // Adds the last sample to the view of those before it.
@@ -158,9 +138,7 @@ fn border_step(view: View, ticks: &[u32], values: &[i16]) -> Stepped
 pub extern "C" fn kovrelna_view_add(view: &mut View, ticks: &[u32], values: &[i16]) -> Answer
     ensures { ViewAddExport ticks.now values.now view.old result view.new }
 {
-    let after = border_step(*view, ticks, values);
-    *view = after.view;
-    after.answer
+    Answer::from(engine::view::add(view, ticks, values))
 }
 
 // Writes the sums of two traces into the first entries of `sums`, and the samples of either list into those of `joined`.
@@ -177,7 +155,7 @@ pub extern "C" fn kovrelna_sum(
 ) -> Answer
     ensures { SumExport ticks1.now values1.now ticks2.now values2.now list1.now list2.now sums.old joined.old result sums.new joined.new }
 {
-    kept_of(engine::sum::sum(ticks1, values1, ticks2, values2, list1, list2, sums, joined))
+    Answer::from(engine::sum::sum(ticks1, values1, ticks2, values2, list1, list2, sums, joined))
 }
 
 // Writes the value of each range code into the first entries of `out`.
@@ -185,7 +163,7 @@ pub extern "C" fn kovrelna_sum(
 pub extern "C" fn kovrelna_expand(codes: &[u8], out: &mut [i16]) -> Answer
     ensures { ExpandExport codes.now out.old result out.new }
 {
-    written_of(engine::expand::expand(codes, out))
+    Answer::from(engine::expand::expand(codes, out))
 }
 
 // The same with the values of the caller's table.
@@ -193,7 +171,7 @@ pub extern "C" fn kovrelna_expand(codes: &[u8], out: &mut [i16]) -> Answer
 pub extern "C" fn kovrelna_expand_with(codes: &[u8], table: &[i16], out: &mut [i16]) -> Answer
     ensures { ExpandWithExport codes.now table.now out.old result out.new }
 {
-    written_of(engine::expand_with::expand_with(codes, table, out))
+    Answer::from(engine::expand_with::expand_with(codes, table, out))
 }
 
 // Writes the record of the list's samples and the tolerance into the buffer from a place on.
@@ -208,7 +186,7 @@ pub extern "C" fn kovrelna_write(
 ) -> Answer
     ensures { WriteExport ticks.now values.now list.now t buffer.old place result buffer.new }
 {
-    written_of(engine::write::write(ticks, values, list, limits_of(t), buffer, place))
+    Answer::from(engine::write::write(ticks, values, list, t.into(), buffer, place))
 }
 
 // Writes the samples of a record into the first entries of both lists.
@@ -216,7 +194,7 @@ pub extern "C" fn kovrelna_write(
 pub extern "C" fn kovrelna_read(bytes: &[u8], ticks: &mut [u32], values: &mut [i16]) -> Content
     ensures { ReadExport bytes.now ticks.old values.old result ticks.new values.new }
 {
-    read_of(engine::read::read(bytes, ticks, values))
+    Content::from(engine::read::read(bytes, ticks, values))
 }
 
 // Whether the kept samples of two records agree.
@@ -224,7 +202,7 @@ pub extern "C" fn kovrelna_read(bytes: &[u8], ticks: &mut [u32], values: &mut [i
 pub extern "C" fn kovrelna_same(first: &[u8], second: &[u8]) -> Verdict
     ensures { SameExport first.now second.now result }
 {
-    compared_of(engine::same::same(first, second))
+    Verdict::from(engine::same::same(first, second))
 }
 
 // Lists the channels of two pedestal runs that have moved, and those that are noisy, in the first entries of the two lists.
@@ -243,16 +221,15 @@ pub extern "C" fn kovrelna_pedestals(
 ) -> Compared
     ensures { PedestalsExport (run_of ticks1.now values1.now lengths1.now) (run_of ticks2.now values2.now lengths2.now) t k moved.old noisy.old result moved.new noisy.new }
 {
-    listed_of(pedestals::compare(
-        ticks1,
-        values1,
-        lengths1,
-        ticks2,
-        values2,
-        lengths2,
-        tolerance_of(t),
-        k,
-        moved,
-        noisy,
-    ))
+    let today = Run {
+        ticks: ticks1,
+        values: values1,
+        lengths: lengths1,
+    };
+    let earlier = Run {
+        ticks: ticks2,
+        values: values2,
+        lengths: lengths2,
+    };
+    Compared::from(pedestals::compare(today, earlier, t.into(), k, moved, noisy))
 }

@@ -2,10 +2,10 @@
 #![tactic(auto)]
 
 ghost use Rattle.std.specs.Prelude.{◌≡◌};
-ghost use Rattle.limits.specs.Prepare.{gap_row, Under, Prepared, Allowed, OutputPrepared};
+ghost use Rattle.limits.specs.Prepare.{gap_row, Prepared, Allowed, OutputPrepared};
 
-use refusal::{Checked, Refusal};
-use tolerance::{Meaning, Parts, Tolerance};
+use refusal::{Refusal, check_room};
+use tolerance::Tolerance;
 use trace::Criterion;
 
 // What links are asked to meet: a tolerance, and a gap limit in ticks from 1 to 1,048,575.
@@ -15,75 +15,49 @@ pub struct Limits {
     pub gap: u32,
 }
 
-// What the checks of a trace and its limits find: the criterion that the limits set, or a refusal.
-#[derive(Clone, Copy)]
-pub enum Ready {
-    At(Criterion),
-    Refused(Refusal),
-}
-
 // Check 15.
-pub fn check_gap(gap: u32) -> Checked
+pub fn check_gap(gap: u32) -> Result<(), Refusal>
     ensures { result ≡ gap_row gap }
 {
-    if gap < 1 {
-        return Checked::Refused(Refusal::Gap);
+    if gap < 1 || 1_048_575 < gap {
+        return Err(Refusal::Gap);
     }
-    if 1_048_575 < gap {
-        return Checked::Refused(Refusal::Gap);
-    }
-    Checked::Fine
-}
-
-// Check 15, of the gap limit beside an allowed tolerance.
-fn under(x: Parts, gap: u32) -> Ready
-    ensures { Under x gap result }
-{
-    let up = x.up;
-    let down = x.down;
-    let checked = check_gap(gap);
-    match checked {
-        Checked::Fine => Ready::At(Criterion { up, down, gap }),
-        Checked::Refused(y) => Ready::Refused(y),
-    }
+    Ok(())
 }
 
 // Checks 4 and 15.
-pub fn criterion(t: Limits) -> Ready
+pub fn criterion(t: Limits) -> Result<Criterion, Refusal>
     ensures { Allowed t result }
 {
-    let given = t.tolerance;
-    let m = tolerance::meaning_of(given);
-    match m {
-        Meaning::Exact(x) => under(x, t.gap),
-        Meaning::NotAllowed => Ready::Refused(Refusal::Tolerance(0)),
-    }
+    let parts = tolerance::meaning_of(t.tolerance).ok_or(Refusal::Tolerance(0))?;
+    check_gap(t.gap)?;
+    Ok(Criterion {
+        up: parts.up,
+        down: parts.down,
+        gap: t.gap,
+    })
 }
 
 // Checks 1, 2, 3, 4 and 15.
-pub fn prepare(ticks: &[u32], values: &[i16], t: Limits) -> Ready
+#[tactic(auto, unfolding(crate::specs::Prepare::common_rows), using(crate::proofs::PrepareLaws::trace_fine))]
+pub fn prepare(ticks: &[u32], values: &[i16], t: Limits) -> Result<Criterion, Refusal>
     ensures { Prepared ticks.now values.now t result }
 {
-    let checked = trace::limits::check(ticks, values, 4096);
-    match checked {
-        Checked::Fine => criterion(t),
-        Checked::Refused(x) => Ready::Refused(x),
-    }
+    trace::limits::check(ticks, values, 4096)?;
+    criterion(t)
 }
 
 // Checks 1, 2, 3, 4, 15 and 10, for an output of `room` entries.
-pub fn prepare_output(ticks: &[u32], values: &[i16], t: Limits, room: usize) -> Ready
+#[tactic(auto, unfolding(crate::specs::Prepare::output_rows))]
+pub fn prepare_output(
+    ticks: &[u32],
+    values: &[i16],
+    t: Limits,
+    room: usize,
+) -> Result<Criterion, Refusal>
     ensures { OutputPrepared ticks.now values.now t room result }
 {
-    let ready = prepare(ticks, values, t);
-    match ready {
-        Ready::At(c) => {
-            let n = ticks.len();
-            if room < n {
-                return Ready::Refused(Refusal::Room(n));
-            }
-            Ready::At(c)
-        }
-        Ready::Refused(x) => Ready::Refused(x),
-    }
+    let c = prepare(ticks, values, t)?;
+    check_room(ticks.len(), room)?;
+    Ok(c)
 }

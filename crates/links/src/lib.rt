@@ -2,7 +2,7 @@
 #![tactic(auto)]
 
 ghost use Rattle.std.specs.Prelude.{◌≡◌, ◌*◌, ◌≤◌, leb};
-ghost use Rattle.trace.specs.Link.{Linked, Bounds, Bounded, all_within, valid};
+ghost use Rattle.trace.specs.Link.{Linked, Bounds, Bounded, within, all_within, valid};
 ghost use Rattle.trace.specs.Edge.{Slope, distance_of, in_parts};
 
 use ratio::Ratio;
@@ -23,13 +23,23 @@ fn in_parts(e: Edge, to: Edge, c: Criterion) -> bool
     requires { Slope e × Slope to × (distance_of e to ≤ 68718362625) × Bounded c }
     ensures { result ≡ in_parts e to c }
 {
-    let up = c.up;
-    let down = c.down;
     let d = distance(e, to);
     if no_steeper(to, e) {
-        return in_part(d, up, to.run);
+        in_part(d, c.up, to.run)
+    } else {
+        in_part(d, c.down, to.run)
     }
-    in_part(d, down, to.run)
+}
+
+// Whether sample k is within the criterion of the link i to j.
+fn within(ticks: &[u32], values: &[i16], c: Criterion, i: usize, j: usize, k: usize) -> bool
+    requires { Linked ticks.now values.now i j × Bounded c × (i ≤ k) × (k ≤ j) }
+    ensures { result ≡ within ticks.now values.now c i j k }
+{
+    let from = start_at(ticks, values, i);
+    let to = edge_to(ticks, values, from, j, 1);
+    let e = edge_to(ticks, values, from, k, 1);
+    in_parts(e, to, c)
 }
 
 // Whether every sample of the link i to j is within the parts.
@@ -37,17 +47,7 @@ pub fn all_within(ticks: &[u32], values: &[i16], c: Criterion, i: usize, j: usiz
     requires { Linked ticks.now values.now i j × Bounded c }
     ensures { result ≡ all_within ticks.now values.now c i j }
 {
-    let from = start_at(ticks, values, i);
-    let to = edge_to(ticks, values, from, j, 1);
-    let mut k = i + 1;
-    while k < j {
-        let e = edge_to(ticks, values, from, k, 1);
-        if !in_parts(e, to, c) {
-            return false;
-        }
-        k += 1;
-    }
-    true
+    (i + 1..j).all(|k| within(ticks, values, c, i, j, k))
 }
 
 // Whether the link i to j is valid: it goes one step, or crosses no hole and has every sample within the parts.
@@ -55,11 +55,6 @@ pub fn link_valid(ticks: &[u32], values: &[i16], c: Criterion, i: usize, j: usiz
     requires { Linked ticks.now values.now i j × Bounded c }
     ensures { result ≡ valid ticks.now values.now c i j }
 {
-    if j == i + 1 {
-        return true;
-    }
-    if first_hole(ticks, values, c.gap, i, j) < j {
-        return false;
-    }
-    all_within(ticks, values, c, i, j)
+    j == i + 1
+        || (first_hole(ticks, values, c.gap, i, j) >= j && all_within(ticks, values, c, i, j))
 }

@@ -1,23 +1,23 @@
 -- Laws of the two lists: one channel more, and the lists of the channels before c.
 -- Assumes nothing.
-use mathlib.Core.Path.{◌≡◌, refl, sym, ◌∙◌, ap, subst}
+use mathlib.Core.Path.{◌≡◌, sym, ◌∙◌, ap, subst}
 use mathlib.Core.Bool.{Bool, true, false, cond}
 use mathlib.Core.List.{List, [], ◌∷◌, ◌++◌, append-nil}
-use Prim.Native.Nat.{ℕ, ◌+◌, ◌-◌, ◌≤◌, ◌<◌}
+use Prim.Native.Nat.{ℕ, ◌+◌, ◌≤◌, ◌<◌}
 use native.Mathlib.Numerals.{add-one}
 use native.Mathlib.Omega.{arith}
 use lib.IntN.{ℤ}
-use lib.ListN.{length, take, drop, get_or, length-append}
+use lib.ListN.{length, get_or, length-append}
 use Rattle.lists.specs.Overwrite.{Wrote}
 use Rattle.lists.specs.Listed.{listed}
 use Rattle.lists.proofs.OverwriteLaws.{overwrite_length, overwrite_snoc}
 use Rattle.lists.proofs.ListedLaws.{listed_length}
 use Rattle.channels.specs.Channels.{place_of, part}
-use Rattle.channels.proofs.ChannelLaws.{lent_part, place_next, place_fits}
+use Rattle.channels.proofs.ChannelLaws.{place_next, place_fits}
 use Rattle.ratio.specs.declared.Ratio.{Ratio}
 use Rattle.verdicts.specs.declared.Verdict.{Verdict}
 use Rattle.verdicts.specs.Sums.{Judged}
-use Rattle.listing.specs.Listing.{Put, PartFits, Listable, moved_in, noisy_in, BothListed}
+use Rattle.listing.specs.Listing.{Put, PartFits, Listable, moved_in, noisy_in}
 
 -- ---- a list
 
@@ -38,11 +38,6 @@ module _ (f : ℕ → Bool) {o o₁ : List ℕ} {n c : ℕ} (w : Wrote (listed f
   pub listed_more : {t : Bool} {r : ℕ} {o₂ : List ℕ} → t ≡ f c → Put o₁ n c t r o₂ → Wrote (listed f (c + 1)) o r o₂
   listed_more e p = rw (add-one c, ← e) (put_one _ p)
 
--- ---- a channel
-
-pub part_judged : (vs ws : List ℤ) (at n : ℕ) (r : Ratio) (k : ℕ) {v : Verdict} → Judged (take (at + n - at) (drop at vs)) (take (at + n - at) (drop at ws)) r k v → Judged (part at n vs) (part at n ws) r k v
-part_judged vs ws at n r k h = rw (lent_part at n vs, lent_part at n ws) at h
-
 -- ---- the lists of the channels before c
 pub record Listing (vs ws : List ℤ) (ls : List ℕ) (r : Ratio) (k : ℕ) (m s m' s' : List ℕ) (a b at c : ℕ) : Type 0 where
   pub upto : c ≤ length ls
@@ -50,24 +45,7 @@ pub record Listing (vs ws : List ℤ) (ls : List ℕ) (r : Ratio) (k : ℕ) (m s
   pub moved : Wrote (listed (moved_in r vs ws ls) c) m a m'
   pub noisy : Wrote (listed (noisy_in k vs ws ls) c) s b s'
 
-pub listing_none : (vs ws : List ℤ) (ls : List ℕ) (r : Ratio) (k : ℕ) (m s : List ℕ) → Listing vs ws ls r k m s m s 0 0 0 0
-listing_none vs ws ls r k m s = record { upto = omega arith; place = refl; moved = record { count = refl; content = refl }; noisy = record { count = refl; content = refl } }
-
 module _ {vs ws : List ℤ} {ls : List ℕ} {r : Ratio} {k : ℕ} {m s m' s' : List ℕ} {a b at c : ℕ} (h : Listing vs ws ls r k m s m' s' a b at c) (ready : Listable vs ws ls r k (length m) (length s)) where
-  pub listing_lengths : (length m' ≡ length m) × (length s' ≡ length s)
-  listing_lengths = (
-    ap length h.moved.content ∙ overwrite_length (listed (moved_in r vs ws ls) c) m (omega (arith, listed_length (moved_in r vs ws ls) c, h.upto, ready.first_room)),
-    ap length h.noisy.content ∙ overwrite_length (listed (noisy_in k vs ws ls) c) s (omega (arith, listed_length (noisy_in k vs ws ls) c, h.upto, ready.second_room)),
-  )
-
-  pub listing_all : length ls ≤ c → BothListed vs ws ls r k m s (record { moved = a; noisy = b }) m' s'
-  listing_all ge =
-      let e : c ≡ length ls = omega (arith, h.upto, ge) in
-      record {
-        moved = subst (λ (n : ℕ). Wrote (listed (moved_in r vs ws ls) n) m a m') e h.moved;
-        noisy = subst (λ (n : ℕ). Wrote (listed (noisy_in k vs ws ls) n) s b s') e h.noisy;
-      }
-
   module _ (lt : c < length ls) where
     pub listing_fits : PartFits vs ws at (get_or ls c 0) r k
     listing_fits =

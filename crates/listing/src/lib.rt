@@ -16,16 +16,18 @@ pub struct Counts {
     pub noisy: usize,
 }
 
-// Puts channel c behind the n entries of a list if it belongs there; returns how many there are then.
+// Puts channel c behind the n entries of a list if it belongs there; returns how many there are then. There is no heap: a list is the
+// caller's memory, and its count stands beside it.
 fn put(list: &mut [u16], n: usize, c: usize, belongs: bool) -> usize
     requires { (n < length list.old) × (c ≤ 65535) }
     ensures { Put list.old n c belongs result list.new }
 {
     if belongs {
         list[n] = c as u16;
-        return n + 1;
+        n + 1
+    } else {
+        n
     }
-    n
 }
 
 // What the comparison says of the channel of n samples from `at` on.
@@ -53,14 +55,11 @@ pub fn list_channels(
     let mut a = 0;
     let mut b = 0;
     let mut at = 0;
-    let mut c = 0;
-    while c < lengths.len() {
-        let n = lengths[c];
+    for (c, &n) in lengths.iter().enumerate() {
         let v = verdict_at(today, earlier, at, n, r, k);
         a = put(moved, a, c, v.moved);
         b = put(noisy, b, c, v.noisy);
         at += n;
-        c += 1;
     }
     Counts { moved: a, noisy: b }
 }

@@ -1,14 +1,12 @@
 -- Laws of the samples that an addition may drop: their neighbours bound links of the trace, and the scan for the one that costs least.
 -- Assumes nothing.
 use mathlib.Core.Path.{◌≡◌, sym, ◌∙◌}
-use mathlib.Core.Bool.{true, false}
 use mathlib.Core.List.{List, [], ◌∷◌, ◌++◌}
 use Prim.Native.Nat.{ℕ, suc, ◌+◌, ◌-◌, ◌*◌, ◌≤◌, ◌<◌}
 use native.Mathlib.Numerals.{add-one}
 use native.Mathlib.Omega.{arith}
 use native.Mathlib.Decide.{dec_le}
 use borrow.Author.Tests.{le-leb, lt-leb}
-use lib.Dec.{leb}
 use lib.IntN.{ℤ}
 use lib.ListN.{length, get_or, take, length-append, get_or-append}
 use lib.Seq.{get_or-take, length-take-le, get_or_at}
@@ -82,16 +80,6 @@ pub cost_is : (ts : List ℕ) (vs : List ℤ) (l : List ℕ) (i : ℕ) {from to 
 cost_is ts vs l i ef et es =
     let e : i + 2 ≡ suc (suc i) = omega arith in
     rw (es, ef, et, e)
-
--- The one of two that costs less.
-module _ (b : Best) (i : ℕ) (e : Ratio) where
-  pub better_left : leb (b.error.p * e.q) (e.p * b.error.q) ≡ true → b ≡ better b i e
-  unfolding better
-  better_left t = rw t
-
-  pub better_right : leb (b.error.p * e.q) (e.p * b.error.q) ≡ false → record { at = i; error = e } ≡ better b i e
-  unfolding better
-  better_right t = rw t
 
 -- One more candidate.
 module _ (f : ℕ → Ratio) where

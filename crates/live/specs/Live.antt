@@ -10,14 +10,14 @@
 --   Ready         what an addition asks of a state and a trace
 --   Grown         what holds of the state after an addition
 --   AddOutcome    the outcome of an addition, by cases on what the checks found
+--   Added         the same by value
 -- A refused addition leaves the state as it was. Otherwise its first entries are the list, and the others stay.
 -- Laws are in LiveLaws. Assumes nothing.
-use Rattle.std.specs.Prelude.{◌≡◌, Bool, true, false, cond, ◌&&◌, List, ℕ, ◌+◌, ◌-◌, ◌*◌, ◌≤◌, leb, ℤ, length, take, replicate}
+use Rattle.std.specs.Prelude.{◌≡◌, Bool, true, false, ◌&&◌, List, ℕ, ◌+◌, ◌-◌, ◌*◌, ◌≤◌, leb, ℤ, length, take, replicate, Result, Ok, Err}
 use Rattle.lists.specs.Overwrite.{overwrite}
+use Rattle.refusal.specs.declared.Refusal.{Refusal}
 use Rattle.refusal.specs.declared.Refusal.TheVariants.{View as NoView}
-use Rattle.refusal.specs.declared.Checked.{Checked}
-use Rattle.refusal.specs.declared.Checked.TheVariants.{Fine, Refused}
-use Rattle.refusal.specs.Table.{row, ◌then_check◌}
+use Rattle.refusal.specs.Table.{row, ◌then_check◌, Checked}
 use Rattle.ratio.specs.Order.{AtMost}
 use Rattle.kept.specs.Kept.{KeptList}
 use Rattle.views.specs.View.{view_with, view_of, twice}
@@ -25,21 +25,20 @@ use Rattle.trace.specs.Trace.{Trace, trace_rows}
 use Rattle.trace.specs.Link.{link_error, list_error}
 use Rattle.proposed.specs.Proposed.{list_row}
 use Rattle.live.specs.declared.View.{View}
-use Rattle.live.specs.declared.Viewed.{Viewed}
 
 abbrev pub fresh : ℕ → ℕ → View
 fresh k count = record { k = k; count = count; samples = replicate 66 0 }
 
--- the list 0, a view of the first sample; 20 for k above 32, with zeros beside it
-unfoldable pub begun_of : ℕ → Viewed
-begun_of k = cond (leb k 32) (record { checked = Fine; view = fresh k 1 }) (record { checked = Refused NoView; view = fresh 0 0 })
+-- the list 0, a view of the first sample; 20 for k above 32
+unfoldable pub begun_of : ℕ → Result View Refusal
+begun_of k = row (leb k 32) NoView then_check Ok (fresh k 1)
 
 abbrev pub entries : View → List ℕ
 entries v = take v.count v.samples
 
 abbrev pub passes : Checked → Bool
-passes Fine = true
-passes (Refused r) = false
+passes (Ok _) = true
+passes (Err r) = false
 
 -- at most 2k inner samples are at most 2k + 2 entries, which is at most 66
 unfoldable pub is_view : ℕ → View → Bool
@@ -66,7 +65,7 @@ pub record Ready (ts : List ℕ) (vs : List ℤ) (v : View) : Type 0 where
   pub inner : v.count ≤ 2 * v.k + 2
 
 pub record Grown (ts : List ℕ) (vs : List ℤ) (before after : View) : Type 0 where
-  pub rows : add_rows ts vs before ≡ Fine
+  pub rows : add_rows ts vs before ≡ Ok tt
   pub is : after ≡ grown ts vs before
   -- a kept list of the samples so far, with at most 2k inner ones
   pub kept : KeptList (length ts - 1) (entries after)
@@ -78,5 +77,10 @@ pub record Grown (ts : List ℕ) (vs : List ℤ) (before after : View) : Type 0 
       → (h : List ℕ) → KeptList (length ts - 1) h → length h ≤ before.k + 2 → AtMost (list_error ts vs (entries after)) (twice (list_error ts vs h))
 
 abbrev pub AddOutcome : List ℕ → List ℤ → View → Checked → View → Type 0
-AddOutcome ts vs before Fine after = Grown ts vs before after
-AddOutcome ts vs before (Refused x) after = (add_rows ts vs before ≡ Refused x) × (after ≡ before)
+AddOutcome ts vs before (Ok _) after = Grown ts vs before after
+AddOutcome ts vs before (Err x) after = (add_rows ts vs before ≡ Err x) × (after ≡ before)
+
+-- by value, where a refusal leaves the state that was given
+abbrev pub Added : List ℕ → List ℤ → View → Result View Refusal → Type 0
+Added ts vs before (Ok after) = AddOutcome ts vs before (Ok tt) after
+Added ts vs before (Err x) = AddOutcome ts vs before (Err x) before

@@ -15,24 +15,37 @@ pub struct Best {
     pub error: Ratio,
 }
 
-fn wide(x: u16) -> usize
-    ensures { result ≡ x }
-{
-    x as usize
+impl Best {
+    // This entry, or entry i + 1 if it costs less.
+    #[tactic(auto, unfolding(crate::specs::Candidates::better))]
+    fn or_cheaper(self, i: usize, error: Ratio) -> Best
+        requires { Bounded (criterion self.error) × Bounded (criterion error) }
+        ensures is { result ≡ better self i error }
+        ensures allowed { Bounded (criterion result.error) }
+    {
+        if at_most(self.error, error) {
+            self
+        } else {
+            Best { at: i, error }
+        }
+    }
 }
 
 // Entry i of the list with the new sample last.
+#[tactic(auto, using(crate::proofs::CandidateLaws::entry_inside, crate::proofs::CandidateLaws::entry_new))]
 fn entry(samples: &[u16], count: usize, new: usize, i: usize) -> usize
     requires { (count ≤ length samples.now) × (i ≤ count) }
     ensures { result ≡ get_or (take count samples.now ++ new ∷ []) i 0 }
 {
     if i < count {
-        return wide(samples[i]);
+        usize::from(samples[i])
+    } else {
+        new
     }
-    new
 }
 
 // What it costs to drop entry i + 1.
+#[tactic(auto, using(crate::proofs::CandidateLaws::cost_link, crate::proofs::CandidateLaws::cost_is))]
 fn cost_at(ticks: &[u32], values: &[i16], samples: &[u16], count: usize, i: usize) -> Ratio
     requires { Candidates ticks.now values.now samples.now count × (i + 1 < count) }
     ensures is { result ≡ deviation_at ticks.now values.now (with_last ticks.now samples.now count) i }
@@ -45,31 +58,18 @@ fn cost_at(ticks: &[u32], values: &[i16], samples: &[u16], count: usize, i: usiz
     Ratio { p: s.p, q: s.q }
 }
 
-// The one of two that costs less, the earlier of equals.
-fn better_of(best: Best, i: usize, e: Ratio) -> Best
-    requires { Bounded (criterion best.error) × Bounded (criterion e) }
-    ensures is { result ≡ better best i e }
-    ensures allowed { Bounded (criterion result.error) }
-{
-    if at_most(best.error, e) {
-        return best;
-    }
-    Best { at: i, error: e }
-}
-
 // The position, less one, of the inner entry that costs least, the earliest among equals.
 pub fn cheapest_at(ticks: &[u32], values: &[i16], samples: &[u16], count: usize) -> usize
     requires { Candidates ticks.now values.now samples.now count × (2 ≤ count) }
     ensures is { result ≡ cheapest (cost (link_error ticks.now values.now) (with_last ticks.now samples.now count)) (count - 1) }
     ensures inner { result + 1 < count }
 {
-    let e = cost_at(ticks, values, samples, count, 0);
-    let mut best = Best { at: 0, error: e };
-    let mut i = 1;
-    while i + 1 < count {
-        let e = cost_at(ticks, values, samples, count, i);
-        best = better_of(best, i, e);
-        i += 1;
+    let mut best = Best {
+        at: 0,
+        error: cost_at(ticks, values, samples, count, 0),
+    };
+    for i in 1..count - 1 {
+        best = best.or_cheaper(i, cost_at(ticks, values, samples, count, i));
     }
     best.at
 }

@@ -2,13 +2,12 @@
 #![tactic(auto)]
 
 ghost use Rattle.std.specs.Prelude.{◌≡◌};
-ghost use Rattle.proposed.specs.Proposed.{list_row};
-ghost use Rattle.live.specs.Live.{fresh, begun_of, passes, is_view, state_row, add_rows, AddOutcome};
+ghost use Rattle.live.specs.Live.{begun_of, is_view, state_row, Added};
 
-use refusal::{Checked, Refusal};
+use refusal::Refusal;
 
 // k, how many samples are kept, and their numbers: both ends and at most 2k inner samples, k at most 32. No padding lies between or behind
-// the fields.
+// the fields: the C interface lends a state as it stands.
 #[repr(C)]
 #[derive(Clone, Copy)]
 pub struct View {
@@ -17,103 +16,53 @@ pub struct View {
     pub samples: [u16; 66],
 }
 
-// What the checks of a call found, and the state after it.
-#[derive(Clone, Copy)]
-pub struct Viewed {
-    pub checked: Checked,
-    pub view: View,
-}
-
 mod candidates;
 mod states;
 
-// The state of these numbers with the sample 0 in every entry.
-fn fresh_view(k: u32, count: u32) -> View
-    ensures { result ≡ fresh k count }
-{
-    View {
-        k,
-        count,
-        samples: [0u16; 66],
-    }
-}
-
 // A view of the first sample, from k alone.
-pub fn begin(k: u64) -> Viewed
+#[tactic(auto, unfolding(crate::specs::Live::begun_of))]
+pub fn begin(k: u64) -> Result<View, Refusal>
     ensures { result ≡ begun_of k }
 {
     if 32 < k {
-        return Viewed {
-            checked: Checked::Refused(Refusal::View),
-            view: fresh_view(0, 0),
-        };
+        return Err(Refusal::View);
     }
-    Viewed {
-        checked: Checked::Fine,
-        view: fresh_view(k as u32, 1),
-    }
-}
-
-// Whether a list is a kept list of n samples.
-fn is_kept(list: &[u16], n: usize) -> bool
-    ensures { result ≡ passes (list_row n list.now) }
-{
-    let checked = proposed::check(list, n);
-    match checked {
-        Checked::Fine => true,
-        Checked::Refused(_) => false,
-    }
+    Ok(View {
+        k: k as u32,
+        count: 1,
+        samples: [0u16; 66],
+    })
 }
 
 // Whether a state is a view of n samples.
+#[tactic(auto, unfolding(crate::specs::Live::is_view))]
 fn is_view(view: View, n: usize) -> bool
     ensures { result ≡ is_view n view }
 {
-    if 32 < view.k {
+    if 32 < view.k || 2 * view.k + 2 < view.count {
         return false;
     }
-    if 2 * view.k + 2 < view.count {
-        return false;
-    }
-    let count = view.count as usize;
-    let samples = view.samples;
-    is_kept(&samples[0..count], n)
+    proposed::check(&view.samples[..view.count as usize], n).is_ok()
 }
 
 // Check 20, for n earlier samples.
-fn check_state(view: View, n: usize) -> Checked
+#[tactic(auto, unfolding(crate::specs::Live::state_row))]
+fn check_state(view: View, n: usize) -> Result<(), Refusal>
     ensures { result ≡ state_row n view }
 {
     if is_view(view, n) {
-        return Checked::Fine;
-    }
-    Checked::Refused(Refusal::View)
-}
-
-// Checks 1, 2, 3 and 20.
-fn check(view: View, ticks: &[u32], values: &[i16]) -> Checked
-    ensures { result ≡ add_rows ticks.now values.now view }
-{
-    let checked = trace::limits::check(ticks, values, 4096);
-    match checked {
-        Checked::Fine => check_state(view, ticks.len() - 1),
-        Checked::Refused(x) => Checked::Refused(x),
+        Ok(())
+    } else {
+        Err(Refusal::View)
     }
 }
 
-// The state with the last sample of the trace added; as it was where a check refuses.
-pub fn added(view: View, ticks: &[u32], values: &[i16]) -> Viewed
-    ensures { AddOutcome ticks.now values.now view result.checked result.view }
+// The state with the last sample of the trace added, where the checks 1, 2, 3 and 20 pass.
+#[tactic(auto, unfolding(crate::specs::Live::add_rows))]
+pub fn added(view: View, ticks: &[u32], values: &[i16]) -> Result<View, Refusal>
+    ensures { Added ticks.now values.now view result }
 {
-    let checked = check(view, ticks, values);
-    match checked {
-        Checked::Fine => Viewed {
-            checked: Checked::Fine,
-            view: states::grow(view, ticks, values),
-        },
-        Checked::Refused(x) => Viewed {
-            checked: Checked::Refused(x),
-            view,
-        },
-    }
+    trace::limits::check(ticks, values, 4096)?;
+    check_state(view, ticks.len() - 1)?;
+    Ok(states::grow(view, ticks, values))
 }

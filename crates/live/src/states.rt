@@ -7,25 +7,19 @@ ghost use Rattle.live.specs.Live.{entries, grown, Ready};
 use crate::View;
 use crate::candidates::cheapest_at;
 
-fn narrow(x: usize) -> u16
-    requires { x < 65536 }
-    ensures { result ≡ x }
-{
-    x as u16
-}
+// Numbers are converted by `as` where there is no `From`: from u32 to usize, and to u16, where it is proved that they fit.
 
 // The new sample last.
 fn appended(view: View, new: u16) -> View
     requires { view.count < 66 }
     ensures { result ≡ record { k = view.k; count = view.count + 1; samples = overwrite (entries view ++ new ∷ []) view.samples } }
 {
-    let at = view.count as usize;
     let mut samples = view.samples;
-    samples[at] = new;
+    samples[view.count as usize] = new;
     View {
-        k: view.k,
         count: view.count + 1,
         samples,
+        ..view
     }
 }
 
@@ -36,17 +30,9 @@ fn shifted(view: View, at: usize, new: u16) -> View
 {
     let count = view.count as usize;
     let mut samples = view.samples;
-    let mut i = at + 1;
-    while i + 1 < count {
-        samples[i] = samples[i + 1];
-        i += 1;
-    }
-    samples[i] = new;
-    View {
-        k: view.k,
-        count: view.count,
-        samples,
-    }
+    samples.copy_within(at + 2..count, at + 1);
+    samples[count - 1] = new;
+    View { samples, ..view }
 }
 
 // The state with the last sample of a trace added, where the checks pass.
@@ -54,12 +40,11 @@ pub fn grow(view: View, ticks: &[u32], values: &[i16]) -> View
     requires { Ready ticks.now values.now view }
     ensures { result ≡ grown ticks.now values.now view }
 {
-    let new = narrow(ticks.len() - 1);
+    let new = (ticks.len() - 1) as u16;
     if view.count < 2 * view.k + 2 {
-        return appended(view, new);
+        appended(view, new)
+    } else {
+        let at = cheapest_at(ticks, values, &view.samples, view.count as usize);
+        shifted(view, at, new)
     }
-    let count = view.count as usize;
-    let samples = view.samples;
-    let at = cheapest_at(ticks, values, &samples, count);
-    shifted(view, at, new)
 }

@@ -1,8 +1,9 @@
 -- Laws of row 17: what it says by cases, and of ticks that it does not refuse.
 -- Assumes nothing.
+use Rattle.std.specs.Prelude.{Err, Ok}
 use mathlib.Core.Path.{◌≡◌, refl, sym}
 use mathlib.Core.Logic.{⊎_elim}
-use mathlib.Core.Bool.{true, false, not}
+use mathlib.Core.Bool.{true, false}
 use mathlib.Core.List.{List}
 use Prim.Native.Nat.{ℕ, ◌-◌, ◌≤◌, ◌<◌, min, max}
 use native.Mathlib.Nat.{eq-or-lt_of_le}
@@ -15,32 +16,27 @@ use Rattle.lists.specs.First.{first, Clear}
 use Rattle.lists.proofs.Tests.{or_first, or_false}
 use Rattle.lists.proofs.FirstLaws.{Found, first_found, first_at, first_none}
 use Rattle.refusal.specs.declared.Refusal.TheVariants.{Mismatch}
-use Rattle.refusal.specs.declared.Checked.TheVariants.{Fine, Refused}
 use Rattle.refusal.proofs.TableLaws.{row_fine}
 use Rattle.trace.specs.Trace.{tick}
 use Rattle.matching.specs.Match.{differ_at, mismatch_row}
 
 module _ (ts us : List ℕ) where
-  -- the code's test, of ticks that both have
-  pub differ_test : (k : ℕ) → k < min (length ts) (length us) → not (eqb (tick ts k) (tick us k)) ≡ differ_at ts us k
-  differ_test k lt = rw (lt-leb (min (length ts) (length us)) k lt)
-
   -- a search of the samples that both have finds the first that differs; else the first that is missing in one, or there is none
-  module _ {n k : ℕ} (least : n ≡ min (length ts) (length us)) (is : k ≡ first (differ_at ts us) 0 n) where
-    found : Found (differ_at ts us) 0 n k
-    found = rw is (first_found (differ_at ts us) 0 n (omega arith))
+  module _ {k : ℕ} (is : k ≡ first (differ_at ts us) 0 (min (length ts) (length us))) where
+    found : Found (differ_at ts us) 0 (min (length ts) (length us)) k
+    found = rw is (first_found (differ_at ts us) 0 (min (length ts) (length us)) (omega arith))
 
-    missing : k ≡ n → differ_at ts us k ≡ true
+    missing : k ≡ min (length ts) (length us) → differ_at ts us k ≡ true
     missing e = or_first (leb (min (length ts) (length us)) k) _ (le-leb (min (length ts) (length us)) k (omega arith))
 
-    pub mismatch_at : k < max (length ts) (length us) → Refused (Mismatch k) ≡ mismatch_row ts us
+    pub mismatch_at : k < max (length ts) (length us) → Err (Mismatch k) ≡ mismatch_row ts us
     unfolding mismatch_row
     mismatch_at lt =
         let here : differ_at ts us k ≡ true = ⊎_elim missing found.here (eq-or-lt_of_le found.to) in
         let e = first_at {f = differ_at ts us} {a = 0} {b = max (length ts) (length us)} (omega arith) lt found.clear here in
         rw (e, lt-leb (max (length ts) (length us)) k lt)
 
-    pub mismatch_none : max (length ts) (length us) ≤ k → Fine ≡ mismatch_row ts us
+    pub mismatch_none : max (length ts) (length us) ≤ k → Ok tt ≡ mismatch_row ts us
     unfolding mismatch_row
     mismatch_none ge =
         let m = max (length ts) (length us) in
@@ -48,7 +44,7 @@ module _ (ts us : List ℕ) where
         rw (e, le-leb m m (omega arith))
 
   -- where it does not apply, the ticks are the same
-  matched_clear : mismatch_row ts us ≡ Fine → Clear (differ_at ts us) 0 (max (length ts) (length us))
+  matched_clear : mismatch_row ts us ≡ Ok tt → Clear (differ_at ts us) 0 (max (length ts) (length us))
   unfolding mismatch_row
   matched_clear h =
       let n = max (length ts) (length us) in
@@ -62,14 +58,14 @@ module _ (ts us : List ℕ) where
       let p = or_false (leb (min (length ts) (length us)) k) _ h in
       (leb-false _ _ p.0, eqb-true _ _ (not-false (eqb (tick ts k) (tick us k)) p.1))
 
-  pub matched : 1 ≤ length ts → mismatch_row ts us ≡ Fine → us ≡ ts
+  pub matched : 1 ≤ length ts → mismatch_row ts us ≡ Ok tt → us ≡ ts
   matched some h =
       let clear = matched_clear h in
       let top = agreed (clear.none (max (length ts) (length us) - 1) (omega arith) (omega arith)) in
       ext_get_or 0 us ts (omega (arith, top.0)) (λ k lt. sym (agreed (clear.none k (omega arith) (omega arith))).1)
 
 -- ticks that are the same are passed
-pub same_ticks : (ts : List ℕ) → mismatch_row ts ts ≡ Fine
+pub same_ticks : (ts : List ℕ) → mismatch_row ts ts ≡ Ok tt
 unfolding mismatch_row
 same_ticks ts =
     let n = max (length ts) (length ts) in

@@ -5,8 +5,7 @@
 use Rattle.std.specs.Prelude.{Bool, not, ◌||◌, List, ℕ, min, max, leb, eqb, length}
 use Rattle.lists.specs.First.{first}
 use Rattle.refusal.specs.declared.Refusal.TheVariants.{Mismatch}
-use Rattle.refusal.specs.declared.Checked.{Checked}
-use Rattle.refusal.specs.Table.{placed}
+use Rattle.refusal.specs.Table.{placed, Checked}
 use Rattle.trace.specs.Trace.{tick}
 
 -- the ticks of sample k differ, or one trace lacks it

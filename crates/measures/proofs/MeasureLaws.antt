@@ -20,7 +20,6 @@ use Rattle.ratio.specs.Gcd.{lowest}
 use Rattle.ratio.specs.Order.{over}
 use Rattle.ratio.proofs.Laws.{lowest_equal}
 use Rattle.trace.specs.declared.Criterion.{Criterion}
-use Rattle.trace.specs.declared.Side.{Side}
 use Rattle.trace.specs.declared.Side.TheVariants.{Gap}
 use Rattle.trace.specs.Trace.{tick}
 use Rattle.trace.specs.Link.{deviation, greatest, farthest, link_error, hole, Within, AllWithin, all_within, valid, Linked, Bounded, parted, limited, criterion, side_of}
@@ -198,12 +197,6 @@ module _ {ts : List ℕ} {vs : List ℤ} {i j : ℕ} (h : Linked ts vs i j) wher
     | no q ↦ absurd (omega (arith, worst_leads.first i (omega arith) (omega arith)))
   ]
 
--- the measure, from its parts
-pub measure_made : (ts : List ℕ) (vs : List ℤ) (i j : ℕ) {s : Stray} {e : Ratio} {b : Side} → s ≡ stray_of ts vs i j → e ≡ lowest s.p s.q → b ≡ side_of (deviation ts vs i j s.sample)
-    → record { error = e; sample = s.sample; side = b } ≡ measure_of ts vs i j
-unfolding link_error
-measure_made ts vs i j h e b = rw (e, b, h)
-
 -- ---- invalid links
 
 module _ {ts : List ℕ} {vs : List ℤ} {i j : ℕ} (h : Linked ts vs i j) (c : Criterion) where
@@ -278,10 +271,3 @@ module _ {ts : List ℕ} {vs : List ℤ} {i j : ℕ} (h : Linked ts vs i j) (c :
   -- it names what makes it invalid
   pub fault_offends : valid ts vs c i j ≡ false → Offends ts vs c i j (fault_of ts vs c i j)
   fault_offends e = by_test (all_within ts vs c i j) (λ w. rw (within_fault w) (gap_cut w e)) (λ w. rw (far_fault w) (far_offends w))
-
-  module _ {m : Measure} {b : Bool} (e : m ≡ measure_of ts vs i j) (t : b ≡ all_within ts vs c i j) where
-    pub fault_far : b ≡ false → m ≡ fault_of ts vs c i j
-    fault_far f = e ∙ sym (far_fault (sym t ∙ f))
-
-    pub fault_gap : {k : ℕ} → b ≡ true → k ≡ first (hole ts c.gap) i j → record { error = m.error; sample = k; side = Gap } ≡ fault_of ts vs c i j
-    fault_gap f l = rw (within_fault (sym t ∙ f), l, e)

@@ -28,31 +28,34 @@ pub struct Measure {
     pub side: Side,
 }
 
+impl Stray {
+    // This deviation, or that of sample k if it is greater: d, over the same ticks.
+    fn or_farther(self, d: u64, k: usize) -> Stray
+        ensures { result ≡ cond (leb d self.p) self (record { p = d; q = self.q; sample = k }) }
+    {
+        if d <= self.p {
+            self
+        } else {
+            Stray {
+                p: d,
+                sample: k,
+                ..self
+            }
+        }
+    }
+}
+
 // The side of the sample of the edge e beside the link of the edge `to`.
 fn edge_side(e: Edge, to: Edge) -> Side
     requires { Slope e × Slope to }
     ensures { result ≡ edge_side e to }
 {
     if !no_steeper(e, to) {
-        return Side::Above;
-    }
-    if !no_steeper(to, e) {
-        return Side::Below;
-    }
-    Side::On
-}
-
-// The deviation s, or that of sample k if it is greater: d, over the same ticks.
-fn farther(s: Stray, d: u64, k: usize) -> Stray
-    ensures { result ≡ cond (leb d s.p) s (record { p = d; q = s.q; sample = k }) }
-{
-    if d <= s.p {
-        return s;
-    }
-    Stray {
-        p: d,
-        q: s.q,
-        sample: k,
+        Side::Above
+    } else if !no_steeper(to, e) {
+        Side::Below
+    } else {
+        Side::On
     }
 }
 
@@ -69,11 +72,9 @@ pub fn link_stray(ticks: &[u32], values: &[i16], i: usize, j: usize) -> Stray
         q: to.run,
         sample: i,
     };
-    let mut k = i + 1;
-    while k < j {
+    for k in i + 1..j {
         let e = edge_to(ticks, values, from, k, 1);
-        s = farther(s, distance(e, to), k);
-        k += 1;
+        s = s.or_farther(distance(e, to), k);
     }
     s
 }
@@ -108,13 +109,13 @@ pub fn link_fault(ticks: &[u32], values: &[i16], c: Criterion, i: usize, j: usiz
     ensures { result ≡ fault_of ticks.now values.now c i j }
 {
     let m = link_measure(ticks, values, i, j);
-    if !all_within(ticks, values, c, i, j) {
-        return m;
-    }
-    let error = m.error;
-    Measure {
-        error,
-        sample: first_hole(ticks, values, c.gap, i, j),
-        side: Side::Gap,
+    if all_within(ticks, values, c, i, j) {
+        Measure {
+            sample: first_hole(ticks, values, c.gap, i, j),
+            side: Side::Gap,
+            ..m
+        }
+    } else {
+        m
     }
 }

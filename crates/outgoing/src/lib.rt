@@ -1,5 +1,4 @@
-// The links from one sample of a trace: each is tested, and each sample taken in, in constant time. Walk's stop from that sample is in stops,
-// and entries of the list in entries.
+// The links from one sample of a trace: each is tested, and each sample taken in, in constant time. Walk's stop from that sample is in stops.
 #![tactic(auto)]
 
 ghost use Rattle.std.specs.Prelude.{◌≡◌, false, ◌+◌, ◌≤◌, ◌<◌, length};
@@ -20,7 +19,6 @@ pub struct Links {
     pub limit: usize,
 }
 
-pub mod entries;
 pub mod stops;
 
 // The links from sample i, with the next sample taken in.
@@ -42,19 +40,16 @@ pub fn reaches(ticks: &[u32], values: &[i16], c: Criterion, links: Links, j: usi
     requires { Next ticks.now values.now c links j }
     ensures { result ≡ valid ticks.now values.now c links.from.sample j }
 {
-    let from = links.from;
-    let cone = links.cone;
-    admits(cone, aim_at(ticks, values, from, j, c))
+    admits(links.cone, aim_at(ticks, values, links.from, j, c))
 }
 
-// Whether the link to sample e passes the samples taken in. Where it does not, it is invalid.
+// Whether the link to sample e passes the samples taken in. Where it does not, it is invalid. The test is that of `reaches`, which knows
+// that all samples before have been taken in, and so answers whether the link is valid.
 pub fn passes(ticks: &[u32], values: &[i16], c: Criterion, links: Links, e: usize) -> bool
     requires { Beyond ticks.now values.now c links e }
     ensures { result ≡ false → valid ticks.now values.now c links.from.sample e ≡ false }
 {
-    let from = links.from;
-    let cone = links.cone;
-    admits(cone, aim_at(ticks, values, from, e, c))
+    admits(links.cone, aim_at(ticks, values, links.from, e, c))
 }
 
 // The links with sample j taken in too.
@@ -62,15 +57,9 @@ pub fn taken(ticks: &[u32], values: &[i16], c: Criterion, links: Links, j: usize
     requires { Next ticks.now values.now c links j }
     ensures { TakenIn ticks.now values.now c links.from.sample (j + 1) result }
 {
-    let from = links.from;
-    let cone = links.cone;
-    let to = aim_at(ticks, values, from, j, c);
-    let narrower = extended(cone, to, c);
-    Links {
-        from,
-        cone: narrower,
-        limit: links.limit,
-    }
+    let to = aim_at(ticks, values, links.from, j, c);
+    let cone = extended(links.cone, to, c);
+    Links { cone, ..links }
 }
 
 // The links with the samples from a on and before b taken in too.
@@ -78,18 +67,15 @@ pub fn taken_to(
     ticks: &[u32],
     values: &[i16],
     c: Criterion,
-    links: Links,
+    mut links: Links,
     a: usize,
     b: usize,
 ) -> Links
     requires { Next ticks.now values.now c links a × (a ≤ b) × (b ≤ links.limit) × (b < length ticks.now) }
     ensures { TakenIn ticks.now values.now c links.from.sample b result }
 {
-    let mut l = links;
-    let mut k = a;
-    while k < b {
-        l = taken(ticks, values, c, l, k);
-        k += 1;
+    for k in a..b {
+        links = taken(ticks, values, c, links, k);
     }
-    l
+    links
 }

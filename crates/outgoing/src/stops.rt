@@ -14,14 +14,11 @@ pub fn stop_after(ticks: &[u32], values: &[i16], c: Criterion, i: usize, limit: 
     ensures bounds { (i < result) × (result ≤ limit) × (result < length ticks.now) }
 {
     let mut links = links_past(ticks, values, c, i, limit);
-    let mut at = i + 1;
-    while at < limit {
-        let next = at + 1;
-        if !reaches(ticks, values, c, links, next) {
+    for at in i + 1..limit {
+        if !reaches(ticks, values, c, links, at + 1) {
             return at;
         }
-        links = taken(ticks, values, c, links, next);
-        at = next;
+        links = taken(ticks, values, c, links, at + 1);
     }
-    at
+    limit
 }

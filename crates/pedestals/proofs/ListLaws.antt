@@ -1,33 +1,21 @@
 -- Laws of the two lists of a call that passes the checks.
 -- Assumes nothing.
-use mathlib.Core.Path.{sym, ◌∙◌, ap, subst}
+use mathlib.Core.Path.{sym, subst}
 use mathlib.Core.List.{List}
 use Prim.Native.Nat.{ℕ}
 use lib.ListN.{length}
 use Rattle.lists.specs.Overwrite.{Wrote}
 use Rattle.lists.specs.Listed.{listed}
-use Rattle.channels.specs.Channels.{sum, of_channel}
+use Rattle.channels.specs.Channels.{of_channel}
 use Rattle.ratio.specs.declared.Ratio.{Ratio}
 use Rattle.tolerance.specs.declared.Tolerance.{Tolerance}
 use Rattle.verdicts.specs.Sums.{moved, noisy}
 use Rattle.listing.specs.declared.Counts.{Counts}
-use Rattle.listing.specs.Listing.{Listable, BothListed}
+use Rattle.listing.specs.Listing.{BothListed}
 use Rattle.pedestals.specs.Compare.{Run, values_of, moved_channels, Listed}
 use Rattle.pedestals.specs.Checking.{Passed}
 
 module _ (a b : Run) (t : Tolerance) (k : ℕ) (m s : List ℕ) {r : Ratio} (p : Passed a b t k (length m) (length s) r) where
-  pub passed_ready : Listable a.values b.values a.lengths r k (length m) (length s)
-  passed_ready = record {
-    channels = p.divided.first.few;
-    today = p.divided.first.values;
-    earlier = ap sum (sym p.alike.same) ∙ p.divided.second.values;
-    few = p.alike.few;
-    held = p.held;
-    factor = p.factor;
-    first_room = p.first_room;
-    second_room = p.second_room;
-  }
-
   -- the lists by the lengths of run 1 are those by each run's own
   pub both_listed : {n : Counts} {m' s' : List ℕ} → BothListed a.values b.values a.lengths r k m s n m' s' → Listed a b t k m s n m' s'
   both_listed {n} {m'} {s'} h =

@@ -1,250 +1,119 @@
 // The checks of a comparison, in their order: 14, 11, 4; channel by channel 1, 2, 3 of either run and 13; 10.
 ghost use Rattle.std.specs.Prelude.{◌≡◌, ◌+◌, ◌≤◌, length};
-ghost use Rattle.pedestals.specs.Compare.{run_of, rooms_row};
-ghost use Rattle.pedestals.specs.Checking.{OwnChecked, SecondChecked, ChannelChecked, ChannelsChecked, EarlierChecked, RunsChecked, CallChecked, RestChecked, DividedRuns, Called, HeldOne, Readied};
+ghost use Rattle.checking.specs.Checks.{CrateOutcome};
+ghost use Rattle.pedestals.specs.Compare.{lent, rooms_row};
+ghost use Rattle.pedestals.specs.Checking.{HasPart, PartChecked, ChannelChecked, ChannelsChecked, CallChecked, DividedRuns, HeldOne, Readied};
 
-use crate::{Cause, Check, Ready, Single};
-use checking::Holding;
-use refusal::{Checked, Refusal};
+use crate::{Cause, Run};
+use ratio::Ratio;
+use refusal::Refusal;
 use tolerance::Tolerance;
 
-// Checks 1, 2 and 3 of the n samples from `at` on.
-fn check_own(ticks: &[u32], values: &[i16], at: usize, n: usize) -> Checked
-    requires { (at + n ≤ length ticks.now) × (at + n ≤ length values.now) }
-    ensures { OwnChecked ticks.now values.now at n result }
-{
-    let end = at + n;
-    engine::checks::check_trace(&ticks[at..end], &values[at..end])
-}
+impl Run<'_> {
+    // Checks 1, 2 and 3 of channel c, the n samples from `at` on.
+    fn check_part(self, at: usize, n: usize, c: usize) -> Result<(), Cause>
+        requires { HasPart (lent self) at n }
+        ensures { PartChecked c (lent self.entry) at n result }
+    {
+        let end = at + n;
+        let own = engine::checks::check_trace(&self.ticks[at..end], &self.values[at..end]);
+        own.map_err(|x| Cause::Trace(c, x))
+    }
 
-// The checks of channel c in run 2, from `at` on, where it has m samples and run 1 has n.
-fn check_second(ticks: &[u32], values: &[i16], at: usize, n: usize, m: usize, c: usize) -> Check
-    requires { (at + m ≤ length ticks.now) × (at + m ≤ length values.now) }
-    ensures { SecondChecked c ticks.now values.now at n m result }
-{
-    let own = check_own(ticks, values, at, m);
-    match own {
-        Checked::Fine => {
-            if m == n {
-                return Check::Fine;
-            }
-            Check::Refused(Cause::Call(Refusal::Samples(c)))
-        }
-        Checked::Refused(x) => Check::Refused(Cause::Trace(c, x)),
+    // Check 11 of one run.
+    fn check_crate(self) -> Result<(), Refusal>
+        ensures { CrateOutcome self.entry.ticks.now self.entry.values.now self.entry.lengths.now result }
+    {
+        engine::checks::check_crate(self.ticks, self.values, self.lengths)
     }
 }
 
-// The checks of channel c in both runs.
+// The checks of channel c in both runs, from `at` on, where it has n samples today and m in the run before.
 fn check_channel(
-    ticks1: &[u32],
-    values1: &[i16],
-    ticks2: &[u32],
-    values2: &[i16],
+    today: Run,
+    earlier: Run,
     at: usize,
     n: usize,
     m: usize,
     c: usize,
-) -> Check
-    requires { (at + n ≤ length ticks1.now) × (at + n ≤ length values1.now) × (at + m ≤ length ticks2.now) × (at + m ≤ length values2.now) }
-    ensures { ChannelChecked c ticks1.now values1.now ticks2.now values2.now at n m result }
+) -> Result<(), Cause>
+    requires { HasPart (lent today) at n × HasPart (lent earlier) at m }
+    ensures { ChannelChecked c (lent today.entry) (lent earlier.entry) at n m result }
 {
-    let own = check_own(ticks1, values1, at, n);
-    match own {
-        Checked::Fine => check_second(ticks2, values2, at, n, m, c),
-        Checked::Refused(x) => Check::Refused(Cause::Trace(c, x)),
+    today.check_part(at, n, c)?;
+    earlier.check_part(at, m, c)?;
+    if m != n {
+        return Err(Cause::Call(Refusal::Samples(c)));
     }
+    Ok(())
 }
 
-// The checks of all channels, one after the other. As lengths agree so far, a channel begins at the same place in both runs.
-fn check_channels(
-    ticks1: &[u32],
-    values1: &[i16],
-    lengths1: &[usize],
-    ticks2: &[u32],
-    values2: &[i16],
-    lengths2: &[usize],
-) -> Check
-    requires { DividedRuns (run_of ticks1.now values1.now lengths1.now) (run_of ticks2.now values2.now lengths2.now) }
-    ensures { ChannelsChecked (run_of ticks1.now values1.now lengths1.now) (run_of ticks2.now values2.now lengths2.now) result }
+// The checks of all channels, one after the other. As lengths agree so far, a channel begins at the same place in both runs. The lengths of the
+// run before are read by index: over a numbered zip of both lists the proof did not close.
+fn check_channels(today: Run, earlier: Run) -> Result<(), Cause>
+    requires { DividedRuns (lent today) (lent earlier) }
+    ensures { ChannelsChecked (lent today.entry) (lent earlier.entry) result }
 {
     let mut at = 0;
-    let mut c = 0;
-    while c < lengths1.len() {
-        let n = lengths1[c];
-        let m = lengths2[c];
-        let found = check_channel(ticks1, values1, ticks2, values2, at, n, m, c);
-        if let Check::Refused(x) = found {
-            return Check::Refused(x);
-        }
+    for (c, &n) in today.lengths.iter().enumerate() {
+        check_channel(today, earlier, at, n, earlier.lengths[c], c)?;
         at += n;
-        c += 1;
     }
-    Check::Fine
-}
-
-// Check 11 of run 2, where run 1 has m channels.
-fn check_earlier(ticks: &[u32], values: &[i16], lengths: &[usize], m: usize) -> Checked
-    ensures { EarlierChecked (run_of ticks.now values.now lengths.now) m result }
-{
-    let checked = engine::checks::check_crate(ticks, values, lengths);
-    match checked {
-        Checked::Fine => {
-            if lengths.len() == m {
-                return Checked::Fine;
-            }
-            Checked::Refused(Refusal::Crate)
-        }
-        Checked::Refused(x) => Checked::Refused(x),
-    }
-}
-
-// Check 11.
-fn check_runs(
-    ticks1: &[u32],
-    values1: &[i16],
-    lengths1: &[usize],
-    ticks2: &[u32],
-    values2: &[i16],
-    lengths2: &[usize],
-) -> Checked
-    ensures { RunsChecked (run_of ticks1.now values1.now lengths1.now) (run_of ticks2.now values2.now lengths2.now) result }
-{
-    let checked = engine::checks::check_crate(ticks1, values1, lengths1);
-    match checked {
-        Checked::Fine => check_earlier(ticks2, values2, lengths2, lengths1.len()),
-        Checked::Refused(x) => Checked::Refused(x),
-    }
+    Ok(())
 }
 
 // Checks 14 and 11.
-fn check_call(
-    ticks1: &[u32],
-    values1: &[i16],
-    lengths1: &[usize],
-    ticks2: &[u32],
-    values2: &[i16],
-    lengths2: &[usize],
-    k: u64,
-) -> Checked
-    ensures { CallChecked (run_of ticks1.now values1.now lengths1.now) (run_of ticks2.now values2.now lengths2.now) k result }
+#[tactic(auto, using(std::proofs::lemmas::Bool::Decides::nat_tests), unfolding(crate::specs::Compare::runs_row))]
+fn check_call(today: Run, earlier: Run, k: u64) -> Result<(), Refusal>
+    ensures { CallChecked (lent today.entry) (lent earlier.entry) k result }
 {
-    if k < 1 {
-        return Checked::Refused(Refusal::Factor);
+    if !(1..=16).contains(&k) {
+        return Err(Refusal::Factor);
     }
-    if 16 < k {
-        return Checked::Refused(Refusal::Factor);
+    today.check_crate()?;
+    earlier.check_crate()?;
+    if earlier.lengths.len() != today.lengths.len() {
+        return Err(Refusal::Crate);
     }
-    check_runs(ticks1, values1, lengths1, ticks2, values2, lengths2)
+    Ok(())
 }
 
 // Check 10: an entry for each of m channels in both lists.
-fn check_rooms(m: usize, room1: usize, room2: usize) -> Checked
+fn check_rooms(m: usize, room1: usize, room2: usize) -> Result<(), Refusal>
     ensures { result ≡ rooms_row m room1 room2 }
 {
-    if room1 < m {
-        return Checked::Refused(Refusal::Room(m));
+    if room1 < m || room2 < m {
+        return Err(Refusal::Room(m));
     }
-    if room2 < m {
-        return Checked::Refused(Refusal::Room(m));
-    }
-    Checked::Fine
-}
-
-// The checks of the channels, and 10.
-fn check_rest(
-    ticks1: &[u32],
-    values1: &[i16],
-    lengths1: &[usize],
-    ticks2: &[u32],
-    values2: &[i16],
-    lengths2: &[usize],
-    room1: usize,
-    room2: usize,
-) -> Check
-    requires { DividedRuns (run_of ticks1.now values1.now lengths1.now) (run_of ticks2.now values2.now lengths2.now) }
-    ensures { RestChecked (run_of ticks1.now values1.now lengths1.now) (run_of ticks2.now values2.now lengths2.now) room1 room2 result }
-{
-    let found = check_channels(ticks1, values1, lengths1, ticks2, values2, lengths2);
-    match found {
-        Check::Fine => {
-            let rooms = check_rooms(lengths1.len(), room1, room2);
-            match rooms {
-                Checked::Fine => Check::Fine,
-                Checked::Refused(x) => Check::Refused(Cause::Call(x)),
-            }
-        }
-        Check::Refused(x) => Check::Refused(x),
-    }
+    Ok(())
 }
 
 // Check 4: the tolerance is allowed, and its parts agree.
-fn hold_one(t: Tolerance) -> Single
+fn hold_one(t: Tolerance) -> Result<Ratio, Refusal>
     ensures { HeldOne t result }
 {
-    let holding = engine::hold::hold(t);
-    match holding {
-        Holding::Held(x) => {
-            if !tolerance::agree(x) {
-                return Single::Refused(Refusal::Tolerance(0));
-            }
-            let r = x.up;
-            Single::At(r)
-        }
-        Holding::Refused(x) => Single::Refused(x),
+    let x = engine::hold::hold(t)?;
+    if !tolerance::agree(x) {
+        return Err(Refusal::Tolerance(0));
     }
-}
-
-// Check 4 and what follows, where the checks 14 and 11 pass.
-fn check_held(
-    ticks1: &[u32],
-    values1: &[i16],
-    lengths1: &[usize],
-    ticks2: &[u32],
-    values2: &[i16],
-    lengths2: &[usize],
-    t: Tolerance,
-    k: u64,
-    room1: usize,
-    room2: usize,
-) -> Ready
-    requires { Called (run_of ticks1.now values1.now lengths1.now) (run_of ticks2.now values2.now lengths2.now) k }
-    ensures { Readied (run_of ticks1.now values1.now lengths1.now) (run_of ticks2.now values2.now lengths2.now) t k room1 room2 result }
-{
-    let single = hold_one(t);
-    match single {
-        Single::At(r) => {
-            let rest = check_rest(
-                ticks1, values1, lengths1, ticks2, values2, lengths2, room1, room2,
-            );
-            match rest {
-                Check::Fine => Ready::At(r),
-                Check::Refused(x) => Ready::Refused(x),
-            }
-        }
-        Single::Refused(x) => Ready::Refused(Cause::Call(x)),
-    }
+    Ok(x.up)
 }
 
 // All checks, for lists of `room1` and `room2` entries.
+#[tactic(auto, using(std::proofs::lemmas::Bool::Decides::nat_tests), unfolding(crate::specs::Compare::compare_rows))]
 pub fn check(
-    ticks1: &[u32],
-    values1: &[i16],
-    lengths1: &[usize],
-    ticks2: &[u32],
-    values2: &[i16],
-    lengths2: &[usize],
+    today: Run,
+    earlier: Run,
     t: Tolerance,
     k: u64,
     room1: usize,
     room2: usize,
-) -> Ready
-    ensures { Readied (run_of ticks1.now values1.now lengths1.now) (run_of ticks2.now values2.now lengths2.now) t k room1 room2 result }
+) -> Result<Ratio, Cause>
+    ensures { Readied (lent today.entry) (lent earlier.entry) t k room1 room2 result }
 {
-    let checked = check_call(ticks1, values1, lengths1, ticks2, values2, lengths2, k);
-    match checked {
-        Checked::Fine => check_held(
-            ticks1, values1, lengths1, ticks2, values2, lengths2, t, k, room1, room2,
-        ),
-        Checked::Refused(x) => Ready::Refused(Cause::Call(x)),
-    }
+    check_call(today, earlier, k)?;
+    let r = hold_one(t)?;
+    check_channels(today, earlier)?;
+    check_rooms(today.lengths.len(), room1, room2)?;
+    Ok(r)
 }

@@ -2,57 +2,45 @@
 #![tactic(auto)]
 
 ghost use Rattle.std.specs.Prelude.{◌≡◌};
-ghost use Rattle.pedestals.specs.Compare.{cause_number, cause_value, run_of, CompareOutcome};
+ghost use Rattle.pedestals.specs.Compare.{cause_number, cause_value, lent, CompareOutcome};
+ghost use Rattle.pedestals.specs.declared.Cause.TheVariants.{Call};
+
+mod checks;
 
 use listing::Counts;
 use ratio::Ratio;
 use refusal::Refusal;
 use tolerance::Tolerance;
 
-// Why a comparison is refused: a cause of the call; or a channel's trace is refused, with a cause of its own.
+// A pedestal run: the ticks and values of its channels, end to end, and each channel's length.
 #[derive(Clone, Copy)]
+pub struct Run<'a> {
+    pub ticks: &'a [u32],
+    pub values: &'a [i16],
+    pub lengths: &'a [usize],
+}
+
+// Why a comparison is refused: a cause of the call; or a channel's trace is refused, with a cause of its own.
+#[derive(Clone, Copy, Debug, PartialEq, Eq)]
 pub enum Cause {
     Call(Refusal),
     Trace(usize, Refusal),
 }
 
-// What the checks find: the first cause that applies, or none.
-#[derive(Clone, Copy)]
-pub enum Check {
-    Fine,
-    Refused(Cause),
-}
+impl From<Refusal> for Cause {
+    ghost from_gives = { λ x c. c ≡ Call x };
 
-// What check 4 finds: the ratio of both parts of the tolerance, or a refusal.
-#[derive(Clone, Copy)]
-enum Single {
-    At(Ratio),
-    Refused(Refusal),
+    fn from(x: Refusal) -> Cause {
+        Cause::Call(x)
+    }
 }
-
-// What the checks of a whole call find: the ratio that the tolerance is held as, or a cause.
-#[derive(Clone, Copy)]
-enum Ready {
-    At(Ratio),
-    Refused(Cause),
-}
-
-// What `compare` answers: the lengths of both lists, or why it is refused.
-#[derive(Clone, Copy)]
-pub enum Compared {
-    Listed(Counts),
-    Refused(Cause),
-}
-
-mod checks;
 
 // A cause's number: of a channel's trace its own.
 pub fn number(x: Cause) -> u32
     ensures { result ≡ cause_number x }
 {
     match x {
-        Cause::Call(r) => refusal::number(r),
-        Cause::Trace(_, r) => refusal::number(r),
+        Cause::Call(r) | Cause::Trace(_, r) => r.number(),
     }
 }
 
@@ -61,7 +49,7 @@ pub fn returned(x: Cause) -> usize
     ensures { result ≡ cause_value x }
 {
     match x {
-        Cause::Call(r) => refusal::returned(r),
+        Cause::Call(r) => r.returned(),
         Cause::Trace(c, _) => c,
     }
 }
@@ -69,35 +57,23 @@ pub fn returned(x: Cause) -> usize
 // Compares two pedestal runs of a crate, run 1 today's: lists the channels that have moved by more than the tolerance, and those whose width
 // is more than k times that of run 2. Each list has an entry a channel or more; its first entries are the channels, in rising order.
 pub fn compare(
-    ticks1: &[u32],
-    values1: &[i16],
-    lengths1: &[usize],
-    ticks2: &[u32],
-    values2: &[i16],
-    lengths2: &[usize],
+    today: Run,
+    earlier: Run,
     t: Tolerance,
     k: u64,
     moved: &mut [u16],
     noisy: &mut [u16],
-) -> Compared
-    ensures { CompareOutcome (run_of ticks1.now values1.now lengths1.now) (run_of ticks2.now values2.now lengths2.now) t k moved.old noisy.old result moved.new noisy.new }
+) -> Result<Counts, Cause>
+    ensures { CompareOutcome (lent today.entry) (lent earlier.entry) t k moved.old noisy.old result moved.new noisy.new }
 {
-    let ready = checks::check(
-        ticks1,
-        values1,
-        lengths1,
-        ticks2,
-        values2,
-        lengths2,
-        t,
+    let r = checks::check(today, earlier, t, k, moved.len(), noisy.len())?;
+    Ok(listing::list_channels(
+        today.values,
+        earlier.values,
+        today.lengths,
+        r,
         k,
-        moved.len(),
-        noisy.len(),
-    );
-    match ready {
-        Ready::At(r) => Compared::Listed(listing::list_channels(
-            values1, values2, lengths1, r, k, moved, noisy,
-        )),
-        Ready::Refused(x) => Compared::Refused(x),
-    }
+        moved,
+        noisy,
+    ))
 }

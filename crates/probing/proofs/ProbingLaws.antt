@@ -12,16 +12,15 @@ use Rattle.lists.proofs.Tests.{true_false}
 use Rattle.kept.specs.declared.Search.{Search}
 use Rattle.kept.specs.Gallop.{found, halfway, doubling, bisection, search_by, gallop_search}
 use Rattle.kept.proofs.GallopLaws.{probe_within, probe_none, search_bounds, gallop_stop_greedy}
-use Rattle.kept.proofs.SearchLaws.{moved_yes, stayed_no, Doubling, doubling_none, doubling_more, doubling_ends, Bisecting, bisecting_yes, bisecting_no}
+use Rattle.kept.proofs.SearchLaws.{Doubling, doubling_none, doubling_more, doubling_ends, Bisecting, bisecting_yes, bisecting_no}
 use Rattle.trace.specs.declared.Criterion.{Criterion}
-use Rattle.trace.specs.Trace.{Trace}
-use Rattle.trace.specs.Link.{Bounded, obeys, valid, links_end}
+use Rattle.trace.specs.Link.{obeys, valid, links_end}
 use Rattle.trace.proofs.Holes.{links_end_inside, obeys_past}
 use Rattle.trace.proofs.Validity.{steps_valid, valid_obeys, hole_invalid}
 use Rattle.outgoing.specs.declared.Links.{Links}
 use Rattle.probing.specs.declared.Probing.{Probing}
 use Rattle.outgoing.specs.Outgoing.{TakenIn, Next, Beyond}
-use Rattle.probing.specs.Probing.{probe_at, Yes, Probes, AfterProbe}
+use Rattle.probing.specs.Probing.{probe_at, Yes, Probes, Probed}
 use Rattle.outgoing.proofs.OutgoingLaws.{next_at, taken_at, valid_at}
 
 -- ---- a probe
@@ -30,18 +29,20 @@ module _ {ts : List ℕ} {vs : List ℤ} {c : Criterion} {s : Probing} {d : ℕ}
   abbrev from : ℕ
   from = s.links.from.sample
 
-  -- a probe that answers no leaves the yes as it was
-  probed_no : probe_at ts vs c from d ≡ false → AfterProbe ts vs c from s d (record { low = s.low; probes = s.probes + 1; links = s.links })
+  -- one that answers no leaves the yes as it was
+  abbrev Refused : Type 0
+  Refused = Probed ts vs c from s d false (record { low = s.low; probes = s.probes + 1; links = s.links })
+
+  probed_no : probe_at ts vs c from d ≡ false → Refused
   probed_no q = record {
-    yes = record { pos = p.yes.pos; inside = p.yes.inside; links = p.yes.links };
-    low = rw q;
-    probes = refl;
+    answer = sym q;
+    after = record { yes = record { pos = p.yes.pos; inside = p.yes.inside; links = p.yes.links }; low = rw q; probes = refl };
   }
 
   start_inside : from + 1 < length ts
   start_inside = omega (arith, p.yes.inside, p.yes.pos)
 
-  pub probed_past : s.links.limit < from + d → AfterProbe ts vs c from s d (record { low = s.low; probes = s.probes + 1; links = s.links })
+  pub probed_past : s.links.limit < from + d → Refused
   probed_past past = probed_no (elim (dec_lt (length ts - 1) (from + d)) [
     | yes out ↦ probe_none (valid ts vs c) (length ts - 1) from d (omega arith)
     | no ins ↦
@@ -73,7 +74,7 @@ module _ {ts : List ℕ} {vs : List ℤ} {c : Criterion} {s : Probing} {d : ℕ}
     answer : {b : Bool} → valid ts vs c from (from + d) ≡ b → probe_at ts vs c from d ≡ b
     answer e = probe_within (valid ts vs c) (length ts - 1) from d (omega (arith, inside)) ∙ e
 
-    pub probed_fails : valid ts vs c from (from + d) ≡ false → AfterProbe ts vs c from s d (record { low = s.low; probes = s.probes + 1; links = s.links })
+    pub probed_fails : valid ts vs c from (from + d) ≡ false → Refused
     probed_fails e = probed_no (answer e)
 
     -- l has taken in every sample before the one probed
@@ -81,78 +82,75 @@ module _ {ts : List ℕ} {vs : List ℤ} {c : Criterion} {s : Probing} {d : ℕ}
       pub far_next : Next ts vs c l (from + d)
       far_next = next_at t p.trace p.bounded (omega (arith, p.further)) to_end inside
 
-      pub probed_invalid : {b : Bool} → b ≡ false → b ≡ valid ts vs c l.from.sample (from + d) → AfterProbe ts vs c from s d (record { low = s.low; probes = s.probes + 1; links = s.links })
+      pub probed_invalid : {b : Bool} → b ≡ false → b ≡ valid ts vs c l.from.sample (from + d) → Refused
       probed_invalid q e = probed_fails (sym (valid_at t (from + d) e) ∙ q)
 
       pub probed_yes : {m : Links} {b : Bool} → b ≡ true → b ≡ valid ts vs c l.from.sample (from + d) → TakenIn ts vs c l.from.sample (from + d + 1) m
-          → AfterProbe ts vs c from s d (record { low = d; probes = s.probes + 1; links = m })
-      probed_yes q e u = record {
-        yes = record { pos = omega (arith, p.further); inside = inside; links = taken_at t u };
-        low = rw (answer (sym (valid_at t (from + d) e) ∙ q));
-        probes = refl;
-      }
+          → Probed ts vs c from s d true (record { low = d; probes = s.probes + 1; links = m })
+      probed_yes q e u =
+          let y : probe_at ts vs c from d ≡ true = answer (sym (valid_at t (from + d) e) ∙ q) in
+          record {
+            answer = sym y;
+            after = record { yes = record { pos = omega (arith, p.further); inside = inside; links = taken_at t u }; low = rw y; probes = refl };
+          }
 
 -- a search from sample i
 module _ {ts : List ℕ} {vs : List ℤ} {c : Criterion} {i : ℕ} {s : Probing} (y : Yes ts vs c i s) where
   pub yes_own : Yes ts vs c s.links.from.sample s
   yes_own = subst (λ (k : ℕ). Yes ts vs c k s) (sym y.links.start.sample) y
 
-  pub probes_at : {d : ℕ} → Trace ts vs → Bounded c → s.low < d → d ≤ 8192 → s.probes ≤ 8192 → Probes ts vs c s d
-  probes_at t b lt near few = record {
-    trace = t;
-    bounded = b;
-    yes = yes_own;
-    further = lt;
-    near = near;
-    few = few;
-  }
-
-  pub probed_at : {d : ℕ} {r : Probing} → AfterProbe ts vs c s.links.from.sample s d r → AfterProbe ts vs c i s d r
-  probed_at {d} {r} h = subst (λ (k : ℕ). AfterProbe ts vs c k s d r) y.links.start.sample h
+  pub probed_at : {d : ℕ} {b : Bool} {r : Probing} → Probed ts vs c s.links.from.sample s d b r → Probed ts vs c i s d b r
+  probed_at {d} {b} {r} h = subst (λ (k : ℕ). Probed ts vs c k s d b r) y.links.start.sample h
 
 -- ---- the loops
 
 -- the doubling from sample i has reached the yes of s
-pub record Raising (ts : List ℕ) (vs : List ℤ) (c : Criterion) (i : ℕ) (s : Probing) : Type 0 where
+pub record Raising (ts : List ℕ) (vs : List ℤ) (c : Criterion) (i : ℕ) (s : Probing) (high : ℕ) : Type 0 where
   pub yes : Yes ts vs c i s
   pub doubles : Doubling (valid ts vs c) (length ts - 1) i s.low s.probes
+  pub next : high ≡ s.low + s.low
 
-pub raising_none : {ts : List ℕ} {vs : List ℤ} {c : Criterion} {i : ℕ} {l : Links} → i + 1 < length ts → TakenIn ts vs c i (i + 1 + 1) l → Raising ts vs c i (record { low = 1; probes = 0; links = l })
-raising_none h t = record { yes = record { pos = omega arith; inside = h; links = t }; doubles = doubling_none (omega arith) }
+pub raising_none : {ts : List ℕ} {vs : List ℤ} {c : Criterion} {i : ℕ} {l : Links} → i + 1 < length ts → TakenIn ts vs c i (i + 1 + 1) l → Raising ts vs c i (record { low = 1; probes = 0; links = l }) 2
+raising_none h t = record { yes = record { pos = omega arith; inside = h; links = t }; doubles = doubling_none (omega arith); next = refl }
 
-module _ {ts : List ℕ} {vs : List ℤ} {c : Criterion} {i : ℕ} {s r : Probing} (g : Raising ts vs c i s) (h : AfterProbe ts vs c s.links.from.sample s (s.low + s.low) r) where
-  doubled : AfterProbe ts vs c i s (s.low + s.low) r
-  doubled = probed_at g.yes h
+module _ {ts : List ℕ} {vs : List ℤ} {c : Criterion} {i high : ℕ} {s r : Probing} {b : Bool} (g : Raising ts vs c i s high)
+    (h : Probed ts vs c s.links.from.sample s high b r) where
+  doubled : Probed ts vs c i s (s.low + s.low) b r
+  doubled = probed_at g.yes (rw g.next at h)
 
-  pub raising_more : r.low ≡ s.low + s.low → Raising ts vs c i r
-  raising_more e =
-      let q = moved_yes (probe_at ts vs c i (s.low + s.low)) s.low (s.low + s.low) (omega (arith, g.yes.pos)) doubled.low e in
-      record { yes = doubled.yes; doubles = rw (e, doubled.probes) (doubling_more g.doubles q) }
+  pub raising_more : b ≡ true → Raising ts vs c i r (high + high)
+  raising_more q =
+      let y : probe_at ts vs c i (s.low + s.low) ≡ true = sym doubled.answer ∙ q in
+      let e : r.low ≡ s.low + s.low = rw y at doubled.after.low in
+      record { yes = doubled.after.yes; doubles = rw (e, doubled.after.probes) (doubling_more g.doubles y); next = omega (arith, e, g.next) }
 
-  pub raising_ends : (r.low ≡ s.low + s.low → ⊥) → (Yes ts vs c i r × (r.probes ≤ r.low)) × (found r.low r.probes ≡ doubling (probe_at ts vs c i) 1 0 (length ts - 1))
-  raising_ends n =
-      let q = stayed_no (probe_at ts vs c i (s.low + s.low)) s.low (s.low + s.low) (omega (arith, g.yes.pos)) doubled.low n in
-      ((doubled.yes, omega (arith, g.doubles.few, doubled.probes, q.1)), rw (q.1, doubled.probes) (doubling_ends g.doubles q.0))
+  pub raising_ends : b ≡ false → (Yes ts vs c i r × (r.probes ≤ r.low)) × (found r.low r.probes ≡ doubling (probe_at ts vs c i) 1 0 (length ts - 1))
+  raising_ends q =
+      let n : probe_at ts vs c i (s.low + s.low) ≡ false = sym doubled.answer ∙ q in
+      let e : r.low ≡ s.low = rw n at doubled.after.low in
+      ((doubled.after.yes, omega (arith, g.doubles.few, doubled.after.probes, e)), rw (e, doubled.after.probes) (doubling_ends g.doubles n))
 
 -- the bisection between the yes of `up` and twice its offset has reached the yes of s and the no `high`
 pub record Narrowing (ts : List ℕ) (vs : List ℤ) (c : Criterion) (up s : Probing) (high : ℕ) : Type 0 where
   pub yes : Yes ts vs c up.links.from.sample s
   pub bisects : Bisecting (probe_at ts vs c up.links.from.sample) up.low up.probes s.low high s.probes
 
-module _ {ts : List ℕ} {vs : List ℤ} {c : Criterion} {up s r : Probing} {high : ℕ} (g : Narrowing ts vs c up s high) (lt : s.low + 1 < high)
-    (h : AfterProbe ts vs c s.links.from.sample s (halfway s.low high) r) where
-  halved : AfterProbe ts vs c up.links.from.sample s (halfway s.low high) r
+module _ {ts : List ℕ} {vs : List ℤ} {c : Criterion} {up s r : Probing} {high : ℕ} {b : Bool} (g : Narrowing ts vs c up s high) (lt : s.low + 1 < high)
+    (h : Probed ts vs c s.links.from.sample s (halfway s.low high) b r) where
+  halved : Probed ts vs c up.links.from.sample s (halfway s.low high) b r
   halved = probed_at g.yes h
 
-  pub narrowing_yes : r.low ≡ halfway s.low high → Narrowing ts vs c up r high
-  narrowing_yes e =
-      let q = moved_yes (probe_at ts vs c up.links.from.sample (halfway s.low high)) s.low (halfway s.low high) (omega arith) halved.low e in
-      record { yes = halved.yes; bisects = rw (e, halved.probes) (bisecting_yes g.bisects lt q) }
+  pub narrowing_yes : b ≡ true → Narrowing ts vs c up r high
+  narrowing_yes q =
+      let y : probe_at ts vs c up.links.from.sample (halfway s.low high) ≡ true = sym halved.answer ∙ q in
+      let e : r.low ≡ halfway s.low high = rw y at halved.after.low in
+      record { yes = halved.after.yes; bisects = rw (e, halved.after.probes) (bisecting_yes g.bisects lt y) }
 
-  pub narrowing_no : (r.low ≡ halfway s.low high → ⊥) → Narrowing ts vs c up r (halfway s.low high) × (r.low ≡ s.low)
-  narrowing_no n =
-      let q = stayed_no (probe_at ts vs c up.links.from.sample (halfway s.low high)) s.low (halfway s.low high) (omega arith) halved.low n in
-      (record { yes = halved.yes; bisects = rw (q.1, halved.probes) (bisecting_no g.bisects lt q.0) }, q.1)
+  pub narrowing_no : b ≡ false → Narrowing ts vs c up r (halfway s.low high)
+  narrowing_no q =
+      let n : probe_at ts vs c up.links.from.sample (halfway s.low high) ≡ false = sym halved.answer ∙ q in
+      let e : r.low ≡ s.low = rw n at halved.after.low in
+      record { yes = halved.after.yes; bisects = rw (e, halved.after.probes) (bisecting_no g.bisects lt n) }
 
 -- the doubling and then the bisection are the search
 module _ {ts : List ℕ} {vs : List ℤ} {c : Criterion} {i : ℕ} {up : Probing} {r : Search} (y : Yes ts vs c i up)

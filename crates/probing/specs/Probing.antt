@@ -2,6 +2,7 @@
 --   probe_at             the answer of a probe from sample i at an offset
 --   Yes                  the last yes of a search is within the trace, and the samples up to it have been taken in
 --   Probes, AfterProbe   a probe at a later offset, and the search after it
+--   Probed               the answer of a probe, and the search after it
 -- Laws are in ProbingLaws. Assumes nothing.
 use Rattle.std.specs.Prelude.{◌≡◌, Bool, cond, List, ℕ, ◌+◌, ◌-◌, ◌≤◌, ◌<◌, ℤ, length}
 use Rattle.kept.specs.Gallop.{probe_of}
@@ -31,3 +32,7 @@ pub record AfterProbe (ts : List ℕ) (vs : List ℤ) (c : Criterion) (i : ℕ) 
   pub yes : Yes ts vs c i r
   pub low : r.low ≡ cond (probe_at ts vs c i d) d s.low
   pub probes : r.probes ≡ s.probes + 1
+
+pub record Probed (ts : List ℕ) (vs : List ℤ) (c : Criterion) (i : ℕ) (s : Probing) (d : ℕ) (b : Bool) (r : Probing) : Type 0 where
+  pub answer : b ≡ probe_at ts vs c i d
+  pub after : AfterProbe ts vs c i s d r

@@ -5,7 +5,7 @@ ghost use Rattle.std.specs.Prelude.{◌≡◌, ◌+◌, ◌-◌, ◌*◌, ◌≤
 ghost use Rattle.kept.specs.Gallop.{found, doubling, bisection, gallop_search};
 ghost use Rattle.trace.specs.Trace.{Trace};
 ghost use Rattle.trace.specs.Link.{Bounded, valid, links_end};
-ghost use Rattle.probing.specs.Probing.{probe_at, Yes, Probes, AfterProbe};
+ghost use Rattle.probing.specs.Probing.{probe_at, Yes, Probes, Probed};
 
 use kept::Search;
 use outgoing::{Links, links_past, passes, reaches, taken, taken_to};
@@ -19,34 +19,29 @@ pub struct Probing {
     pub links: Links,
 }
 
-// The search after a probe at offset d. A probe past the last sample, or the last to which links obey the gap limit, answers no, and counts.
-fn probe(ticks: &[u32], values: &[i16], c: Criterion, s: Probing, d: usize) -> Probing
-    requires { Probes ticks.now values.now c s d }
-    ensures { AfterProbe ticks.now values.now c s.links.from.sample s d result }
-{
-    let links = s.links;
-    let i = links.from.sample;
-    let end = i + d;
-    let probes = s.probes + 1;
-    let no = Probing {
-        low: s.low,
-        probes,
-        links,
-    };
-    if links.limit < end {
-        return no;
-    }
-    if !passes(ticks, values, c, links, end) {
-        return no;
-    }
-    let far = taken_to(ticks, values, c, links, i + s.low + 1, end);
-    if !reaches(ticks, values, c, far, end) {
-        return no;
-    }
-    Probing {
-        low: d,
-        probes,
-        links: taken(ticks, values, c, far, end),
+impl Probing {
+    // Probes offset d: whether the answer is yes. A probe past the last sample, or the last to which links obey the gap limit, answers no,
+    // and counts.
+    fn probe(&mut self, ticks: &[u32], values: &[i16], c: Criterion, d: usize) -> bool
+        requires { Probes ticks.now values.now c self.old d }
+        ensures { Probed ticks.now values.now c self.old.links.from.sample self.old d result self.new }
+    {
+        self.probes += 1;
+        let from = self.links.from.sample;
+        let end = from + d;
+        if self.links.limit < end {
+            return false;
+        }
+        if !passes(ticks, values, c, self.links, end) {
+            return false;
+        }
+        let far = taken_to(ticks, values, c, self.links, from + self.low + 1, end);
+        if !reaches(ticks, values, c, far, end) {
+            return false;
+        }
+        self.low = d;
+        self.links = taken(ticks, values, c, far, end);
+        true
     }
 }
 
@@ -61,26 +56,22 @@ fn double(ticks: &[u32], values: &[i16], c: Criterion, i: usize, limit: usize) -
         probes: 0,
         links: links_past(ticks, values, c, i, limit),
     };
-    loop {
-        let high = s.low + s.low;
-        s = probe(ticks, values, c, s, high);
-        if s.low != high {
-            return s;
-        }
+    let mut high = 2;
+    while s.probe(ticks, values, c, high) {
+        high += high;
     }
+    s
 }
 
-// The last yes between the offset of `up`, a yes, and twice that offset, a no.
-fn bisect(ticks: &[u32], values: &[i16], c: Criterion, up: Probing) -> Search
-    requires { Trace ticks.now values.now × Bounded c × Yes ticks.now values.now c up.links.from.sample up × (up.probes ≤ up.low) }
-    ensures { result ≡ bisection (probe_at ticks.now values.now c up.links.from.sample) up.low (up.low + up.low) up.probes up.low }
+// The last yes between the offset of s, a yes, and twice that offset, a no.
+fn bisect(ticks: &[u32], values: &[i16], c: Criterion, mut s: Probing) -> Search
+    requires { Trace ticks.now values.now × Bounded c × Yes ticks.now values.now c s.links.from.sample s × (s.probes ≤ s.low) }
+    ensures { result ≡ bisection (probe_at ticks.now values.now c s.links.from.sample) s.low (s.low + s.low) s.probes s.low }
 {
-    let mut s = up;
-    let mut high = up.low + up.low;
+    let mut high = s.low + s.low;
     while s.low + 1 < high {
         let mid = (s.low + high) / 2;
-        s = probe(ticks, values, c, s, mid);
-        if s.low != mid {
+        if !s.probe(ticks, values, c, mid) {
             high = mid;
         }
     }
@@ -96,6 +87,5 @@ pub fn search(ticks: &[u32], values: &[i16], c: Criterion, i: usize, limit: usiz
     ensures finds { result ≡ gallop_search (valid ticks.now values.now c) (length ticks.now - 1) i }
     ensures bounds { (0 < result.low) × (i + result.low ≤ limit) × (i + result.low < length ticks.now) × (result.probes ≤ 2 * result.low) }
 {
-    let up = double(ticks, values, c, i, limit);
-    bisect(ticks, values, c, up)
+    bisect(ticks, values, c, double(ticks, values, c, i, limit))
 }

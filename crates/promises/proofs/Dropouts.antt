@@ -5,6 +5,7 @@
 --   holes_only, holes_then            least is refused with 16 only where every kept list that obeys the gap limit has more than m samples; and
 --                                     there it is, where the checks before pass
 -- Assumes nothing.
+use Rattle.std.specs.Prelude.{Err, Ok, Result}
 use mathlib.Core.Path.{◌≡◌, refl, ap, fun_ext}
 use mathlib.Core.Logic.{◌⊎◌, inl, inr, ⊎_elim, ◌↔◌}
 use mathlib.Core.Bool.{true, ◌&&◌, ◌||◌}
@@ -24,7 +25,6 @@ use Rattle.lists.proofs.FirstLaws.{first_found}
 use Rattle.ratio.specs.declared.Ratio.{Ratio}
 use Rattle.refusal.specs.declared.Refusal.{Refusal}
 use Rattle.refusal.specs.declared.Refusal.TheVariants.{Length, Tick, Span, Allowance, Room, Gap, Holes}
-use Rattle.refusal.specs.declared.Checked.TheVariants.{Fine, Refused}
 use Rattle.refusal.specs.Table.{number_of, room_row}
 use Rattle.refusal.proofs.TableLaws.{row_fine, row_refused, then_refused, then_nothing, then_assoc, then_skip}
 use Rattle.kept.specs.Kept.{KeptList, AllValid, LinksFrom, final}
@@ -46,12 +46,11 @@ use Rattle.allowance.specs.Rows.{allowance_row, holes_row, allowed_rows, least_r
 use Rattle.closest.proofs.ClosestLaws.{obeying_kept, obeying_obeys, obeying_fewest}
 use Rattle.allowance.proofs.RowLaws.{holes_exact}
 use Rattle.limits.specs.Prepare.{tolerance_row, gap_row, common_rows, output_rows}
-use Rattle.engine.specs.declared.Closest.{Closest}
-use Rattle.engine.specs.declared.Closest.TheVariants.{Kept, Refused as Declined}
 use Rattle.engine.specs.Least.{LeastOutcome}
 use Rattle.reporting.specs.Report.{crate_rows}
 use Rattle.promises.specs.Pedestals.{Exactly}
 use Rattle.promises.specs.Dropouts.{ListsAsBefore, RowsAsBefore, beside_hole, ShortestObeying}
+use Rattle.closest.specs.declared.Found.{Found}
 
 -- ---- the largest gap limit
 
@@ -89,7 +88,7 @@ rows_as_before ts vs t =
       least = λ m room. then_skip (trace_rows 256 ts vs) (allowance_row m) (holes_row ts 1048575 m) (room_row (length ts) room) (no_holes m);
     }
   where
-    no_holes : (m : ℕ) → trace_rows 256 ts vs ≡ Fine → allowance_row m ≡ Fine → holes_row ts 1048575 m ≡ Fine
+    no_holes : (m : ℕ) → trace_rows 256 ts vs ≡ Ok tt → allowance_row m ≡ Ok tt → holes_row ts 1048575 m ≡ Ok tt
     no_holes m e a =
         let two = leb-true 2 m (and_first _ _ (row_fine _ _ a)) in
         rw (le-leb (fewest_samples ts 1048575) m (omega (arith, few_widest (rows_trace 256 ts vs (omega arith) e).0)))
@@ -231,7 +230,7 @@ module _ (ts : List ℕ) (g : ℕ) where
 before_16 : {x : Refusal} → x ≡ Holes → number_of x < 16 → ⊥
 before_16 e lt = absurd (omega (arith, ap number_of e))
 
-no_row_of_trace : (ts : List ℕ) (vs : List ℤ) → trace_rows 256 ts vs ≡ Refused Holes → ⊥
+no_row_of_trace : (ts : List ℕ) (vs : List ℤ) → trace_rows 256 ts vs ≡ Err Holes → ⊥
 unfolding trace_rows
 no_row_of_trace ts vs e =
     ⊎_elim (λ a. before_16 {x = Length} (row_refused (leb 1 (length ts) && leb (length ts) 256 && eqb (length vs) (length ts)) _ a) (omega arith))
@@ -243,7 +242,7 @@ abbrev AllLonger : List ℕ → ℕ → ℕ → Type 0
 AllLonger ts g m = (h : List ℕ) → KeptList (length ts - 1) h → AllValid (obeys ts g) h → m < length h
 
 module _ (ts : List ℕ) (vs : List ℤ) (g m : ℕ) {o o' : List ℕ} where
-  pub holes_only : LeastOutcome ts vs g m o (Declined Holes) o' → AllLonger ts g m
+  pub holes_only : LeastOutcome ts vs g m o (Err Holes) o' → AllLonger ts g m
   unfolding least_rows allowed_rows
   holes_only w =
       ⊎_elim (λ a. absurd (no_row_of_trace ts vs a))
@@ -254,16 +253,16 @@ module _ (ts : List ℕ) (vs : List ℤ) (g m : ℕ) {o o' : List ℕ} where
       (then_refused (gap_row g) _ e))
       (then_refused (trace_rows 256 ts vs) _ w.0)
 
-  pub holes_then : trace_rows 256 ts vs ≡ Fine → gap_row g ≡ Fine → allowance_row m ≡ Fine → AllLonger ts g m → (r : Closest) → LeastOutcome ts vs g m o r o' → (r ≡ Declined Holes) × (o' ≡ o)
+  pub holes_then : trace_rows 256 ts vs ≡ Ok tt → gap_row g ≡ Ok tt → allowance_row m ≡ Ok tt → AllLonger ts g m → (r : Result Found Refusal) → LeastOutcome ts vs g m o r o' → (r ≡ Err Holes) × (o' ≡ o)
   unfolding least_rows allowed_rows
   holes_then t a b all r w = go r w (rw (t, a, b, (holes_exact ts g m).1 all))
     where
-      go : (r : Closest) → LeastOutcome ts vs g m o r o' → least_rows ts vs g m (length o) ≡ Refused Holes → (r ≡ Declined Holes) × (o' ≡ o)
-      go (Kept f) w rows =
-          let h : least_rows ts vs g m (length o) ≡ Fine = w.rows in
+      go : (r : Result Found Refusal) → LeastOutcome ts vs g m o r o' → least_rows ts vs g m (length o) ≡ Err Holes → (r ≡ Err Holes) × (o' ≡ o)
+      go (Ok f) w rows =
+          let h : least_rows ts vs g m (length o) ≡ Ok tt = w.rows in
           let z : ◌≡◌ {A = ℕ} 0 1 = cc in
           absurd (omega arith)
-      go (Declined x) w rows =
-          let h : least_rows ts vs g m (length o) ≡ Refused x = w.0 in
+      go (Err x) w rows =
+          let h : least_rows ts vs g m (length o) ≡ Err x = w.0 in
           let e : x ≡ Holes = cc in
-          (ap Declined e, w.1)
+          (ap Err e, w.1)

@@ -4,6 +4,7 @@
 --   with_value      each entry written is the table's value of its code
 --   with_order      a higher code has a higher value, so the values written tell the codes
 -- Assumes nothing.
+use Rattle.std.specs.Prelude.{Err, Ok, Result, ℕ}
 use mathlib.Core.Path.{◌≡◌, sym, ◌∙◌, ap, subst}
 use mathlib.Core.Logic.{◌↔◌}
 use mathlib.Core.List.{List}
@@ -19,9 +20,8 @@ use Rattle.codes.specs.Code.{code_values, code_table}
 use Rattle.codes.proofs.RangeTableLaws.{fine_rises, higher_code}
 use Rattle.codes.proofs.RowLaws.{with_table, fine_with}
 use Rattle.codes.proofs.CodeLaws.{code_table_fine, code_values_lem}
-use Rattle.refusal.specs.declared.Written.{Written}
-use Rattle.refusal.specs.declared.Written.TheVariants.{Count, Refused as Declined}
 use Rattle.expanding.specs.Expand.{expand_rows, ExpandOutcome, ExpandWithOutcome}
+use Rattle.refusal.specs.declared.Refusal.{Refusal}
 
 module _ (codes : List ℕ) (byte : (i : ℕ) → get_or codes i 0 < 256) (o o' : List ℤ) where
   same_rows : expand_with_rows codes code_table (length o) ≡ expand_rows codes (length o)
@@ -31,14 +31,14 @@ module _ (codes : List ℕ) (byte : (i : ℕ) → get_or codes i 0 < 256) (o o' 
   same_values : values_in code_table codes ≡ code_values codes
   same_values = code_values_lem codes byte
 
-  pub with_built_in : (r : Written) → ExpandWithOutcome codes code_table o r o' ↔ ExpandOutcome codes o r o'
-  with_built_in (Count n) = (
+  pub with_built_in : (r : Result ℕ Refusal) → ExpandWithOutcome codes code_table o r o' ↔ ExpandOutcome codes o r o'
+  with_built_in (Ok n) = (
     λ x. (sym same_rows ∙ x.0, subst (λ (l : List ℤ). Wrote l o n o') same_values x.1),
     λ x. (same_rows ∙ x.0, subst (λ (l : List ℤ). Wrote l o n o') (sym same_values) x.1),
   )
-  with_built_in (Declined x) = (λ y. (sym same_rows ∙ y.0, y.1), λ y. (same_rows ∙ y.0, y.1))
+  with_built_in (Err x) = (λ y. (sym same_rows ∙ y.0, y.1), λ y. (same_rows ∙ y.0, y.1))
 
-module _ (codes : List ℕ) (t o o' : List ℤ) (n : ℕ) (x : ExpandWithOutcome codes t o (Count n) o') where
+module _ (codes : List ℕ) (t o o' : List ℤ) (n : ℕ) (x : ExpandWithOutcome codes t o (Ok n) o') where
   pub with_value : (i : ℕ) → i < length codes → get_or o' i (pos 0) ≡ value_in t (get_or codes i 0)
   with_value i h =
       ap (λ (l : List ℤ). get_or l i (pos 0)) x.1.content ∙ get_or-append (values_in t codes) _ (pos 0) i (omega (arith, select_length (pos 0) t codes)) ∙ select_at (pos 0) t codes i h

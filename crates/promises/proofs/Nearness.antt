@@ -5,6 +5,7 @@
 --   least_near     least's list obeys the gap limit and has at most m samples and exactly the error returned, and no such list has a lesser one
 -- Each follows from the call's contract alone, and speaks of what the call returned: the kept number, the error, the entries written.
 -- Assumes nothing.
+use Rattle.std.specs.Prelude.{None, Ok, Option, Some}
 use mathlib.Core.Path.{◌≡◌, refl}
 use mathlib.Core.List.{List}
 use Prim.Native.Nat.{ℕ}
@@ -13,10 +14,7 @@ use lib.IntN.{ℤ}
 use lib.ListN.{length, take}
 use Rattle.lists.specs.Overwrite.{Wrote}
 use Rattle.lists.proofs.OverwriteLaws.{wrote_read}
-use Rattle.refusal.specs.declared.Checked.TheVariants.{Fine}
 use Rattle.refusal.proofs.TableLaws.{then_fine}
-use Rattle.tolerance.specs.declared.Meaning.{Meaning}
-use Rattle.tolerance.specs.declared.Meaning.TheVariants.{Exact, NotAllowed}
 use Rattle.tolerance.specs.Meaning.{meaning}
 use Rattle.limits.specs.declared.Limits.{Limits}
 use Rattle.kept.proofs.KeptLaws.{each_map}
@@ -27,26 +25,24 @@ use Rattle.trace.proofs.Half.{half_no_longer}
 use Rattle.shortest.specs.Shortest.{minimum_list}
 use Rattle.reduction.specs.declared.Galloped.{Galloped}
 use Rattle.closest.specs.declared.Found.{Found}
-use Rattle.engine.specs.declared.Reduced.TheVariants.{Kept}
-use Rattle.engine.specs.declared.Probed.TheVariants.{Kept as KeptBy}
-use Rattle.engine.specs.declared.Closest.TheVariants.{Kept as KeptAt}
 use Rattle.limits.specs.Prepare.{common_rows, criterion_in, criterion_of, output_rows}
 use Rattle.engine.specs.Reduce.{GreedyList, WalkOutcome, GallopOutcome}
 use Rattle.limits.proofs.PrepareLaws.{common_trace}
 use Rattle.engine.proofs.WriteLaws.{common_held}
 use Rattle.engine.specs.Least.{LeastOutcome}
 use Rattle.promises.specs.Nearness.{NearShortest, Nearest}
+use Rattle.tolerance.specs.declared.Parts.{Parts}
 
 gap_of : (t : Limits) → (criterion_of t).gap ≡ t.gap
 unfolding criterion_of
 gap_of t = go (meaning t.tolerance)
   where
-    go : (m : Meaning) → (criterion_in t.gap m).gap ≡ t.gap
-    go (Exact x) = refl
-    go NotAllowed = refl
+    go : (m : Option Parts) → (criterion_in t.gap m).gap ≡ t.gap
+    go (Some x) = refl
+    go None = refl
 
 module _ (ts : List ℕ) (vs : List ℤ) where
-  greedy_near : (t : Limits) {l o o' : List ℕ} {n : ℕ} → output_rows ts vs t (length o) ≡ Fine → Wrote l o n o' → GreedyList ts vs t l → NearShortest ts vs t n (take n o')
+  greedy_near : (t : Limits) {l o o' : List ℕ} {n : ℕ} → output_rows ts vs t (length o) ≡ Ok tt → Wrote l o n o' → GreedyList ts vs t l → NearShortest ts vs t n (take n o')
   unfolding output_rows
   greedy_near t {l} rows w g =
       let common = (then_fine (common_rows ts vs t) _ rows).0 in
@@ -66,13 +62,13 @@ module _ (ts : List ℕ) (vs : List ℤ) where
         );
       })
 
-  pub walk_near : (t : Limits) {o o' : List ℕ} {n : ℕ} → WalkOutcome ts vs t o (Kept n) o' → NearShortest ts vs t n (take n o')
+  pub walk_near : (t : Limits) {o o' : List ℕ} {n : ℕ} → WalkOutcome ts vs t o (Ok n) o' → NearShortest ts vs t n (take n o')
   walk_near t w = greedy_near t w.rows w.wrote w.list
 
-  pub gallop_near : (t : Limits) {o o' : List ℕ} {g : Galloped} → GallopOutcome ts vs t o (KeptBy g) o' → NearShortest ts vs t g.kept (take g.kept o')
+  pub gallop_near : (t : Limits) {o o' : List ℕ} {g : Galloped} → GallopOutcome ts vs t o (Ok g) o' → NearShortest ts vs t g.kept (take g.kept o')
   gallop_near t w = greedy_near t w.rows w.wrote w.list
 
-  pub least_near : (g m : ℕ) {o o' : List ℕ} {f : Found} → LeastOutcome ts vs g m o (KeptAt f) o' → Nearest ts vs g m f (take f.kept o')
+  pub least_near : (g m : ℕ) {o o' : List ℕ} {f : Found} → LeastOutcome ts vs g m o (Ok f) o' → Nearest ts vs g m f (take f.kept o')
   least_near g m {f} w =
       let l = w.list in
       rw (wrote_read w.wrote) (record {

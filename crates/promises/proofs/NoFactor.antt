@@ -2,6 +2,7 @@
 -- A link over two steps has the error 3, which is more, so walk and gallop keep all n samples. The link from the first sample to the last is
 -- valid, so minimum keeps 2.
 -- Assumes nothing.
+use Rattle.std.specs.Prelude.{Err, Ok, Result, ℕ}
 use mathlib.Core.Path.{◌≡◌, refl, ap, ◌∙◌, subst}
 use mathlib.Core.Bool.{true, false}
 use mathlib.Core.List.{List, [], ◌∷◌}
@@ -17,7 +18,6 @@ use Rattle.ratio.specs.declared.Ratio.{Ratio}
 use Rattle.ratio.specs.Gcd.{lowest}
 use Rattle.ratio.proofs.Laws.{lowest_pos, lowest_equal}
 use Rattle.refusal.specs.declared.Refusal.{Refusal}
-use Rattle.refusal.specs.declared.Checked.TheVariants.{Fine, Refused}
 use Rattle.kept.proofs.WalkLaws.{walk_every}
 use Rattle.kept.proofs.GallopLaws.{gallop_every}
 use Rattle.kept.proofs.MinimumLaws.{minimum_of_lem, minimum_two}
@@ -35,10 +35,6 @@ use Rattle.reduction.specs.declared.Galloped.{Galloped}
 use Rattle.reduction.specs.Walking.{walk_list}
 use Rattle.reduction.specs.Galloping.{gallop_list}
 use Rattle.shortest.specs.Shortest.{minimum_list}
-use Rattle.engine.specs.declared.Reduced.{Reduced}
-use Rattle.engine.specs.declared.Reduced.TheVariants.{Kept, Refused as Declined}
-use Rattle.engine.specs.declared.Probed.{Probed}
-use Rattle.engine.specs.declared.Probed.TheVariants.{Kept as KeptBy, Refused as NotGalloped}
 use Rattle.limits.specs.Prepare.{criterion_of, Sets, ReadyAt, output_rows}
 use Rattle.engine.specs.Reduce.{WalkOutcome, GallopOutcome}
 use Rattle.engine.specs.Minimum.{MinimumOutcome}
@@ -106,7 +102,7 @@ module _ (n : ℕ) (even : n % 2 ≡ 0) (two : 2 ≤ n) (few : n ≤ 4096) where
   sets : Sets (just_wide n) c
   sets = exact_sets (just_wide n) (rw (le-leb 1 (n - 1) (omega arith), le-leb (n - 1) 1048575 (omega arith), le-leb (3 * (n - 2)) (65535 * (n - 1)) (omega arith))) refl
 
-  accepts : (room : ℕ) → n ≤ room → output_rows ts vs (just_wide n) room ≡ Fine
+  accepts : (room : ℕ) → n ≤ room → output_rows ts vs (just_wide n) room ≡ Ok tt
   accepts room h =
       let ready : ReadyAt ts vs (just_wide n) c = sets_ready ts vs (just_wide n) (trace_rows_lem 4096 ts vs trace (omega (arith, size))) sets in
       (room_fine ts vs (just_wide n) room ready (omega (arith, size))).rows
@@ -166,23 +162,23 @@ module _ (n : ℕ) (even : n % 2 ≡ 0) (two : 2 ≤ n) (few : n ≤ 4096) where
   counted : {l o o' : List ℕ} {m : ℕ} → l ≡ every_sample (n - 1) → Wrote l o m o' → m ≡ n
   counted e w = w.count ∙ ap length e ∙ size
 
-  not_refused : {A : Type 0} (o : List ℕ) (x : Refusal) → n ≤ length o → output_rows ts vs (just_wide n) (length o) ≡ Refused x → A
+  not_refused : {A : Type 0} (o : List ℕ) (x : Refusal) → n ≤ length o → output_rows ts vs (just_wide n) (length o) ≡ Err x → A
   not_refused o x h e =
-      let f : output_rows ts vs (just_wide n) (length o) ≡ Fine = accepts (length o) h in
+      let f : output_rows ts vs (just_wide n) (length o) ≡ Ok tt = accepts (length o) h in
       let z : ◌≡◌ {A = ℕ} 0 1 = cc in
       absurd (omega arith)
 
-  walked : (o o' : List ℕ) (r : Reduced) → n ≤ length o → WalkOutcome ts vs (just_wide n) o r o' → r ≡ Kept n
-  walked o o' (Kept m) h w = ap Kept (counted walks w.wrote)
-  walked o o' (Declined x) h w = not_refused o x h w.0
+  walked : (o o' : List ℕ) (r : Result ℕ Refusal) → n ≤ length o → WalkOutcome ts vs (just_wide n) o r o' → r ≡ Ok n
+  walked o o' (Ok m) h w = ap Ok (counted walks w.wrote)
+  walked o o' (Err x) h w = not_refused o x h w.0
 
-  galloped : (o o' : List ℕ) (r : Probed) → n ≤ length o → GallopOutcome ts vs (just_wide n) o r o' → (g : Galloped) × (r ≡ KeptBy g) × (g.kept ≡ n)
-  galloped o o' (KeptBy g) h w = (g, refl, counted gallops w.wrote)
-  galloped o o' (NotGalloped x) h w = not_refused o x h w.0
+  galloped : (o o' : List ℕ) (r : Result Galloped Refusal) → n ≤ length o → GallopOutcome ts vs (just_wide n) o r o' → (g : Galloped) × (r ≡ Ok g) × (g.kept ≡ n)
+  galloped o o' (Ok g) h w = (g, refl, counted gallops w.wrote)
+  galloped o o' (Err x) h w = not_refused o x h w.0
 
-  shortened : (o o' : List ℕ) (r : Reduced) → n ≤ length o → MinimumOutcome ts vs (just_wide n) o r o' → r ≡ Kept 2
-  shortened o o' (Kept m) h w = ap Kept (w.wrote.count ∙ ap length shortest)
-  shortened o o' (Declined x) h w = not_refused o x h w.0
+  shortened : (o o' : List ℕ) (r : Result ℕ Refusal) → n ≤ length o → MinimumOutcome ts vs (just_wide n) o r o' → r ≡ Ok 2
+  shortened o o' (Ok m) h w = ap Ok (w.wrote.count ∙ ap length shortest)
+  shortened o o' (Err x) h w = not_refused o x h w.0
 
   pub no_factor : NoFactor n
   no_factor = record {

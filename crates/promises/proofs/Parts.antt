@@ -5,6 +5,7 @@
 -- With walk's and gallop's size, which the contracts have for all fractions a and b whose sum is at most each part:
 --   half_of_smaller         no kept list within half of the smaller part that obeys the gap limit has fewer samples
 -- Assumes nothing.
+use Rattle.std.specs.Prelude.{Ok}
 use mathlib.Core.Path.{◌≡◌, ap, fun_ext}
 use mathlib.Core.Bool.{true}
 use mathlib.Core.List.{List}
@@ -15,7 +16,6 @@ use borrow.Author.Tests.{le-leb, leb-true}
 use Rattle.lists.proofs.Tests.{tests_equal}
 use Rattle.ratio.specs.declared.Ratio.{Ratio}
 use Rattle.ratio.proofs.Laws.{lowest_same}
-use Rattle.refusal.specs.declared.Checked.TheVariants.{Fine}
 use Rattle.tolerance.specs.declared.Parts.{Parts}
 use Rattle.tolerance.specs.declared.Tolerance.{Tolerance}
 use Rattle.tolerance.specs.declared.Tolerance.TheVariants.{Ratio as One, Parts as Each}
@@ -63,6 +63,6 @@ unfolding criterion_of
 same_call s t g e = record { rows = rw e; criterion = rw e }
 
 -- demand 3 as the contracts have it, for half of the smaller part on either side
-pub half_of_smaller : (ts : List ℕ) (vs : List ℤ) (t : Limits) {n : ℕ} → common_rows ts vs t ≡ Fine → NoLonger ts vs (criterion_of t) n
+pub half_of_smaller : (ts : List ℕ) (vs : List ℤ) (t : Limits) {n : ℕ} → common_rows ts vs t ≡ Ok tt → NoLonger ts vs (criterion_of t) n
     → (h : List ℕ) → KeptList (length ts - 1) h → AllValid (valid ts vs (limited (criterion_of t).gap (half (smaller (criterion_of t))))) h → n ≤ length h
 half_of_smaller ts vs t rows bound = let held = common_held ts vs t rows in half_no_longer ts vs (criterion_of t) held.up.positive held.down.positive bound

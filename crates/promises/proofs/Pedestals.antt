@@ -4,6 +4,7 @@
 --   itself_none                    a run compared with itself lists nothing
 --   compare_shift                  a constant added to every value of both runs changes no answer and no list
 -- Assumes nothing.
+use Rattle.std.specs.Prelude.{Err, Ok, Result}
 use mathlib.Core.Path.{◌≡◌, refl, sym, ◌∙◌, ap, subst}
 use mathlib.Core.Bool.{Bool}
 use mathlib.Core.List.{List, [], ◌∷◌, map, Memᴰ}
@@ -20,22 +21,20 @@ use Rattle.channels.proofs.ChannelLaws.{crate_counts}
 use Rattle.trace.proofs.TraceLaws.{rows_counts}
 use Rattle.tolerance.specs.declared.Tolerance.{Tolerance}
 use Rattle.tolerance.specs.Meaning.{meaning}
-use Rattle.pedestals.specs.declared.Check.TheVariants.{Fine}
 use Rattle.listing.specs.declared.Counts.{Counts}
-use Rattle.pedestals.specs.declared.Compared.{Compared}
-use Rattle.pedestals.specs.declared.Compared.TheVariants.{Listed as IsListed, Refused as Declined}
 use Rattle.pedestals.specs.Compare.{Run, values_of, held_ratio, runs_row, channel_row, channel_rows, compare_rows, has_moved, is_noisy, moved_channels, noisy_channels, CompareOutcome}
 use Rattle.verdicts.proofs.SumLaws.{moved_itself, noisy_itself}
 use Rattle.pedestals.proofs.CheckLaws.{passing_factor, passing_lengths}
 use Rattle.promises.specs.Pedestals.{Exactly, added_to, shifted}
 use Rattle.promises.proofs.PedestalShift.{moved_shift, noisy_shift}
+use Rattle.pedestals.specs.declared.Cause.{Cause}
 
 -- ---- the lists
 
 listed_exactly : (f : ℕ → Bool) (m : ℕ) → Exactly f m (listed f m)
 listed_exactly f m = record { only = λ c. listed_only f m; each = λ c. listed_each f m; rises = (listed_rising f m).rises }
 
-module _ {a b : Run} {t : Tolerance} {k : ℕ} {m s : List ℕ} {n : Counts} {m' s' : List ℕ} (r : CompareOutcome a b t k m s (IsListed n) m' s') where
+module _ {a b : Run} {t : Tolerance} {k : ℕ} {m s : List ℕ} {n : Counts} {m' s' : List ℕ} (r : CompareOutcome a b t k m s (Ok n) m' s') where
   pub moved_exactly : Exactly (has_moved (held_ratio (meaning t)) a b) (length a.lengths) (take n.moved m')
   moved_exactly = rw (wrote_read r.moved) (listed_exactly (has_moved (held_ratio (meaning t)) a b) (length a.lengths))
 
@@ -45,7 +44,7 @@ module _ {a b : Run} {t : Tolerance} {k : ℕ} {m s : List ℕ} {n : Counts} {m'
 -- ---- a channel by itself: c and d are channels of two crates that hold the same values in both runs
 
 module _ {a b a' b' : Run} {t : Tolerance} {k : ℕ} {m s e f : List ℕ} {n n' : Counts} {m' s' e' f' : List ℕ}
-    (r : CompareOutcome a b t k m s (IsListed n) m' s') (q : CompareOutcome a' b' t k e f (IsListed n') e' f')
+    (r : CompareOutcome a b t k m s (Ok n) m' s') (q : CompareOutcome a' b' t k e f (Ok n') e' f')
     (c d : ℕ) (inside : c < length a.lengths) (inside' : d < length a'.lengths)
     (first : values_of a c ≡ values_of a' d) (second : values_of b c ≡ values_of b' d) where
   pub moved_own : Memᴰ c (take n.moved m') ↔ Memᴰ d (take n'.moved e')
@@ -64,7 +63,7 @@ module _ {a b a' b' : Run} {t : Tolerance} {k : ℕ} {m s e f : List ℕ} {n n' 
 
 -- ---- a run compared with itself
 
-pub itself_none : {a : Run} {t : Tolerance} {k : ℕ} {m s : List ℕ} {n : Counts} {m' s' : List ℕ} → CompareOutcome a a t k m s (IsListed n) m' s' → (n.moved ≡ 0) × (n.noisy ≡ 0)
+pub itself_none : {a : Run} {t : Tolerance} {k : ℕ} {m s : List ℕ} {n : Counts} {m' s' : List ℕ} → CompareOutcome a a t k m s (Ok n) m' s' → (n.moved ≡ 0) × (n.noisy ≡ 0)
 itself_none {a} {t} {k} {m} {s} r =
     let x = held_ratio (meaning t) in
     let some = passing_factor a a t k (length m) (length s) r.rows in (
@@ -119,7 +118,7 @@ module _ (d : ℤ) where
       unfolding compare_rows
       rows_shift = rw (runs_shift, channels_shift 0 (length a.lengths))
 
-      module _ (fine : compare_rows a b t k room room' ≡ Fine) where
+      module _ (fine : compare_rows a b t k room room' ≡ Ok tt) where
         moved_lists : moved_channels (held_ratio (meaning t)) (shifted d a) (shifted d b) ≡ moved_channels (held_ratio (meaning t)) a b
         moved_lists = listed_alike (length a.lengths)
             (λ c h. rw (values_shift a c, values_shift b c) (moved_shift d (held_ratio (meaning t)) (values_of a c) (values_of b c) (passing_lengths a b t k room room' fine c h)))
@@ -128,8 +127,8 @@ module _ (d : ℤ) where
         noisy_lists = listed_alike (length a.lengths) (λ c h. rw (values_shift a c, values_shift b c) (noisy_shift d k (values_of a c) (values_of b c)))
 
     -- all values being in range again, the two calls answer the same and write the same
-    pub compare_shift : (t : Tolerance) (k : ℕ) (m s : List ℕ) (r : Compared) (m' s' : List ℕ) → CompareOutcome (shifted d a) (shifted d b) t k m s r m' s' ↔ CompareOutcome a b t k m s r m' s'
-    compare_shift t k m s (IsListed n) m' s' =
+    pub compare_shift : (t : Tolerance) (k : ℕ) (m s : List ℕ) (r : Result Counts Cause) (m' s' : List ℕ) → CompareOutcome (shifted d a) (shifted d b) t k m s r m' s' ↔ CompareOutcome a b t k m s r m' s'
+    compare_shift t k m s (Ok n) m' s' =
         let rows = rows_shift t k (length m) (length s) in (
           λ o. let fine = sym rows ∙ o.rows in record {
             rows = fine;
@@ -142,6 +141,6 @@ module _ (d : ℤ) where
             noisy = subst (λ (l : List ℕ). Wrote l s n.noisy s') (sym (noisy_lists t k (length m) (length s) o.rows)) o.noisy;
           },
         )
-    compare_shift t k m s (Declined x) m' s' =
+    compare_shift t k m s (Err x) m' s' =
         let rows = rows_shift t k (length m) (length s) in
         (λ o. (sym rows ∙ o.0, o.1, o.2), λ o. (rows ∙ o.0, o.1, o.2))

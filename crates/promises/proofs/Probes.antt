@@ -2,6 +2,7 @@
 --   probe_budget    the total is the sum over the list written, and bounded by the stops and the samples
 --   probes_alone    two calls that write the same list return the same total, whatever their traces and limits
 -- Assumes nothing.
+use Rattle.std.specs.Prelude.{Ok}
 use mathlib.Core.Path.{◌≡◌, refl, sym, ◌∙◌, ap}
 use mathlib.Core.List.{List}
 use Prim.Native.Nat.{ℕ, ◌-◌, ◌<◌, ◌^◌}
@@ -14,14 +15,13 @@ use Rattle.kept.specs.Gallop.{list_probes}
 use Rattle.kept.proofs.ProbeLaws.{total_stops, total_samples, total_reached, reached_only}
 use Rattle.limits.specs.declared.Limits.{Limits}
 use Rattle.reduction.specs.declared.Galloped.{Galloped}
-use Rattle.engine.specs.declared.Probed.TheVariants.{Kept}
 use Rattle.limits.specs.Prepare.{common_rows, output_rows}
 use Rattle.engine.specs.Reduce.{GallopOutcome}
 use Rattle.limits.proofs.PrepareLaws.{common_trace}
 use Rattle.promises.specs.Probes.{ProbeBudget}
 
 pub probe_budget : {ts : List ℕ} {vs : List ℤ} {t : Limits} {o o' : List ℕ} {g : Galloped}
-    → GallopOutcome ts vs t o (Kept g) o' → ProbeBudget (length ts) (g.kept - 1) g.probes (take g.kept o')
+    → GallopOutcome ts vs t o (Ok g) o' → ProbeBudget (length ts) (g.kept - 1) g.probes (take g.kept o')
 unfolding output_rows
 probe_budget {ts} {vs} {t} w =
     let trace = common_trace ts vs t (then_fine (common_rows ts vs t) _ w.rows).0 in
@@ -36,5 +36,5 @@ probe_budget {ts} {vs} {t} w =
     })
 
 pub probes_alone : {ts us : List ℕ} {vs ws : List ℤ} {t u : Limits} {o o' e e' : List ℕ} {g h : Galloped}
-    → GallopOutcome ts vs t o (Kept g) o' → GallopOutcome us ws u e (Kept h) e' → take g.kept o' ≡ take h.kept e' → g.probes ≡ h.probes
+    → GallopOutcome ts vs t o (Ok g) o' → GallopOutcome us ws u e (Ok h) e' → take g.kept o' ≡ take h.kept e' → g.probes ≡ h.probes
 probes_alone w x same = w.total ∙ ap list_probes same ∙ sym x.total

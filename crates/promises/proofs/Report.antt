@@ -8,6 +8,7 @@
 --   largest_within            it is at most that part
 --   largest_lowest            it is in lowest terms
 -- Assumes nothing.
+use Rattle.std.specs.Prelude.{Err, Ok}
 use mathlib.Core.Path.{◌≡◌, refl, sym, ◌∙◌, ap, subst}
 use mathlib.Core.List.{List}
 use mathlib.Core.Bool.{false}
@@ -21,9 +22,7 @@ use borrow.Author.Tests.{le-leb, lt-leb}
 use Rattle.ratio.specs.Gcd.{gcd, euclid}
 use Rattle.ratio.specs.Order.{AtMost}
 use Rattle.refusal.specs.declared.Refusal.{Refusal}
-use Rattle.refusal.specs.declared.Checked.{Checked}
-use Rattle.refusal.specs.declared.Checked.TheVariants.{Fine, Refused}
-use Rattle.refusal.specs.Table.{◌then_check◌}
+use Rattle.refusal.specs.Table.{◌then_check◌, Checked}
 use Rattle.refusal.proofs.TableLaws.{then_fine}
 use Rattle.limits.specs.declared.Limits.{Limits}
 use Rattle.trace.specs.Trace.{Trace, trace_rows}
@@ -34,11 +33,9 @@ use Rattle.proposed.proofs.WorstLink.{first_worst_lem}
 use Rattle.channels.specs.Channels.{of_channel, crate_row}
 use Rattle.sheet.specs.declared.Summary.{Summary}
 use Rattle.sheet.specs.declared.Totals.{Totals}
-use Rattle.sheet.specs.declared.Reported.TheVariants.{Counted}
 use Rattle.sheet.specs.Report.{kept_row, declined_row, row_of, row_error, largest_error, zeros}
 use Rattle.sheet.proofs.RowLaws.{rows_length, rows_own, row_within, row_positive, row_lowest, largest_one, largest_least}
 use Rattle.sheet.proofs.ReportLaws.{channel_fine, channel_refused, walked_row_lem, walked_kept, walked_length}
-use Rattle.engine.specs.declared.Reduced.TheVariants.{Kept, Refused as Declined}
 use Rattle.limits.specs.Prepare.{limit_rows, common_rows, criterion_of, output_rows}
 use Rattle.limits.proofs.PrepareLaws.{limits_held}
 use Rattle.engine.specs.Reduce.{WalkOutcome}
@@ -46,7 +43,7 @@ use Rattle.reporting.specs.Report.{crate_rows, report_rows, ReportOutcome}
 
 -- ---- the rows
 
-module _ {ts : List ℕ} {vs : List ℤ} {ls : List ℕ} {t : Limits} {o o' : List Summary} {k : Totals} (r : ReportOutcome ts vs ls t o (Counted k) o') where
+module _ {ts : List ℕ} {vs : List ℤ} {ls : List ℕ} {t : Limits} {o o' : List Summary} {k : Totals} (r : ReportOutcome ts vs ls t o (Ok k) o') where
   count : length (report_rows ts vs ls t) ≡ length ls
   count = rows_length (criterion_of t) ts vs 0 ls
 
@@ -86,25 +83,25 @@ module _ {ts : List ℕ} {vs : List ℤ} {ls : List ℕ} {t : Limits} {o o' : Li
 
 -- two crates that hold the same samples for a channel, wherever it stands in each
 pub report_own : {ts us : List ℕ} {vs ws : List ℤ} {ls ms : List ℕ} {t : Limits} {o o' e e' : List Summary} {k m : Totals}
-    → ReportOutcome ts vs ls t o (Counted k) o' → ReportOutcome us ws ms t e (Counted m) e' → (i j : ℕ) → i < length ls → j < length ms
+    → ReportOutcome ts vs ls t o (Ok k) o' → ReportOutcome us ws ms t e (Ok m) e' → (i j : ℕ) → i < length ls → j < length ms
     → of_channel ls i ts ≡ of_channel ms j us → of_channel ls i vs ≡ of_channel ms j ws → get_or o' i zeros ≡ get_or e' j zeros
 report_own r s i j h u a b = rw (report_row r i h, report_row s j u, a, b)
 
 -- ---- a row and walk
 
 module _ (ts : List ℕ) (vs : List ℤ) (t : Limits) {o o' : List ℕ} where
-  walk_fine : {n : ℕ} → WalkOutcome ts vs t o (Kept n) o' → trace_rows 4096 ts vs ≡ Fine
+  walk_fine : {n : ℕ} → WalkOutcome ts vs t o (Ok n) o' → trace_rows 4096 ts vs ≡ Ok tt
   unfolding output_rows common_rows
   walk_fine w = (then_fine (trace_rows 4096 ts vs) _ (then_fine (common_rows ts vs t) _ w.rows).0).0
 
-  walk_trace : {n : ℕ} → WalkOutcome ts vs t o (Kept n) o' → Trace ts vs
+  walk_trace : {n : ℕ} → WalkOutcome ts vs t o (Ok n) o' → Trace ts vs
   walk_trace w = (rows_trace 4096 ts vs (omega arith) (walk_fine w)).0
 
-  pub row_walk : {n : ℕ} → WalkOutcome ts vs t o (Kept n) o' → row_of (criterion_of t) ts vs ≡ kept_row (length ts) n (list_stray ts vs (take n o'))
+  pub row_walk : {n : ℕ} → WalkOutcome ts vs t o (Ok n) o' → row_of (criterion_of t) ts vs ≡ kept_row (length ts) n (list_stray ts vs (take n o'))
   row_walk w = sym (channel_fine (criterion_of t) ts vs (walk_fine w) (walked_row_lem ts vs (criterion_of t) w.wrote refl))
 
   -- the first link with the row's error is there, and the row's sample is that of its measure
-  pub row_sample : {n : ℕ} → WalkOutcome ts vs t o (Kept n) o' → 1 < n → let l = take n o' in let k = first_worst ts vs l in
+  pub row_sample : {n : ℕ} → WalkOutcome ts vs t o (Ok n) o' → 1 < n → let l = take n o' in let k = first_worst ts vs l in
       (k < n - 1) × (error_at ts vs l k ≡ row_error (row_of (criterion_of t) ts vs)) × ((row_of (criterion_of t) ts vs).sample ≡ (measure_at ts vs l k).sample)
   unfolding list_sample
   row_sample {n} w some =
@@ -115,11 +112,11 @@ module _ (ts : List ℕ) (vs : List ℤ) (t : Limits) {o o' : List ℕ} where
       (omega (arith, f.0), rw (row_walk w) f.1, rw (row_walk w, long))
 
   -- walk's own refusal, where the limits are allowed and the output long enough
-  pub row_declined : {x : Refusal} → WalkOutcome ts vs t o (Declined x) o' → limit_rows t ≡ Fine → length ts ≤ length o → row_of (criterion_of t) ts vs ≡ declined_row x
+  pub row_declined : {x : Refusal} → WalkOutcome ts vs t o (Err x) o' → limit_rows t ≡ Ok tt → length ts ≤ length o → row_of (criterion_of t) ts vs ≡ declined_row x
   unfolding output_rows common_rows
   row_declined {x} w fine room =
       sym (channel_refused (criterion_of t) ts vs (only (trace_rows 4096 ts vs) (rw (fine, le-leb (length ts) (length o) room) at w.0)) refl)
     where
-      only : (a : Checked) → (a then_check Fine) then_check Fine ≡ Refused x → a ≡ Refused x
-      only Fine e = e
-      only (Refused y) e = e
+      only : (a : Checked) → ◌≡◌ {A = Checked} ((a then_check Ok tt) then_check Ok tt) (Err x) → a ≡ Err x
+      only (Ok _) e = e
+      only (Err y) e = e

@@ -4,6 +4,7 @@
 --   walk_prefixes   walk's list of the trace up to sample j is the samples of its list that lie before j, and j: one list answers for all shorter traces
 --   one_rows        a scan at one tolerance is refused exactly as `walk` is, with the same cause
 -- Assumes nothing.
+use Rattle.std.specs.Prelude.{Err, None, Ok, Option, Result, Some, ℕ}
 use mathlib.Core.Path.{◌≡◌, refl, sym, ap, ◌∙◌}
 use mathlib.Core.Logic.{⊎_elim}
 use mathlib.Core.Bool.{Bool}
@@ -19,8 +20,6 @@ use Rattle.lists.specs.Overwrite.{overwrite}
 use Rattle.lists.proofs.Tests.{by_test}
 use Rattle.refusal.specs.Table.{room_row, ◌then_check◌}
 use Rattle.refusal.proofs.TableLaws.{then_assoc, refused_fine}
-use Rattle.tolerance.specs.declared.Meaning.{Meaning}
-use Rattle.tolerance.specs.declared.Meaning.TheVariants.{Exact, NotAllowed}
 use Rattle.tolerance.specs.Meaning.{meaning}
 use Rattle.kept.specs.Kept.{StepsValid}
 use Rattle.kept.specs.Walk.{walk_of}
@@ -36,17 +35,17 @@ use Rattle.tolerances.specs.Tolerances.{limits_at, bad_at, several_rows, scan_ro
 use Rattle.scans.specs.Answers.{part, kept_before}
 use Rattle.scans.proofs.WalkedLaws.{kept_more, kept_closes}
 use Rattle.scans.proofs.StreamLaws.{kept_streams}
-use Rattle.engine.specs.declared.Reduced.{Reduced}
-use Rattle.engine.specs.declared.Reduced.TheVariants.{Kept, Refused as Declined}
 use Rattle.engine.specs.Reduce.{ok_of, WalkOutcome}
 use Rattle.engine.specs.Scan.{ScanKept}
 use Rattle.promises.specs.Scans.{samples_below}
+use Rattle.tolerance.specs.declared.Parts.{Parts}
+use Rattle.refusal.specs.declared.Refusal.{Refusal}
 
 module _ {ts : List ℕ} {vs : List ℤ} {t : Tolerances} {g : ℕ} {o counts o' : List ℕ} (s : ScanKept ts vs t g o counts o') (a : ℕ) (lt : a < t.count) where
   -- the separate call is lent the part as it was
-  pub scan_separate : (r : Reduced) (p : List ℕ) → WalkOutcome ts vs (limits_at t g a) (part (length ts) a o) r p → (r ≡ Kept (get_or counts a 0)) × (p ≡ part (length ts) a o')
-  scan_separate (Kept n) p w = (ap Kept (w.wrote.count ∙ sym (s.each a lt).wrote.count), w.wrote.content ∙ sym (s.each a lt).wrote.content)
-  scan_separate (Declined x) p w = refused_fine (sym w.0 ∙ (s.each a lt).rows)
+  pub scan_separate : (r : Result ℕ Refusal) (p : List ℕ) → WalkOutcome ts vs (limits_at t g a) (part (length ts) a o) r p → (r ≡ Ok (get_or counts a 0)) × (p ≡ part (length ts) a o')
+  scan_separate (Ok n) p w = (ap Ok (w.wrote.count ∙ sym (s.each a lt).wrote.count), w.wrote.content ∙ sym (s.each a lt).wrote.content)
+  scan_separate (Err x) p w = refused_fine (sym w.0 ∙ (s.each a lt).rows)
 
   -- j is a sample of the trace, and its first samples up to j are scanned by another call
   pub scan_up_to : {j : ℕ} {q counts₂ q' : List ℕ} → j < length ts → ScanKept (take (suc j) ts) (take (suc j) vs) t g q counts₂ q'
@@ -104,10 +103,10 @@ module _ (ts : List ℕ) (vs : List ℤ) (e : Entry) (l : List Entry) (g room : 
   abbrev one : Tolerances
   one = record { count = 1; list = e ∷ l }
 
-  each_rows : (m : Meaning) → meaning e.tolerance ≡ m → several_rows one g (length ts) room ≡ limit_rows (limits_at one g 0) then_check room_row (length ts) room
+  each_rows : (m : Option Parts) → meaning e.tolerance ≡ m → several_rows one g (length ts) room ≡ limit_rows (limits_at one g 0) then_check room_row (length ts) room
   unfolding several_rows bad_at first first_of
-  each_rows (Exact x) q = let n : 1 * length ts ≡ length ts = omega arith in rw (q, n)
-  each_rows NotAllowed q = rw q
+  each_rows (Some x) q = let n : 1 * length ts ≡ length ts = omega arith in rw (q, n)
+  each_rows None q = rw q
 
   pub one_rows : scan_rows ts vs one g room ≡ output_rows ts vs (limits_at one g 0) room
   unfolding scan_rows output_rows common_rows

@@ -4,6 +4,7 @@
 --   sum_judged, sum_link_row                    at every tolerance of which neither part is below 2 (T1 + T2) judge passes the joined list, and write does not refuse it as 7
 --   sum_kept                                    no more samples are kept than by both lists together, the ends counted once
 -- Assumes nothing.
+use Rattle.std.specs.Prelude.{Err, Ok, Result, ℕ}
 use mathlib.Core.Path.{◌≡◌, refl, sym, ◌∙◌, ap, subst}
 use mathlib.Core.Logic.{◌↔◌, ⊎_elim}
 use mathlib.Core.Bool.{Bool, true, false, cond, ◌&&◌, ◌||◌}
@@ -17,7 +18,6 @@ use borrow.Author.Tests.{le-leb, leb-true, leb-false, eqb-true}
 use Rattle.lists.specs.Listed.{listed}
 use Rattle.lists.specs.Overwrite.{overwrite}
 use Rattle.lists.proofs.Tests.{by_test, and_true, or_cases, true_false}
-use Rattle.refusal.specs.declared.Checked.TheVariants.{Fine}
 use Rattle.ratio.specs.declared.Ratio.{Ratio}
 use Rattle.ratio.specs.Order.{AtMost}
 use Rattle.kept.specs.Kept.{KeptList, AllValid}
@@ -34,8 +34,6 @@ use Rattle.summed.proofs.EntryLaws.{first_entry, last_entry, entries_listed}
 use Rattle.summed.proofs.JoinLaws.{joined_swap, joined_part}
 use Rattle.summed.proofs.SumLaws.{sums_swap}
 use Rattle.summed.proofs.RowLaws.{rows_addable, addable_fine}
-use Rattle.engine.specs.declared.Reduced.{Reduced}
-use Rattle.engine.specs.declared.Reduced.TheVariants.{Kept, Refused as Declined}
 use Rattle.limits.specs.declared.Limits.{Limits}
 use Rattle.judging.specs.declared.Verdict.{Verdict}
 use Rattle.judging.specs.declared.Verdict.TheVariants.{Yes}
@@ -46,11 +44,12 @@ use Rattle.engine.specs.Sum.{Summed, SumOutcome}
 use Rattle.engine.proofs.SumLaws.{sum_outcome}
 use Rattle.promises.specs.Sums.{zeros, ends}
 use Rattle.promises.proofs.Standing.{sum_stands}
+use Rattle.refusal.specs.declared.Refusal.{Refusal}
 
 -- ---- exchanged
 
 module _ (ts us : List ℕ) (vs ws : List ℤ) (l m : List ℕ) (room room' : ℕ) where
-  pub rows_swap : sum_rows ts vs us ws l m room room' ≡ Fine → sum_rows us ws ts vs m l room room' ≡ Fine
+  pub rows_swap : sum_rows ts vs us ws l m room room' ≡ Ok tt → sum_rows us ws ts vs m l room room' ≡ Ok tt
   rows_swap e =
       let a = rows_addable ts vs us ws l m room room' e in
       let t = a.trace in
@@ -63,7 +62,7 @@ module _ (ts us : List ℕ) (vs ws : List ℤ) (l m : List ℕ) (room room' : �
         entries = omega (arith, s.same, s.entries);
       } in
       let lists : Joinable (length ts) m l room' = record { some = j.some; few = j.few; first = j.second; second = j.first; entries = j.entries } in
-      subst (λ (x : List ℕ). sum_rows x ws ts vs m l room room' ≡ Fine) (sym a.ticks) (addable_fine trace sums lists)
+      subst (λ (x : List ℕ). sum_rows x ws ts vs m l room room' ≡ Ok tt) (sym a.ticks) (addable_fine trace sums lists)
 
 module _ {ts us : List ℕ} {vs ws : List ℤ} {l m : List ℕ} {o : List ℤ} {p : List ℕ} {n : ℕ} {o' : List ℤ} {p' : List ℕ} where
   swapped : Summed ts vs us ws l m o p n o' p' → Summed us ws ts vs m l o p n o' p'
@@ -72,7 +71,7 @@ module _ {ts us : List ℕ} {vs ws : List ℤ} {l m : List ℕ} {o : List ℤ} {
       sum_outcome us ws ts vs m l o p (rows_swap ts us vs ws l m (length o) (length p) s.rows) (rw (sums_swap ws vs) s.sums) (rw (joined_swap (length us) m l, ticks) s.joined)
 
 pub sum_swap : {ts us : List ℕ} {vs ws : List ℤ} {l m : List ℕ} {o : List ℤ} {p : List ℕ} {n : ℕ} {o' : List ℤ} {p' : List ℕ}
-    → SumOutcome ts vs us ws l m o p (Kept n) o' p' ↔ SumOutcome us ws ts vs m l o p (Kept n) o' p'
+    → SumOutcome ts vs us ws l m o p (Ok n) o' p' ↔ SumOutcome us ws ts vs m l o p (Ok n) o' p'
 sum_swap = (swapped, swapped)
 
 -- ---- zeros and both ends
@@ -101,8 +100,8 @@ sums_zeros (v ∷ vs) = rw (+ℤ_idr v, sums_zeros vs)
 
 module _ (ts : List ℕ) (vs : List ℤ) (l : List ℕ) where
   -- a trace and its list that pass on their own, with values in range, are accepted
-  pub zeros_accepted : (room room' : ℕ) → trace_rows 4096 ts vs ≡ Fine → list_row (length ts) l ≡ Fine → ((k : ℕ) → k < length vs → outside (value vs k) ≡ false)
-      → length ts ≤ room → length ts ≤ room' → sum_rows ts vs ts (zeros (length ts)) l (ends (length ts)) room room' ≡ Fine
+  pub zeros_accepted : (room room' : ℕ) → trace_rows 4096 ts vs ≡ Ok tt → list_row (length ts) l ≡ Ok tt → ((k : ℕ) → k < length vs → outside (value vs k) ≡ false)
+      → length ts ≤ room → length ts ≤ room' → sum_rows ts vs ts (zeros (length ts)) l (ends (length ts)) room room' ≡ Ok tt
   zeros_accepted room room' trace list inside fits fits' =
       let t = (rows_trace 4096 ts vs (omega arith) trace).0 in
       addable_fine t
@@ -114,7 +113,7 @@ module _ (ts : List ℕ) (vs : List ℤ) (l : List ℕ) where
       (record { some = t.some; few = t.few; first = (row_kept t.some l).0 list; second = ends_kept (length ts) t.some; entries = fits' })
 
   module _ {o : List ℤ} {p : List ℕ} {o' : List ℤ} {p' : List ℕ} where
-    pub sum_zeros : {n : ℕ} → SumOutcome ts vs ts (zeros (length ts)) l (ends (length ts)) o p (Kept n) o' p' → (n ≡ length l) × (o' ≡ overwrite vs o) × (p' ≡ overwrite l p)
+    pub sum_zeros : {n : ℕ} → SumOutcome ts vs ts (zeros (length ts)) l (ends (length ts)) o p (Ok n) o' p' → (n ≡ length l) × (o' ≡ overwrite vs o) × (p' ≡ overwrite l p)
     sum_zeros s =
         let a = rows_addable ts vs ts (zeros (length ts)) l (ends (length ts)) (length o) (length p) s.rows in
         let kept = a.joinable.first in
@@ -123,11 +122,11 @@ module _ (ts : List ℕ) (vs : List ℤ) (l : List ℕ) where
         (s.joined.count ∙ ap length joined, rw sums at s.sums, rw joined at s.joined.content)
 
   -- so whatever such a call answers
-  module _ (trace : trace_rows 4096 ts vs ≡ Fine) (list : list_row (length ts) l ≡ Fine) (inside : (k : ℕ) → k < length vs → outside (value vs k) ≡ false) (o o' : List ℤ) (p p' : List ℕ) where
+  module _ (trace : trace_rows 4096 ts vs ≡ Ok tt) (list : list_row (length ts) l ≡ Ok tt) (inside : (k : ℕ) → k < length vs → outside (value vs k) ≡ false) (o o' : List ℤ) (p p' : List ℕ) where
     pub zeros_answered : length ts ≤ length o → length ts ≤ length p
-        → (r : Reduced) → SumOutcome ts vs ts (zeros (length ts)) l (ends (length ts)) o p r o' p' → (r ≡ Kept (length l)) × (o' ≡ overwrite vs o) × (p' ≡ overwrite l p)
-    zeros_answered fits fits' (Kept n) s = let x = sum_zeros s in (ap Kept x.0, x.1, x.2)
-    zeros_answered fits fits' (Declined c) s =
+        → (r : Result ℕ Refusal) → SumOutcome ts vs ts (zeros (length ts)) l (ends (length ts)) o p r o' p' → (r ≡ Ok (length l)) × (o' ≡ overwrite vs o) × (p' ≡ overwrite l p)
+    zeros_answered fits fits' (Ok n) s = let x = sum_zeros s in (ap Ok x.0, x.1, x.2)
+    zeros_answered fits fits' (Err c) s =
         let fine = zeros_accepted (length o) (length p) trace list inside fits fits' in
         let refused = s.0 in
         let z : ◌≡◌ {A = ℕ} 0 1 = cc in
@@ -136,9 +135,9 @@ module _ (ts : List ℕ) (vs : List ℤ) (l : List ℕ) where
 -- ---- at the bound
 
 -- the lists are within U1, D1 and U2, D2 and obey g; t has an allowed tolerance of which neither part is below their sum, and a gap limit that is not below g
-module _ {ts us : List ℕ} {vs ws : List ℤ} {l m : List ℕ} {o o' : List ℤ} {p p' : List ℕ} {n : ℕ} (u d v e : Ratio) (g : ℕ) (s : SumOutcome ts vs us ws l m o p (Kept n) o' p')
+module _ {ts us : List ℕ} {vs ws : List ℤ} {l m : List ℕ} {o o' : List ℤ} {p p' : List ℕ} {n : ℕ} (u d v e : Ratio) (g : ℕ) (s : SumOutcome ts vs us ws l m o p (Ok n) o' p')
     (first : StandsFor ts vs (parted g u d) l) (second : StandsFor us ws (parted g v e) m)
-    (t : Limits) (allowed : limit_rows t ≡ Fine) (above : AtMost (parts_sum u d v e) (criterion_of t).up) (below : AtMost (parts_sum u d v e) (criterion_of t).down) (limit : g ≤ (criterion_of t).gap) where
+    (t : Limits) (allowed : limit_rows t ≡ Ok tt) (above : AtMost (parts_sum u d v e) (criterion_of t).up) (below : AtMost (parts_sum u d v e) (criterion_of t).down) (limit : g ≤ (criterion_of t).gap) where
   joined_stands : StandsFor ts (sums_of vs ws) (limited g (parts_sum u d v e)) (take n p')
   joined_stands = sum_stands u d v e g s first second
 
@@ -148,14 +147,14 @@ module _ {ts us : List ℕ} {vs ws : List ℤ} {l m : List ℕ} {o o' : List ℤ
       = record { up_some = joined_stands.up_positive; down_some = joined_stands.down_positive; up = above; down = below } in
       each_map (valid_wider ts (sums_of vs ws) (limited g (parts_sum u d v e)) (criterion_of t) wide limit) (take n p') joined_stands.within
 
-  pub sum_judged : (r : Verdict) → JudgeOutcome ts (sums_of vs ws) (take n p') t r → r ≡ Yes
+  pub sum_judged : (r : Result Verdict Refusal) → JudgeOutcome ts (sums_of vs ws) (take n p') t r → r ≡ Ok Yes
   unfolding judge_rows common_rows
   sum_judged r h =
       let k = joined_stands in
       let trace = trace_rows_lem 4096 ts (sums_of vs ws) k.trace k.trace.few in
       h.passed.1 (rw (trace, allowed) ((row_kept k.trace.some (take n p')).1 k.kept), k.kept, joined_valid)
 
-  pub sum_link_row : link_row ts (sums_of vs ws) (take n p') t ≡ Fine
+  pub sum_link_row : link_row ts (sums_of vs ws) (take n p') t ≡ Ok tt
   sum_link_row = rw (le-leb (length (take n p') - 1) (first_invalid ts (sums_of vs ws) (criterion_of t) (take n p')) ((all_valid ts (sums_of vs ws) (criterion_of t) (take n p')).1 joined_valid))
 
 -- ---- how many samples are kept
@@ -175,7 +174,7 @@ counted_once f g h both (suc n) = simp length-append (omega (arith, counted_once
     one false b true e = true_false (e refl) refl
 
 pub sum_kept : {ts us : List ℕ} {vs ws : List ℤ} {l m : List ℕ} {o : List ℤ} {p : List ℕ} {n : ℕ} {o' : List ℤ} {p' : List ℕ}
-    → SumOutcome ts vs us ws l m o p (Kept n) o' p' → n + length (ends (length ts)) ≤ length l + length m
+    → SumOutcome ts vs us ws l m o p (Ok n) o' p' → n + length (ends (length ts)) ≤ length l + length m
 unfolding joined_of
 sum_kept {ts} {us} {vs} {ws} {l} {m} {o} {p} s =
     let j = (rows_addable ts vs us ws l m (length o) (length p) s.rows).joinable in

@@ -2,6 +2,7 @@
 -- changed only by additions, its error is at most twice that of every kept list of the samples so far with at most k inner samples, so at most twice what `least`
 -- returns for k + 2 samples.
 -- Assumes nothing.
+use Rattle.std.specs.Prelude.{Ok}
 use mathlib.Core.Path.{◌≡◌, refl, sym, ap, ◌∙◌, subst}
 use mathlib.Core.List.{List}
 use Prim.Native.Nat.{ℕ, zero, suc, ◌+◌, ◌-◌, ◌≤◌, ◌<◌}
@@ -9,7 +10,6 @@ use native.Mathlib.Omega.{arith}
 use lib.IntN.{ℤ}
 use lib.ListN.{length, take}
 use lib.Seq.{length-take-le}
-use Rattle.refusal.specs.declared.Checked.TheVariants.{Fine}
 use Rattle.refusal.proofs.TableLaws.{then_fine}
 use Rattle.ratio.specs.Order.{AtMost}
 use Rattle.kept.specs.Kept.{KeptList}
@@ -23,7 +23,6 @@ use Rattle.live.specs.declared.View.{View}
 use Rattle.live.specs.Live.{fresh, entries, state_row, add_rows, grown, Grown}
 use Rattle.live.proofs.LiveLaws.{begun_view, state_exact}
 use Rattle.closest.specs.declared.Found.{Found}
-use Rattle.engine.specs.declared.Closest.TheVariants.{Kept as KeptAt}
 use Rattle.engine.specs.Least.{LeastOutcome}
 use Rattle.promises.specs.Views.{Watched, Shows}
 use Rattle.promises.proofs.Nearness.{least_near}
@@ -81,7 +80,7 @@ module _ (ts : List ℕ) (vs : List ℤ) (k : ℕ) where
 
   -- at most twice what `least` returns for at most k + 2 of the samples so far, under any gap limit
   pub watched_least : (n : ℕ) (v : View) → n < length ts → Watched ts vs k n v
-      → (g m : ℕ) {o o' : List ℕ} {f : Found} → m ≤ k + 2 → LeastOutcome (so_far n) (values_so_far n) g m o (KeptAt f) o' → AtMost (list_error (so_far n) (values_so_far n) (entries v)) (twice f.error)
+      → (g m : ℕ) {o o' : List ℕ} {f : Found} → m ≤ k + 2 → LeastOutcome (so_far n) (values_so_far n) g m o (Ok f) o' → AtMost (list_error (so_far n) (values_so_far n) (entries v)) (twice f.error)
   watched_least n v h w g m few answered =
       let l = least_near (so_far n) (values_so_far n) g m answered in
       let long : length (so_far n) ≡ suc n = length-take-le (suc n) ts (omega arith) in
@@ -89,7 +88,7 @@ module _ (ts : List ℕ) (vs : List ℤ) (k : ℕ) where
       rw (← l.error) (watched_close n v h w _ (rw last at l.kept) (omega (arith, l.few)))
 
 -- the state that an addition leaves is none that the next one refuses
-pub next_passes : (ts : List ℕ) (vs : List ℤ) (before : View) {after : View} → Grown ts vs before after → state_row (length ts) after ≡ Fine
+pub next_passes : (ts : List ℕ) (vs : List ℤ) (before : View) {after : View} → Grown ts vs before after → state_row (length ts) after ≡ Ok tt
 unfolding add_rows grown
 next_passes ts vs before {after} g =
     let passed = (state_exact (length ts - 1) before).0 (then_fine (trace_rows 4096 ts vs) (state_row (length ts - 1) before) g.rows).1 in

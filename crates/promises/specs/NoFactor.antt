@@ -4,8 +4,7 @@
 --   just_wide      the tolerance 3 (n - 2) / (n - 1), at which the link from the first sample to the last is valid, and no gap limit
 --   NoFactor       at this tolerance walk and gallop keep all n samples, and minimum keeps 2
 -- The theorem is in proofs/NoFactor. Assumes nothing.
-use Rattle.std.specs.Prelude.{◌≡◌, List, [], ◌∷◌, map, ℕ, ◌-◌, ◌*◌, ◌%◌, ◌≤◌, ℤ, pos, length}
-use Rattle.refusal.specs.declared.Checked.TheVariants.{Fine}
+use Rattle.std.specs.Prelude.{◌≡◌, List, [], ◌∷◌, map, ℕ, ◌-◌, ◌*◌, ◌%◌, ◌≤◌, ℤ, pos, length, Ok, Result}
 use Rattle.tolerance.specs.declared.Tolerance.TheVariants.{Ratio}
 use Rattle.heights.specs.Heights.{every_sample}
 use Rattle.reduction.specs.declared.Galloped.{Galloped}
@@ -13,13 +12,10 @@ use Rattle.reduction.specs.Walking.{walk_list}
 use Rattle.reduction.specs.Galloping.{gallop_list}
 use Rattle.shortest.specs.Shortest.{minimum_list}
 use Rattle.limits.specs.declared.Limits.{Limits}
-use Rattle.engine.specs.declared.Reduced.{Reduced}
-use Rattle.engine.specs.declared.Reduced.TheVariants.{Kept}
-use Rattle.engine.specs.declared.Probed.{Probed}
-use Rattle.engine.specs.declared.Probed.TheVariants.{Kept as KeptBy}
 use Rattle.limits.specs.Prepare.{unlimited, criterion_of, output_rows}
 use Rattle.engine.specs.Reduce.{WalkOutcome, GallopOutcome}
 use Rattle.engine.specs.Minimum.{MinimumOutcome}
+use Rattle.refusal.specs.declared.Refusal.{Refusal}
 
 abbrev pub counting : ℕ → List ℕ
 counting n = every_sample (n - 1)
@@ -32,12 +28,12 @@ just_wide n = unlimited (Ratio (3 * (n - 2)) (n - 1))
 
 pub record NoFactor (n : ℕ) : Type 0 where
   -- no row of the table applies, for an output of n entries or more
-  pub accepted : (room : ℕ) → n ≤ room → output_rows (counting n) (zigzag n) (just_wide n) room ≡ Fine
+  pub accepted : (room : ℕ) → n ≤ room → output_rows (counting n) (zigzag n) (just_wide n) room ≡ Ok tt
   -- the lists
   pub walk : walk_list (counting n) (zigzag n) (criterion_of (just_wide n)) ≡ every_sample (n - 1)
   pub gallop : gallop_list (counting n) (zigzag n) (criterion_of (just_wide n)) ≡ every_sample (n - 1)
   pub minimum : minimum_list (counting n) (zigzag n) (criterion_of (just_wide n)) ≡ 0 ∷ (n - 1) ∷ []
   -- what the calls answer
-  pub walk_answers : (o o' : List ℕ) (r : Reduced) → n ≤ length o → WalkOutcome (counting n) (zigzag n) (just_wide n) o r o' → r ≡ Kept n
-  pub gallop_answers : (o o' : List ℕ) (r : Probed) → n ≤ length o → GallopOutcome (counting n) (zigzag n) (just_wide n) o r o' → (g : Galloped) × (r ≡ KeptBy g) × (g.kept ≡ n)
-  pub minimum_answers : (o o' : List ℕ) (r : Reduced) → n ≤ length o → MinimumOutcome (counting n) (zigzag n) (just_wide n) o r o' → r ≡ Kept 2
+  pub walk_answers : (o o' : List ℕ) (r : Result ℕ Refusal) → n ≤ length o → WalkOutcome (counting n) (zigzag n) (just_wide n) o r o' → r ≡ Ok n
+  pub gallop_answers : (o o' : List ℕ) (r : Result Galloped Refusal) → n ≤ length o → GallopOutcome (counting n) (zigzag n) (just_wide n) o r o' → (g : Galloped) × (r ≡ Ok g) × (g.kept ≡ n)
+  pub minimum_answers : (o o' : List ℕ) (r : Result ℕ Refusal) → n ≤ length o → MinimumOutcome (counting n) (zigzag n) (just_wide n) o r o' → r ≡ Ok 2

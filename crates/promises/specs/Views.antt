@@ -2,8 +2,7 @@
 --   Watched    the state after a run of calls: a view begun from k, then n additions, each lent the samples so far with the new one last
 --   Shows      what such a state shows of the samples so far
 -- A refused addition leaves the state as it was, so that a run is the same without it. The theorems are in proofs/Views. Assumes nothing.
-use Rattle.std.specs.Prelude.{◌≡◌, List, ℕ, zero, suc, ◌+◌, ◌*◌, ◌≤◌, ℤ, length, take}
-use Rattle.refusal.specs.declared.Checked.TheVariants.{Fine}
+use Rattle.std.specs.Prelude.{◌≡◌, List, ℕ, zero, suc, ◌+◌, ◌*◌, ◌≤◌, ℤ, length, take, Ok}
 use Rattle.ratio.specs.Order.{AtMost}
 use Rattle.kept.specs.Kept.{KeptList}
 use Rattle.views.specs.View.{view_of, twice}
@@ -13,8 +12,8 @@ use Rattle.live.specs.Live.{begun_of, entries, AddOutcome}
 
 -- of the samples of ts and vs, call n lends the first n + 1
 unfoldable pub Watched : List ℕ → List ℤ → ℕ → ℕ → View → Type 0
-Watched ts vs k zero v = begun_of k ≡ record { checked = Fine; view = v }
-Watched ts vs k (suc n) v = (u : View) × (Watched ts vs k n u × AddOutcome (take (suc (suc n)) ts) (take (suc (suc n)) vs) u Fine v)
+Watched ts vs k zero v = begun_of k ≡ Ok v
+Watched ts vs k (suc n) v = (u : View) × (Watched ts vs k n u × AddOutcome (take (suc (suc n)) ts) (take (suc (suc n)) vs) u (Ok tt) v)
 
 -- of samples 0 to n: a kept list with at most 2k inner samples, whose error is at most twice that of every kept list with at most k
 pub record Shows (ts : List ℕ) (vs : List ℤ) (k n : ℕ) (v : View) : Type 0 where

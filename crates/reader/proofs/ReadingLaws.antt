@@ -1,52 +1,52 @@
 -- Laws of the outcomes: what the header, a record's verdict and the bytes of two records say.
 -- Assumes nothing.
+use Rattle.std.specs.Prelude.{Result, Err, Ok, is_ok}
+use Rattle.std.proofs.lemmas.Bool.{false≢true}
 use mathlib.Core.Path.{◌≡◌, refl, sym, ap, ◌∙◌, subst}
 use mathlib.Core.Logic.{◌↔◌}
-use mathlib.Core.Bool.{false, ◌&&◌}
+use mathlib.Core.Bool.{Bool, true, false, ◌&&◌}
 use mathlib.Core.List.{List}
 use Prim.Native.Nat.{ℕ, ◌≤◌}
 use native.Mathlib.Omega.{arith}
-use borrow.Author.Tests.{le-leb}
+use borrow.Author.Tests.{leb-true}
 use lib.Dec.{leb}
 use lib.IntN.{ℤ}
 use lib.ListN.{length, take, length-drop}
 use Rattle.lists.proofs.OverwriteLaws.{wrote_read}
 use Rattle.refusal.specs.declared.Refusal.{Refusal}
-use Rattle.refusal.specs.declared.Refusal.TheVariants.{Record, SecondRecord, Room}
-use Rattle.refusal.specs.declared.Checked.TheVariants.{Fine, Refused as Declined}
-use Rattle.refusal.specs.Table.{◌then_check◌}
+use Rattle.refusal.specs.declared.Refusal.TheVariants.{Record, Room}
+use Rattle.refusal.proofs.TableLaws.{row_fine}
+use Rattle.refusal.specs.Table.{row, room_row, ◌then_check◌}
 use Rattle.tolerance.specs.declared.Parts.{Parts}
 use Rattle.trace.specs.Trace.{Trace}
-use Rattle.format.specs.declared.Cursor.{Cursor}
 use Rattle.format.specs.declared.Header.{Header}
-use Rattle.format.specs.declared.Header.TheVariants.{Start, Fault as NoHeader}
+use Rattle.format.specs.declared.Fault.{Fault}
 use Rattle.format.specs.Number.{Bytes}
 use Rattle.format.specs.Format.{Content, Accepted, SameRecord, Samples, fault, samples, samples_from, header_of, Parsed, faulty, says, attach, began, parse}
 use Rattle.format.proofs.HeaderLaws.{tolerance_size, by_first, by_tolerance}
 use Rattle.format.proofs.EncodeParse.{encode_parse}
 use Rattle.format.proofs.SameLaws.{same_bytes}
-use Rattle.commands.specs.declared.Verdict.{Verdict}
-use Rattle.commands.specs.Passing.{record_verdict, AfterFirst, Fitting, Filled}
-use Rattle.reader.specs.Reading.{record_row, read_rows, same_rows, Said, CheckOutcome, ReadBack, Compared, SameOutcome}
+use Rattle.commands.specs.Passing.{Verdict, record_verdict, AfterFirst, Fitting, Filled}
+use Rattle.reader.specs.Reading.{read_rows, same_rows, Said, CheckOutcome, ReadBack, ReadDeclined, Compared, SameOutcome}
 use Rattle.reader.specs.declared.Comparison.{Comparison}
-use Rattle.reader.specs.declared.Comparison.TheVariants.{Same, Different, Refused as NotCompared}
+use Rattle.reader.specs.declared.Comparison.TheVariants.{Same, Different}
 
 -- ---- the header
 
-pub parse_start : (b : List ℕ) {x : Parts} {c : Cursor} → header_of b ≡ Start x c → parse b ≡ attach x (samples_from b c)
+pub parse_start : (b : List ℕ) {h : Header} → header_of b ≡ Ok h → parse b ≡ attach h.tolerance (samples_from b h.first)
 unfolding parse
 parse_start b e = ap (began b) e
 
-pub parse_fault : (b : List ℕ) {k : ℕ} → header_of b ≡ NoHeader k → parse b ≡ faulty k
+pub parse_fault : (b : List ℕ) {fault : Fault} → header_of b ≡ Err fault → parse b ≡ faulty fault.at
 unfolding parse
 parse_fault b e = ap (began b) e
 
-AfterFirstBy : ℕ → Header → Type 0
-AfterFirstBy n (Start x c) = AfterFirst n c
-AfterFirstBy n (NoHeader k) = Unit {0}
+AfterFirstBy : ℕ → Result Header Fault → Type 0
+AfterFirstBy n (Ok h) = AfterFirst n h.first
+AfterFirstBy n (Err _) = Unit {0}
 
 -- the cursor after the first sample
-pub header_after_first : {b : List ℕ} → Bytes b → {x : Parts} {c : Cursor} → header_of b ≡ Start x c → AfterFirst (length b) c
+pub header_after_first : {b : List ℕ} → Bytes b → {h : Header} → header_of b ≡ Ok h → AfterFirst (length b) h.first
 unfolding AfterFirstBy
 header_after_first {b} by e =
     subst (AfterFirstBy (length b)) e (by_tolerance by (AfterFirstBy (length b)) tt
@@ -66,7 +66,7 @@ verdict {b} by e = subst (CheckOutcome b) (sym e) (go (parse b) refl)
     go (says x) e = record { content = x; accepted = encode_parse by e; count = refl; tolerance = refl }
 
 -- the count of the samples after the header is such a verdict
-pub counted : {b : List ℕ} {x : Parts} {c : Cursor} {v : Verdict} → Bytes b → header_of b ≡ Start x c → v ≡ record_verdict (attach x (samples_from b c)) → CheckOutcome b v
+pub counted : {b : List ℕ} {h : Header} {v : Verdict} → Bytes b → header_of b ≡ Ok h → v ≡ record_verdict (attach h.tolerance (samples_from b h.first)) → CheckOutcome b v
 counted {b} by start is = verdict by (is ∙ sym (ap record_verdict (parse_start b start)))
 
 -- ---- read
@@ -80,23 +80,31 @@ unfolding samples_of
 samples_attach x (fault k) = refl
 samples_attach x (samples ts vs) = refl
 
+row_both : (p q : Bool) (e : Refusal) → row (p && q) e ≡ (row p e then_check row q e)
+row_both true q e = refl
+row_both false q e = refl
+
+has_room : {needed room : ℕ} → Ok tt ≡ room_row needed room → needed ≤ room
+has_room e = leb-true _ _ (row_fine _ _ (sym e))
+
 module _ {b : List ℕ} {n : ℕ} {x : Parts} (s : Said b n x) where
-  pub no_room : (k m : ℕ) → (leb n k && leb n m) ≡ false → read_rows b k m ≡ Declined (Room n)
-  no_room k m e = rw (s.accepted.parsed, ← s.count, e)
+  -- of an accepted record the rows are those of both outputs
+  pub rows_of : (k m : ℕ) → read_rows b k m ≡ (room_row n k then_check room_row n m)
+  rows_of k m = rw (s.accepted.parsed, ← s.count) (row_both (leb n k) (leb n m) (Room n))
 
-  module _ {y : Parts} {c : Cursor} (e : header_of b ≡ Start y c) (ts : List ℕ) (vs : List ℤ) (h : n ≤ length ts) (k : n ≤ length vs) where
-    said_samples : samples_from b c ≡ samples s.content.ticks s.content.values
+  module _ {first : Header} (e : header_of b ≡ Ok first) (ts : List ℕ) (vs : List ℤ) (h : Ok tt ≡ room_row n (length ts)) (k : Ok tt ≡ room_row n (length vs)) where
+    said_samples : samples_from b first.first ≡ samples s.content.ticks s.content.values
     unfolding samples_of
-    said_samples = sym (samples_attach y (samples_from b c)) ∙ ap samples_of (sym (parse_start b e) ∙ s.accepted.parsed)
+    said_samples = sym (samples_attach first.tolerance (samples_from b first.first)) ∙ ap samples_of (sym (parse_start b e) ∙ s.accepted.parsed)
 
-    pub room : Fitting (samples_from b c) n (length ts) (length vs)
-    room = rw said_samples (sym s.count, h, k)
+    pub room : Fitting (samples_from b first.first) n (length ts) (length vs)
+    room = rw said_samples (sym s.count, has_room h, has_room k)
 
-    pub read_back : {ts' : List ℕ} {vs' : List ℤ} → Filled (samples_from b c) ts vs ts' vs' → ReadBack b ts vs n x ts' vs'
+    pub read_back : {ts' : List ℕ} {vs' : List ℤ} → Filled (samples_from b first.first) ts vs ts' vs' → ReadBack b ts vs n x ts' vs'
     read_back f =
         let w = rw said_samples at f in
         record {
-          rows = rw (s.accepted.parsed, ← s.count, le-leb n (length ts) h, le-leb n (length vs) k);
+          rows = rows_of (length ts) (length vs) ∙ rw (← h, ← k);
           content = s.content;
           accepted = s.accepted;
           tolerance = s.tolerance;
@@ -104,8 +112,12 @@ module _ {b : List ℕ} {n : ℕ} {x : Parts} (s : Said b n x) where
           values = record { count = s.count ∙ sym s.accepted.legal.trace.same; content = w.1 };
         }
 
-pub read_fault : (b : List ℕ) {k : ℕ} (m n : ℕ) → parse b ≡ faulty k → read_rows b m n ≡ Declined (Record k)
-read_fault b m n e = rw e
+pub fault_row : (b : List ℕ) {k : ℕ} (m n : ℕ) → parse b ≡ faulty k → read_rows b m n ≡ Err (Record k)
+fault_row b m n e = rw e
+
+-- a faulty record is declined
+pub read_fault : {b : List ℕ} (ts : List ℕ) (vs : List ℤ) {k : ℕ} → parse b ≡ faulty k → ReadDeclined b ts vs (Record k) ts vs
+read_fault {b} ts vs e = record { rows = fault_row b (length ts) (length vs) e; ticks = refl; values = refl }
 
 -- the entries that were written are a trace
 pub read_trace : {b ts : List ℕ} {vs : List ℤ} {n : ℕ} {x : Parts} {ts' : List ℕ} {vs' : List ℤ} → ReadBack b ts vs n x ts' vs' → Trace (take n ts') (take n vs')
@@ -113,40 +125,34 @@ read_trace h = rw (wrote_read h.ticks, wrote_read h.values) h.accepted.legal.tra
 
 -- ---- same
 
-pub both_fine : {a b : List ℕ} {n m : ℕ} {x y : Parts} → Said a n x → Said b m y → same_rows a b ≡ Fine
-both_fine s t = rw (s.accepted.parsed, t.accepted.parsed)
-
-pub first_fault : (a b : List ℕ) {k : ℕ} → parse a ≡ faulty k → same_rows a b ≡ Declined (Record k)
+pub first_fault : (a b : List ℕ) {k : ℕ} → parse a ≡ faulty k → same_rows a b ≡ Err (Record k)
 first_fault a b e = rw e
 
-pub second_fault : {a : List ℕ} {n : ℕ} {x : Parts} → Said a n x → (b : List ℕ) {k : ℕ} → parse b ≡ faulty k → same_rows a b ≡ Declined (SecondRecord k)
-second_fault s b e = rw (s.accepted.parsed, e)
+-- what a record that was checked says
+pub checked : {b : List ℕ} (v : Verdict) → CheckOutcome b v → is_ok v ≡ true → (n : ℕ) × (x : Parts) × Said b n x
+checked (Ok x) o e = (x.samples, x.tolerance, o)
+checked (Err _) o e = absurd (false≢true e)
 
-not_declined : {A : Type 0} {x : Refusal} → Declined x ≡ Fine → A
-not_declined e = let z : ◌≡◌ {A = ℕ} 0 1 = cc in absurd (omega arith)
-
--- records that no row declines are accepted
-module _ {a b : List ℕ} (by : Bytes a) (bz : Bytes b) (fine : same_rows a b ≡ Fine) where
-  compared : {P : Content → Content → Type 0} → ((x y : Content) → SameRecord x y ↔ a ≡ b → P x y) → Compared a b P
-  compared {P} h = go (parse a) (parse b) refl refl fine
-    where
-      go : (p q : Parsed) → parse a ≡ p → parse b ≡ q → record_row Record p then_check record_row SecondRecord q ≡ Fine → Compared a b P
-      go (faulty k) q e d f = not_declined f
-      go (says x) (faulty k) e d f = not_declined f
-      go (says x) (says y) e d f =
-          let s = encode_parse by e in
-          let t = encode_parse bz d in
-          let w = same_bytes s t in
-          record { first = x; second = y; first_accepted = s; second_accepted = t; bytes = w; holds = h x y w }
+-- two accepted records
+module _ {a b : List ℕ} {n m : ℕ} {x y : Parts} (s : Said a n x) (t : Said b m y) where
+  compared : {P : Content → Content → Type 0} → P s.content t.content → Compared a b P
+  compared h = record {
+    first = s.content;
+    second = t.content;
+    first_accepted = s.accepted;
+    second_accepted = t.accepted;
+    bytes = same_bytes s.accepted t.accepted;
+    holds = h;
+  }
 
   pub same_yes : a ≡ b → Compared a b SameRecord
-  same_yes e = compared (λ x y w. w.1 e)
+  same_yes e = compared ((same_bytes s.accepted t.accepted).1 e)
 
   pub same_no : (a ≡ b → ⊥) → Compared a b (λ x y. SameRecord x y → ⊥)
-  same_no n = compared (λ x y w s. n (w.0 s))
+  same_no h = compared (λ r. h ((same_bytes s.accepted t.accepted).0 r))
 
 -- of two accepted records the answer is yes exactly if their bytes agree
-pub yes_bytes : {a b : List ℕ} {x y : Content} → Accepted a x → Accepted b y → (r : Comparison) → SameOutcome a b r → r ≡ Same ↔ a ≡ b
-yes_bytes p q Same o = (λ e. o.bytes.0 o.holds, λ e. refl)
-yes_bytes p q Different o = (λ e. cc, λ e. absurd (o.holds (o.bytes.1 e)))
-yes_bytes p q (NotCompared c) o = let fine = rw (p.parsed, q.parsed) at o in (λ e. cc, λ e. cc)
+pub yes_bytes : {a b : List ℕ} {x y : Content} → Accepted a x → Accepted b y → (r : Result Comparison Refusal) → SameOutcome a b r → r ≡ Ok Same ↔ a ≡ b
+yes_bytes p q (Ok Same) o = (λ e. o.bytes.0 o.holds, λ e. refl)
+yes_bytes p q (Ok Different) o = (λ e. cc, λ e. absurd (o.holds (o.bytes.1 e)))
+yes_bytes p q (Err c) o = let fine = rw (p.parsed, q.parsed) at o in (λ e. cc, λ e. cc)

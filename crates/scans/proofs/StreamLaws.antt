@@ -11,15 +11,17 @@ use lib.Seq.{length-take-le}
 use Rattle.lists.specs.Overwrite.{overwrite}
 use Rattle.kept.specs.Walk.{walk_of}
 use Rattle.kept.proofs.WalkLaws.{walk_cong}
+use Rattle.tolerance.specs.declared.Parts.{Parts}
 use Rattle.trace.specs.declared.Criterion.{Criterion}
 use Rattle.trace.specs.Link.{valid}
 use Rattle.trace.proofs.Validity.{steps_valid}
 use Rattle.trace.proofs.UpTo.{valid_up_to}
 use Rattle.reduction.specs.Walking.{walk_list}
 use Rattle.turns.specs.declared.Sample.{Sample}
-use Rattle.turns.specs.Held.{Held, Numbers, part, held_in}
+use Rattle.turns.specs.declared.Walk.{Walk}
+use Rattle.turns.specs.Held.{Held, part, held_in}
 use Rattle.scans.specs.Answers.{kept_before}
-use Rattle.scans.specs.Scan.{criterion_at, Walked, Scanning}
+use Rattle.scans.specs.Scan.{criterion_at, walk_at, Walked, Scanning}
 use Rattle.scans.specs.Stream.{Streams}
 use Rattle.scans.proofs.PassLaws.{part_length}
 use Rattle.scans.proofs.WalkedLaws.{kept_closes, closed_count, closed_list}
@@ -45,6 +47,6 @@ walked_streams {ts} {vs} {c} {o} {j} w inside room =
     record { list = closed_list w room ∙ ap (λ (l : List ℕ). overwrite l o) (sym e); count = closed_count w ∙ ap length (sym e) }
 
 -- at every sample, of every tolerance
-pub scanning_streams : {ts : List ℕ} {vs : List ℤ} {m : ℕ} {ps o : List ℕ} {g j : ℕ} {here : Sample} {before : Bool} {s : Numbers} {out : List ℕ} → Scanning ts vs m ps g o j here before s out
-    → (a : ℕ) → a < m → Streams ts vs (criterion_at ps g a) (part (length ts) a o) j (held_in (length ts) s out a)
-scanning_streams {ts} {m = m} {o = o} g a lt = walked_streams (g.each a lt) g.within (omega (arith, g.within, part_length m (length ts) a o g.given.room lt))
+pub scanning_streams : {ts : List ℕ} {vs : List ℤ} {ps : List Parts} {o : List ℕ} {g j : ℕ} {here : Sample} {before : Bool} {ws : List Walk} {out : List ℕ} → Scanning ts vs ps g o j here before ws out
+    → (a : ℕ) → a < length ps → Streams ts vs (criterion_at ps g a) (part (length ts) a o) j (held_in (length ts) a (walk_at ws a) out)
+scanning_streams {ts} {ps = ps} {o} g a lt = walked_streams (g.each a lt) g.within (omega (arith, g.within, part_length (length ps) (length ts) a o g.given.room lt))

@@ -1,12 +1,6 @@
 // Walk at several tolerances in one pass (passes).
 #![tactic(auto)]
 
-// The entry of the output that each tolerance writes next.
-#[derive(Clone, Copy)]
-pub struct Starts {
-    pub places: [usize; 16],
-}
-
 // How many samples each tolerance keeps, in the tolerances' order; 0 behind the last.
 #[derive(Clone, Copy)]
 pub struct Kept {

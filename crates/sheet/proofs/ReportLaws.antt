@@ -1,5 +1,6 @@
 -- Laws of the report: the row of a trace, the rows and totals before a channel, and the lent list.
 -- Assumes nothing.
+use Rattle.std.specs.Prelude.{Err, Ok}
 use mathlib.Core.Path.{◌≡◌, refl, sym, ◌∙◌, ap, subst}
 use mathlib.Core.List.{List, ◌++◌, append_assoc, append-nil}
 use Prim.Native.Nat.{ℕ, suc, ◌+◌, ◌-◌, ◌≤◌, ◌<◌}
@@ -16,8 +17,6 @@ use Rattle.ratio.proofs.OrderLaws.{greater_one}
 use Rattle.kept.specs.Kept.{KeptList}
 use Rattle.kept.proofs.KeptLaws.{kept_length}
 use Rattle.refusal.specs.declared.Refusal.{Refusal}
-use Rattle.refusal.specs.Table.{number_of}
-use Rattle.refusal.specs.declared.Checked.TheVariants.{Fine, Refused}
 use Rattle.channels.specs.Channels.{sum, Divided}
 use Rattle.channels.proofs.ChannelLaws.{lent_part}
 use Rattle.trace.specs.declared.Criterion.{Criterion}
@@ -30,7 +29,6 @@ use Rattle.reduction.specs.Walking.{walk_list}
 use Rattle.reduction.proofs.ReductionLaws.{walk_list_greedy}
 use Rattle.sheet.specs.declared.Summary.{Summary}
 use Rattle.sheet.specs.declared.Totals.{Totals}
-use Rattle.sheet.specs.declared.Reported.TheVariants.{Counted}
 use Rattle.sheet.specs.Report.{kept_row, walked_row, declined_row, row_of, part_row, rows_from, totals_with, totals_with_all, totals_of, RowBounds, TotalBounds, Rows}
 
 -- ---- the lent list
@@ -58,22 +56,16 @@ module _ (ts : List ℕ) (vs : List ℤ) (c : Criterion) {o o' : List ℕ} {n : 
   unfolding walked_row
   walked_row_lem d = rw (d, wrote_read w, w.count)
 
-pub channel_fine : (c : Criterion) (ts : List ℕ) (vs : List ℤ) {r : Summary} → trace_rows 4096 ts vs ≡ Fine → r ≡ walked_row c ts vs → r ≡ row_of c ts vs
+pub channel_fine : (c : Criterion) (ts : List ℕ) (vs : List ℤ) {r : Summary} → trace_rows 4096 ts vs ≡ Ok tt → r ≡ walked_row c ts vs → r ≡ row_of c ts vs
 unfolding row_of
 channel_fine c ts vs h e = rw h e
 
-pub channel_refused : (c : Criterion) (ts : List ℕ) (vs : List ℤ) {r : Summary} {x : Refusal} → trace_rows 4096 ts vs ≡ Refused x → r ≡ declined_row x → r ≡ row_of c ts vs
+pub channel_refused : (c : Criterion) (ts : List ℕ) (vs : List ℤ) {r : Summary} {x : Refusal} → trace_rows 4096 ts vs ≡ Err x → r ≡ declined_row x → r ≡ row_of c ts vs
 unfolding row_of
 channel_refused c ts vs h e = rw h e
 
-pub declined_row_lem : {k : ℕ} (x : Refusal) → k ≡ number_of x → ◌≡◌ {A = Summary} (record { samples = 0; kept = 0; p = 0; q = 1; sample = 0; number = k }) (declined_row x)
-declined_row_lem x e = rw e
-
 pub part_is : (c : Criterion) (ts : List ℕ) (vs : List ℤ) (at n : ℕ) {r : Summary} → r ≡ row_of c (take (at + n - at) (drop at ts)) (take (at + n - at) (drop at vs)) → r ≡ part_row c ts vs at n
 part_is c ts vs at n e = rw (lent_part at n ts, lent_part at n vs) at e
-
-pub totals_with_lem : (t : Totals) (r : Summary) {e : Ratio} → e ≡ greater (over t.p t.q) (over r.p r.q) → ◌≡◌ {A = Totals} (record { samples = t.samples + r.samples; kept = t.kept + r.kept; p = e.p; q = e.q }) (totals_with t r)
-totals_with_lem t r e = rw e
 
 pub zero_bounded : Bounded (criterion (over 0 1))
 zero_bounded = both_bounded (record { positive = omega arith; q_bound = omega arith; p_bound = omega arith })
@@ -124,14 +116,14 @@ module _ {c : Criterion} {ts : List ℕ} {vs : List ℤ} {ls : List ℕ} {rows :
         });
       }
 
-  pub surveying_all : length ls ≤ i → Rows c ts vs ls (record { rows = rows; count = i; answer = Counted t })
+  pub surveying_all : length ls ≤ i → Rows c ts vs ls (record { rows = rows; count = length ls; totals = t })
   surveying_all ge =
       let d = drop_of_length-le ls {i = i} ge in
-      record {
+      subst (λ (n : ℕ). Rows c ts vs ls (record { rows = rows; count = n; totals = t })) (end h.upto ge) (record {
         count = end h.upto ge;
         rows = sym (append-nil (take i rows)) ∙ subst (λ (z : List ℕ). take i rows ++ rows_from c ts vs at z ≡ rows_from c ts vs 0 ls) d h.rows_are;
-        answer = ap Counted (subst (λ (z : List ℕ). totals_with_all t (rows_from c ts vs at z) ≡ totals_of (rows_from c ts vs 0 ls)) d h.totals_are);
-      }
+        totals = subst (λ (z : List ℕ). totals_with_all t (rows_from c ts vs at z) ≡ totals_of (rows_from c ts vs 0 ls)) d h.totals_are;
+      })
     where
       end : {i n : ℕ} → i ≤ n → n ≤ i → i ≡ n
       end h k = omega arith

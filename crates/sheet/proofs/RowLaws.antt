@@ -1,14 +1,13 @@
 -- Laws of the rows and of their totals: a channel's row is that of its own samples, no row's error is above the tolerance, and the largest
 -- error is the greatest of the rows'.
 -- Assumes nothing.
+use Rattle.std.specs.Prelude.{Err, Ok}
 use mathlib.Core.Path.{◌≡◌, refl, ◌∙◌, ap}
 use mathlib.Core.List.{List, [], ◌∷◌}
 use Prim.Native.Nat.{ℕ, zero, suc, ◌+◌, ◌-◌, ◌<◌}
 use native.Mathlib.Omega.{arith}
 use lib.IntN.{ℤ}
 use lib.ListN.{length, get_or}
-use Rattle.refusal.specs.declared.Checked.{Checked}
-use Rattle.refusal.specs.declared.Checked.TheVariants.{Fine, Refused}
 use Rattle.channels.specs.Channels.{place_of, of_channel}
 use Rattle.ratio.specs.declared.Ratio.{Ratio}
 use Rattle.ratio.specs.Gcd.{gcd, euclid}
@@ -26,6 +25,7 @@ use Rattle.reduction.proofs.ReductionLaws.{walk_list_greedy}
 use Rattle.sheet.specs.declared.Summary.{Summary}
 use Rattle.sheet.specs.declared.Totals.{Totals}
 use Rattle.sheet.specs.Report.{walked_row, row_by, row_of, part_row, rows_from, row_error, largest_error, totals_with, totals_with_all, totalled, totals_of, zeros}
+use Rattle.refusal.specs.Table.{Checked}
 
 -- ---- a channel's own row
 
@@ -52,8 +52,8 @@ module _ (c : Criterion) (ts : List ℕ) (vs : List ℤ) where
   row_one P none walked = go (trace_rows 4096 ts vs) refl
     where
       go : (x : Checked) → trace_rows 4096 ts vs ≡ x → P (row_error (row_by x (walked_row c ts vs)))
-      go Fine e = walked (rows_trace 4096 ts vs (omega arith) e).0
-      go (Refused x) e = none
+      go (Ok _) e = walked (rows_trace 4096 ts vs (omega arith) e).0
+      go (Err x) e = none
 
   -- a row's error is at most the larger part, and in lowest terms
   pub row_within : 0 < c.up.q → 0 < c.down.q → AtMost (row_error (row_of c ts vs)) (larger c)

@@ -10,16 +10,14 @@
 --   totals_with, totals_with_all   totals with one row more, and with several
 --   totals_of                  the totals of rows: sums of samples and of kept numbers, and the greatest error, 0/1 where there is none
 --   RowBounds, TotalBounds     numbers that fit
---   Rows, Declined             what a sheet is: the rows and their totals, or a refusal and no rows
---   zeros, row_at              a row of zeros, and a row of a sheet
+--   Rows                       what a sheet is: the rows and their totals
+--   zeros                      a row of zeros
 --   Fits, filled               room for a sheet's rows, and the lent list that they are written over
 -- Laws are in RowLaws and ReportLaws. Assumes nothing.
-use Rattle.std.specs.Prelude.{◌≡◌, List, [], ◌∷◌, ℕ, ◌+◌, ◌*◌, ◌≤◌, ℤ, length, take, get_or}
+use Rattle.std.specs.Prelude.{◌≡◌, List, [], ◌∷◌, ℕ, ◌+◌, ◌*◌, ◌≤◌, ℤ, length, take, Err, Ok}
 use Rattle.lists.specs.Overwrite.{overwrite}
 use Rattle.refusal.specs.declared.Refusal.{Refusal}
-use Rattle.refusal.specs.declared.Checked.{Checked}
-use Rattle.refusal.specs.declared.Checked.TheVariants.{Fine, Refused}
-use Rattle.refusal.specs.Table.{number_of}
+use Rattle.refusal.specs.Table.{number_of, Checked}
 use Rattle.ratio.specs.declared.Ratio.{Ratio}
 use Rattle.ratio.specs.Order.{over, greater}
 use Rattle.channels.specs.Channels.{part}
@@ -31,7 +29,6 @@ use Rattle.proposed.specs.Proposed.{list_stray}
 use Rattle.reduction.specs.Walking.{walk_list}
 use Rattle.sheet.specs.declared.Summary.{Summary}
 use Rattle.sheet.specs.declared.Totals.{Totals}
-use Rattle.sheet.specs.declared.Reported.TheVariants.{Counted, Refused as NotCounted}
 use Rattle.sheet.specs.declared.Sheet.{Sheet}
 
 -- ---- rows
@@ -47,8 +44,8 @@ abbrev pub declined_row : Refusal → Summary
 declined_row x = record { samples = 0; kept = 0; p = 0; q = 1; sample = 0; number = number_of x }
 
 abbrev pub row_by : Checked → Summary → Summary
-row_by Fine r = r
-row_by (Refused x) r = declined_row x
+row_by (Ok _) r = r
+row_by (Err x) r = declined_row x
 
 unfoldable pub row_of : Criterion → List ℕ → List ℤ → Summary
 row_of c ts vs = row_by (trace_rows 4096 ts vs) (walked_row c ts vs)
@@ -98,17 +95,10 @@ pub record TotalBounds (i : ℕ) (t : Totals) : Type 0 where
 pub record Rows (c : Criterion) (ts : List ℕ) (vs : List ℤ) (ls : List ℕ) (s : Sheet) : Type 0 where
   pub count : s.count ≡ length ls
   pub rows : take s.count s.rows ≡ rows_from c ts vs 0 ls
-  pub answer : s.answer ≡ Counted (totals_of (rows_from c ts vs 0 ls))
-
-pub record Declined (x : Refusal) (s : Sheet) : Type 0 where
-  pub count : s.count ≡ 0
-  pub answer : s.answer ≡ NotCounted x
+  pub totals : s.totals ≡ totals_of (rows_from c ts vs 0 ls)
 
 abbrev pub zeros : Summary
 zeros = record { samples = 0; kept = 0; p = 0; q = 0; sample = 0; number = 0 }
-
-abbrev pub row_at : Sheet → ℕ → Summary
-row_at s i = get_or s.rows i zeros
 
 pub record Fits (s : Sheet) (n : ℕ) : Type 0 where
   pub written : s.count ≤ 64

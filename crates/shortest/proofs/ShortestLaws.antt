@@ -63,7 +63,7 @@ pub record Scanning (ts : List ℕ) (vs : List ℤ) (c : Criterion) (i : ℕ) (c
   pub to : j ≤ length ts
 
 module _ {ts : List ℕ} {vs : List ℤ} {c : Criterion} {links : List ℕ} {i limit : ℕ} (s : Scan ts vs c links i limit) where
-  end_inside : limit < length ts
+  pub end_inside : limit < length ts
   end_inside = omega (arith, s.limit_is, links_end_inside ts c.gap i s.inside)
 
   pub scanning_none : {st : Start} → StartAt ts vs i st → Scanning ts vs c i (cone_from c) (i + 1) (i + 1)

@@ -42,8 +42,8 @@ fn next_stop(
     let first = i + 1;
     let mut cone = cone_of(aim_at(ticks, values, from, first, c), c);
     let mut b = first;
-    let mut j = first + 1;
-    while j <= limit {
+    // A range that includes its end takes two instructions more for each end.
+    for j in first + 1..limit + 1 {
         let to = aim_at(ticks, values, from, j, c);
         if admits(cone, to) {
             b = better(links, b, j);
@@ -51,7 +51,6 @@ fn next_stop(
             return b;
         }
         cone = extended(cone, to, c);
-        j += 1;
     }
     b
 }
@@ -62,11 +61,10 @@ fn plan(ticks: &[u32], values: &[i16], c: Criterion, links: &mut [u16], next: &m
     ensures { Planned (valid ticks.now values.now c) (length ticks.now - 1) 0 next.new }
 {
     let x = across(c);
-    let mut i = ticks.len() - 1;
-    let mut run = i;
-    links[i] = 0;
-    while 0 < i {
-        i -= 1;
+    let last = ticks.len() - 1;
+    let mut run = last;
+    links[last] = 0;
+    for i in (0..last).rev() {
         run = run_from(ticks, c.gap, i, run);
         let b = next_stop(ticks, values, c, x, links, i, end_of(i, run));
         links[i] = links[b] + 1;
@@ -86,7 +84,7 @@ fn follow(last: usize, next: &[u16], out: &mut [u16]) -> usize
         let j = next[i];
         out[count] = j;
         count += 1;
-        i = j as usize;
+        i = usize::from(j);
     }
     count
 }
@@ -96,6 +94,7 @@ pub fn minimum(ticks: &[u32], values: &[i16], c: Criterion, out: &mut [u16]) -> 
     requires { Trace ticks.now values.now × Bounded c × (length ticks.now ≤ length out.old) }
     ensures { Wrote (minimum_list ticks.now values.now c) out.old result out.new }
 {
+    // Fixed memory: an entry a sample, and a trace has at most 4,096.
     let mut links = [0u16; 4096];
     let mut next = [0u16; 4096];
     plan(ticks, values, c, &mut links, &mut next);

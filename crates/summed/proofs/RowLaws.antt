@@ -1,19 +1,16 @@
 -- Laws of the rows: what they say by cases, and what holds of traces and lists that none of them refuses.
 -- Assumes nothing.
+use Rattle.std.specs.Prelude.{Ok}
 use mathlib.Core.Path.{◌≡◌, ◌∙◌, ap, subst}
 use mathlib.Core.List.{List}
-use Prim.Native.Nat.{ℕ, ◌≤◌, ◌<◌}
+use Prim.Native.Nat.{ℕ}
 use native.Mathlib.Omega.{arith}
 use lib.IntN.{ℤ}
 use lib.ListN.{length}
-use borrow.Author.Tests.{le-leb, lt-leb, leb-true}
+use borrow.Author.Tests.{le-leb, leb-true}
 use Rattle.lists.specs.First.{first, Clear}
 use Rattle.lists.proofs.FirstLaws.{first_found, first_none}
-use Rattle.refusal.specs.declared.Refusal.{Refusal}
-use Rattle.refusal.specs.declared.Refusal.TheVariants.{Overflow}
-use Rattle.refusal.specs.declared.Checked.{Checked}
-use Rattle.refusal.specs.declared.Checked.TheVariants.{Fine, Refused}
-use Rattle.refusal.specs.Table.{room_row, ◌then_check◌}
+use Rattle.refusal.specs.Table.{room_row}
 use Rattle.refusal.proofs.TableLaws.{row_fine, then_fine}
 use Rattle.trace.specs.Trace.{Trace, trace_rows}
 use Rattle.trace.proofs.TraceLaws.{rows_trace, trace_rows_lem, rows_counts}
@@ -26,57 +23,13 @@ use Rattle.summed.specs.Sum.{overflow_at, overflow_row, sum_rows, Summable, Join
 -- ---- 18
 
 module _ (vs ws : List ℤ) where
-  pub overflow_at_lem : {k : ℕ} → k ≡ first (overflow_at vs ws) 0 (length vs) → k < length vs → Refused (Overflow k) ≡ overflow_row vs ws
-  unfolding overflow_row
-  overflow_at_lem {k} is lt = rw (← is, lt-leb (length vs) k lt)
-
-  pub overflow_none : {k : ℕ} → k ≡ first (overflow_at vs ws) 0 (length vs) → length vs ≤ k → Fine ≡ overflow_row vs ws
-  unfolding overflow_row
-  overflow_none {k} is ge = rw (← is, le-leb (length vs) k ge)
-
   -- where it does not apply, every sum is in range
-  pub in_range : overflow_row vs ws ≡ Fine → Clear (overflow_at vs ws) 0 (length vs)
+  pub in_range : overflow_row vs ws ≡ Ok tt → Clear (overflow_at vs ws) 0 (length vs)
   unfolding overflow_row
   in_range h =
       let f = first_found (overflow_at vs ws) 0 (length vs) (omega arith) in
       let le = leb-true (length vs) (first (overflow_at vs ws) 0 (length vs)) (row_fine _ _ h) in
       record { none = λ k l u. f.clear.none k l (omega arith) }
-
--- ---- all checks, each where those before it pass
-
-module _ (ts : List ℕ) (vs : List ℤ) (us : List ℕ) (ws : List ℤ) (l m : List ℕ) (room room' : ℕ) where
-  pub trace1_refused : {x : Refusal} → trace_rows 4096 ts vs ≡ Refused x → Refused x ≡ sum_rows ts vs us ws l m room room'
-  unfolding sum_rows
-  trace1_refused h = rw h
-
-  module _ (trace1 : trace_rows 4096 ts vs ≡ Fine) where
-    pub trace2_refused : {x : Refusal} → trace_rows 4096 us ws ≡ Refused x → Refused x ≡ sum_rows ts vs us ws l m room room'
-    unfolding sum_rows
-    trace2_refused h = rw (trace1, h)
-
-    module _ (trace2 : trace_rows 4096 us ws ≡ Fine) where
-      pub list1_refused : {x : Refusal} → list_row (length ts) l ≡ Refused x → Refused x ≡ sum_rows ts vs us ws l m room room'
-      unfolding sum_rows
-      list1_refused h = rw (trace1, trace2, h)
-
-      module _ (list1 : list_row (length ts) l ≡ Fine) where
-        pub list2_refused : {x : Refusal} → list_row (length us) m ≡ Refused x → Refused x ≡ sum_rows ts vs us ws l m room room'
-        unfolding sum_rows
-        list2_refused h = rw (trace1, trace2, list1, h)
-
-        module _ (list2 : list_row (length us) m ≡ Fine) where
-          pub ticks_refused : {x : Refusal} → mismatch_row ts us ≡ Refused x → Refused x ≡ sum_rows ts vs us ws l m room room'
-          unfolding sum_rows
-          ticks_refused h = rw (trace1, trace2, list1, list2, h)
-
-          module _ (ticks : mismatch_row ts us ≡ Fine) where
-            pub values_refused : {x : Refusal} → overflow_row vs ws ≡ Refused x → Refused x ≡ sum_rows ts vs us ws l m room room'
-            unfolding sum_rows
-            values_refused h = rw (trace1, trace2, list1, list2, ticks, h)
-
-            pub values_fine : {r : Checked} → overflow_row vs ws ≡ Fine → r ≡ room_row (length ts) room then_check room_row (length ts) room' → r ≡ sum_rows ts vs us ws l m room room'
-            unfolding sum_rows
-            values_fine h e = rw (trace1, trace2, list1, list2, ticks, h) e
 
 -- ---- what passes
 
@@ -89,13 +42,13 @@ pub record Addable (ts : List ℕ) (vs : List ℤ) (us : List ℕ) (ws : List �
 
 module _ (ts : List ℕ) (vs : List ℤ) (us : List ℕ) (ws : List ℤ) where
   -- traces with the same ticks have equally many values
-  pub same_counts : trace_rows 4096 ts vs ≡ Fine → trace_rows 4096 us ws ≡ Fine → mismatch_row ts us ≡ Fine → length ws ≡ length vs
+  pub same_counts : trace_rows 4096 ts vs ≡ Ok tt → trace_rows 4096 us ws ≡ Ok tt → mismatch_row ts us ≡ Ok tt → length ws ≡ length vs
   same_counts h k e =
       let t = (rows_trace 4096 ts vs (omega arith) h).0 in
       let u = (rows_trace 4096 us ws (omega arith) k).0 in
       omega (arith, u.same, t.same, ap length (matched ts us t.some e))
 
-  pub rows_addable : (l m : List ℕ) (room room' : ℕ) → sum_rows ts vs us ws l m room room' ≡ Fine → Addable ts vs us ws l m room room'
+  pub rows_addable : (l m : List ℕ) (room room' : ℕ) → sum_rows ts vs us ws l m room room' ≡ Ok tt → Addable ts vs us ws l m room room'
   unfolding sum_rows
   rows_addable l m room room' h =
       let a = then_fine (trace_rows 4096 ts vs) _ h in
@@ -117,19 +70,19 @@ module _ (ts : List ℕ) (vs : List ℤ) (us : List ℕ) (ws : List ℤ) where
           some = t.some;
           few = t.few;
           first = (row_kept t.some l).0 c.0;
-          second = (row_kept t.some m).0 (subst (λ (x : List ℕ). list_row (length x) m ≡ Fine) q d.0);
+          second = (row_kept t.some m).0 (subst (λ (x : List ℕ). list_row (length x) m ≡ Ok tt) q d.0);
           entries = long';
         };
       }
 
 -- ---- what is passed
 
-in_range_fine : (vs ws : List ℤ) → Clear (overflow_at vs ws) 0 (length vs) → overflow_row vs ws ≡ Fine
+in_range_fine : (vs ws : List ℤ) → Clear (overflow_at vs ws) 0 (length vs) → overflow_row vs ws ≡ Ok tt
 unfolding overflow_row
 in_range_fine vs ws clear = rw (first_none {f = overflow_at vs ws} {a = 0} {b = length vs} (omega arith) clear, le-leb (length vs) (length vs) (omega arith))
 
 -- none of the rows applies to traces with the same ticks whose sums are in range, and to kept lists of them
-pub addable_fine : {ts : List ℕ} {vs ws : List ℤ} {l m : List ℕ} {room room' : ℕ} → Trace ts vs → Summable vs ws room → Joinable (length ts) l m room' → sum_rows ts vs ts ws l m room room' ≡ Fine
+pub addable_fine : {ts : List ℕ} {vs ws : List ℤ} {l m : List ℕ} {room room' : ℕ} → Trace ts vs → Summable vs ws room → Joinable (length ts) l m room' → sum_rows ts vs ts ws l m room room' ≡ Ok tt
 unfolding sum_rows
 addable_fine {ts} {vs} {ws} {l} {m} {room} {room'} t s j =
     let trace = trace_rows_lem 4096 ts vs t t.few in

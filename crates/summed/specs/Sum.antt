@@ -15,8 +15,7 @@ use Rattle.std.specs.Int.Signed.{lt_z}
 use Rattle.lists.specs.First.{first, Clear}
 use Rattle.lists.specs.Listed.{listed}
 use Rattle.refusal.specs.declared.Refusal.TheVariants.{Overflow}
-use Rattle.refusal.specs.declared.Checked.{Checked}
-use Rattle.refusal.specs.Table.{placed, room_row, ◌then_check◌}
+use Rattle.refusal.specs.Table.{placed, room_row, ◌then_check◌, Checked}
 use Rattle.ratio.specs.declared.Ratio.{Ratio}
 use Rattle.ratio.specs.Order.{plus}
 use Rattle.kept.specs.Kept.{KeptList, AllValid}

@@ -1,5 +1,5 @@
 -- When the parts of a tolerance agree: exactly if they are equal, as values too, since a tolerance is held in lowest terms. Assumes nothing.
-use Rattle.std.proofs.Common.{◌≡◌, ℕ, ◌*◌, ◌<◌, Bool, true, false, ◌&&◌, eqb, ◌↔◌, sym, refl, ap, subst, arith, eq-eqb, eqb-true}
+use Rattle.std.proofs.Common.{◌≡◌, ℕ, ◌*◌, ◌<◌, Bool, true, false, ◌&&◌, eqb, ◌↔◌, sym, refl, ap, subst, arith, eq-eqb, eqb-true, None, Some}
 use native.Mathlib.Nat.{eq_of_mul-eq-mul_right}
 use Rattle.ratio.specs.declared.Ratio.{Ratio}
 use Rattle.ratio.specs.Order.{over}
@@ -7,7 +7,6 @@ use Rattle.ratio.specs.Gcd.{lowest}
 use Rattle.ratio.proofs.Laws.{lowest_same, lowest_antisym, lowest_equal, lowest_pos}
 use Rattle.tolerance.specs.declared.Parts.{Parts}
 use Rattle.tolerance.specs.declared.Tolerance.TheVariants.{Ratio as One, Parts as Each}
-use Rattle.tolerance.specs.declared.Meaning.TheVariants.{Exact, NotAllowed}
 use Rattle.tolerance.specs.Meaning.{meaning, alike, agree, allowed_ratio, held, held_each, HeldParts}
 use Rattle.tolerance.proofs.Meanings.{allowed_pos}
 
@@ -51,7 +50,7 @@ same_lowest a b c d B D e =
     let g : u.p * d ≡ c * u.q = subst (λ (v : Ratio). v.p * d ≡ c * v.q) (sym e) (lowest_equal c d) in
     eq_of_mul-eq-mul_right u.q (lowest_pos a b B) (a * d) (c * b) (omega (arith, ap (λ (z : ℕ). z * d) f, ap (λ (z : ℕ). z * b) g))
 
-refused : {x : Parts} → NotAllowed ≡ Exact x → ⊥
+refused : {x : Parts} → None ≡ Some x → ⊥
 refused e = let z : ◌≡◌ {A = ℕ} 0 1 = cc in omega arith
 
 -- one ratio for both agrees
@@ -67,7 +66,7 @@ alike_meaning r = go (allowed_ratio r.p r.q)
     go false = refl
 
 -- parts that are allowed agree once held exactly if they are equal as values: 2 / 2 and 1 / 1 do
-pub meaning_agree : (y x : Parts) → meaning (Each y) ≡ Exact x → agree x ≡ true ↔ y.up.p * y.down.q ≡ y.down.p * y.up.q
+pub meaning_agree : (y x : Parts) → meaning (Each y) ≡ Some x → agree x ≡ true ↔ y.up.p * y.down.q ≡ y.down.p * y.up.q
 meaning_agree y x = go (allowed_ratio y.up.p y.up.q) refl (allowed_ratio y.down.p y.down.q) refl
   where
     values : 0 < y.up.q → 0 < y.down.q → agree (record { up = lowest y.up.p y.up.q; down = lowest y.down.p y.down.q }) ≡ true ↔ y.up.p * y.down.q ≡ y.down.p * y.up.q
@@ -76,7 +75,7 @@ meaning_agree y x = go (allowed_ratio y.up.p y.up.q) refl (allowed_ratio y.down.
       λ e. (agree_exact _).1 (lowest_same y.up.p y.up.q y.down.p y.down.q U D e),
     )
 
-    go : (a : Bool) → allowed_ratio y.up.p y.up.q ≡ a → (b : Bool) → allowed_ratio y.down.p y.down.q ≡ b → held_each (a && b) y ≡ Exact x
+    go : (a : Bool) → allowed_ratio y.up.p y.up.q ≡ a → (b : Bool) → allowed_ratio y.down.p y.down.q ≡ b → held_each (a && b) y ≡ Some x
         → agree x ≡ true ↔ y.up.p * y.down.q ≡ y.down.p * y.up.q
     go true u true d e =
         let s : record { up = lowest y.up.p y.up.q; down = lowest y.down.p y.down.q } ≡ x = cc in

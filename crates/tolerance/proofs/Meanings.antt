@@ -1,5 +1,5 @@
 -- What a tolerance means is allowed and in lowest terms, part by part. Assumes nothing.
-use Rattle.std.proofs.Common.{◌≡◌, ℕ, ◌*◌, ◌/◌, ◌<◌, ◌≤◌, Bool, true, false, ◌&&◌, T, leb, sym, subst, le_trans, mul-le-mul_right, mul-le-mul, mul-pos, div-le_self, le_of_mul-le-mul_right, arith, lit<, lit≤, leb→le}
+use Rattle.std.proofs.Common.{◌≡◌, ℕ, ◌*◌, ◌/◌, ◌<◌, ◌≤◌, Bool, true, false, ◌&&◌, T, leb, sym, subst, le_trans, mul-le-mul_right, mul-le-mul, mul-pos, div-le_self, le_of_mul-le-mul_right, arith, lit<, lit≤, leb→le, Some}
 use lib.Ieee.Fits.{and_l, and_r}
 use lib.Ieee.Positive.{num, den, den_pos}
 use Rattle.ratio.specs.Gcd.{gcd, lowest}
@@ -7,7 +7,6 @@ use Rattle.ratio.proofs.Laws.{lowest_same, lowest_pos, lowest_equal, lowest_copr
 use Rattle.tolerance.specs.declared.Parts.{Parts}
 use Rattle.tolerance.specs.declared.Tolerance.{Tolerance}
 use Rattle.tolerance.specs.declared.Tolerance.TheVariants.{Ratio, Counts, Noise, Parts as Each}
-use Rattle.tolerance.specs.declared.Meaning.TheVariants.{Exact}
 use Rattle.tolerance.specs.Meaning.{meaning, alike, held, held_each, allowed_ratio, Held, HeldParts, in_steps}
 use Rattle.tolerance.proofs.Values.{product, in_steps_lem}
 
@@ -37,11 +36,11 @@ allowed_pos p q e = positive p q (subst T (sym e) tt)
 
 -- ---- what a tolerance means
 
-picks : (b : Bool) (a e : ℕ) (x : Parts) → (T b → Held (lowest a e)) → held b a e ≡ Exact x → HeldParts x
+picks : (b : Bool) (a e : ℕ) (x : Parts) → (T b → Held (lowest a e)) → held b a e ≡ Some x → HeldParts x
 picks true a e x h q = let s : alike (lowest a e) ≡ x = cc in subst HeldParts s (record { up = h tt; down = h tt })
 picks false a e x h q = let z : ◌≡◌ {A = ℕ} 0 1 = cc in absurd (omega arith)
 
-picks_each : (b : Bool) (y x : Parts) → (T b → Held (lowest y.up.p y.up.q) × Held (lowest y.down.p y.down.q)) → held_each b y ≡ Exact x → HeldParts x
+picks_each : (b : Bool) (y x : Parts) → (T b → Held (lowest y.up.p y.up.q) × Held (lowest y.down.p y.down.q)) → held_each b y ≡ Some x → HeldParts x
 picks_each true y x h q =
     let s : record { up = lowest y.up.p y.up.q; down = lowest y.down.p y.down.q } ≡ x = cc in
     subst HeldParts s (record { up = (h tt).0; down = (h tt).1 })
@@ -51,7 +50,7 @@ picks_each false y x h q = let z : ◌≡◌ {A = ℕ} 0 1 = cc in absurd (omega
 same_held : (a b c d : ℕ) → 0 < b → 0 < d → c * b ≡ a * d → d ≤ 1048575 → c ≤ 65535 * d → Held (lowest a b)
 same_held a b c d B D e Q P = subst Held (lowest_same c d a b D B e) (lowest_held c d D Q P)
 
-pub exact_held : (t : Tolerance) (x : Parts) → meaning t ≡ Exact x → HeldParts x
+pub exact_held : (t : Tolerance) (x : Parts) → meaning t ≡ Some x → HeldParts x
 exact_held (Ratio p q) r e = picks (allowed_ratio p q) p q r (allowed_held p q) e
 exact_held (Counts x) r e =
     picks (in_steps 64 65535 x) (num x) (den x) r (λ t.

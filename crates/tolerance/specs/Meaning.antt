@@ -13,7 +13,7 @@
 --   pick_steps      a number of steps where a float is in steps, or that it is not
 --   steps_of        the whole number of steps of a float
 -- A finite float x is the fraction num x / den x, with a sign. Laws are in Values, Meanings and Agreement. Assumes nothing.
-use Rattle.std.specs.Prelude.{◌≡◌, ℕ, ◌*◌, ◌/◌, ◌%◌, ◌<◌, ◌≤◌, Bool, true, false, not, ◌&&◌, ◌||◌, ◌==◌, nat_le, Float}
+use Rattle.std.specs.Prelude.{◌≡◌, ℕ, ◌*◌, ◌/◌, ◌%◌, ◌<◌, ◌≤◌, Bool, true, false, not, ◌&&◌, ◌||◌, ◌==◌, nat_le, Float, None, Option, Some}
 use Rattle.std.specs.Float.{nan, inf, fin}
 use Rattle.std.specs.Float.Ieee.Positive.{num, den}
 use Rattle.ratio.specs.Gcd.{gcd, lowest}
@@ -21,10 +21,6 @@ use Rattle.ratio.specs.declared.Ratio as R
 use Rattle.tolerance.specs.declared.Parts as P
 use Rattle.tolerance.specs.declared.Tolerance.{Tolerance}
 use Rattle.tolerance.specs.declared.Tolerance.TheVariants.{Ratio, Counts, Noise, Parts}
-use Rattle.tolerance.specs.declared.Meaning.{Meaning}
-use Rattle.tolerance.specs.declared.Meaning.TheVariants.{Exact, NotAllowed}
-use Rattle.tolerance.specs.declared.Steps.{Steps}
-use Rattle.tolerance.specs.declared.Steps.TheVariants.{Whole, Other}
 
 -- one tolerance means both parts
 abbrev pub alike : R.Ratio → P.Parts
@@ -48,17 +44,17 @@ abbrev pub allowed_ratio : ℕ → ℕ → Bool
 allowed_ratio p q = nat_le 1 q && nat_le q 1048575 && nat_le p (65535 * q)
 
 -- a / b in lowest terms where the tolerance is allowed
-abbrev pub held : Bool → ℕ → ℕ → Meaning
-held true a b = Exact (alike (lowest a b))
-held false a b = NotAllowed
+abbrev pub held : Bool → ℕ → ℕ → Option P.Parts
+held true a b = Some (alike (lowest a b))
+held false a b = None
 
 -- each part in lowest terms where both are allowed
-abbrev pub held_each : Bool → P.Parts → Meaning
-held_each true x = Exact (record { up = lowest x.up.p x.up.q; down = lowest x.down.p x.down.q })
-held_each false x = NotAllowed
+abbrev pub held_each : Bool → P.Parts → Option P.Parts
+held_each true x = Some (record { up = lowest x.up.p x.up.q; down = lowest x.down.p x.down.q })
+held_each false x = None
 
 -- what a tolerance means
-abbrev pub meaning : Tolerance → Meaning
+abbrev pub meaning : Tolerance → Option P.Parts
 meaning (Ratio p q) = held (allowed_ratio p q) p q
 meaning (Counts x) = held (in_steps 64 65535 x) (num x) (den x)
 meaning (Noise r) =
@@ -77,9 +73,9 @@ pub record HeldParts (x : P.Parts) : Type 0 where
   pub down : Held x.down
 
 -- the whole number k x, where x is from 0 to most and k x is whole
-abbrev pub pick_steps : Bool → ℕ → Steps
-pick_steps true n = Whole n
-pick_steps false n = Other
+abbrev pub pick_steps : Bool → ℕ → Option ℕ
+pick_steps true n = Some n
+pick_steps false n = None
 
-abbrev pub steps_of : Float → ℕ → ℕ → Steps
+abbrev pub steps_of : Float → ℕ → ℕ → Option ℕ
 steps_of x k most = pick_steps (in_steps k most x) (k * num x / den x)

@@ -1,7 +1,8 @@
 // Tolerances in four forms, and the parts in lowest terms that each means: one for samples above the line, one for those below.
 #![tactic(auto)]
 
-ghost use Rattle.std.specs.Prelude.{◌≡◌, ℕ, ◌^◌, ◌≤◌};
+ghost use Rattle.std.specs.Prelude.{◌≡◌, ℕ, ◌^◌, ◌≤◌, cond};
+ghost use Rattle.ratio.specs.Gcd.{lowest};
 ghost use Rattle.tolerance.specs.Meaning.{meaning, steps_of, allowed_ratio, alike as alike_of, agree as agree_of};
 
 use ratio::Ratio;
@@ -14,7 +15,7 @@ pub struct Noise {
 }
 
 // The part for samples above the line, and the part for those below (document 02, "Above and below": U and D).
-#[derive(Clone, Copy)]
+#[derive(Clone, Copy, PartialEq, Eq)]
 pub struct Parts {
     pub up: Ratio,
     pub down: Ratio,
@@ -29,19 +30,6 @@ pub enum Tolerance {
     Parts(Parts),
 }
 
-#[derive(Clone, Copy)]
-pub enum Meaning {
-    Exact(Parts),
-    NotAllowed,
-}
-
-// A whole number of steps, or not that.
-#[derive(Clone, Copy)]
-pub enum Steps {
-    Whole(u64),
-    Other,
-}
-
 // One ratio for both parts.
 pub fn alike(r: Ratio) -> Parts
     ensures { result ≡ alike_of r }
@@ -50,109 +38,84 @@ pub fn alike(r: Ratio) -> Parts
 }
 
 // Whether the parts are equal, as those in lowest terms are exactly if their numbers are.
+#[tactic(auto, unfolding(crate::specs::Meaning::agree))]
 pub fn agree(x: Parts) -> bool
     ensures { result ≡ agree_of x }
 {
-    let up = x.up;
-    let down = x.down;
-    if up.p != down.p {
-        return false;
-    }
-    up.q == down.q
+    x.up == x.down
 }
 
 // The whole number k x, where x is from 0 to most and k x is whole, for a k that is a power of two.
-fn take_steps(x: f64, k: u64, most: u64) -> Steps
+fn take_steps(x: f64, k: u64, most: u64) -> Option<u64>
     requires by_index { (j : ℕ) × (k ≡ 2 ^ j) × (j ≤ 9) }
     requires most_bound { most ≤ 65535 }
     ensures { result ≡ steps_of x k most }
 {
     let scale = k as f64;
     let y = x * scale;
-    if y > -1.0 {
-        if y < 18446744073709551616.0 {
-            let n = std::num::truncating_f64_to_u64(y);
-            if n <= most * k {
-                if n as f64 / scale == x {
-                    return Steps::Whole(n);
-                }
-            }
+    if y > -1.0 && y < 18446744073709551616.0 {
+        let n = std::num::truncating_f64_to_u64(y);
+        if n <= most * k && n as f64 / scale == x {
+            return Some(n);
         }
     }
-    Steps::Other
+    None
 }
 
-fn of_counts(x: f64) -> Meaning
+fn of_counts(x: f64) -> Option<Parts>
     ensures { result ≡ meaning (Tolerance.Counts x) }
 {
-    let s = take_steps(x, 64, 65535);
-    match s {
-        Steps::Whole(n) => Meaning::Exact(alike(ratio::reduce(n, 64))),
-        Steps::Other => Meaning::NotAllowed,
-    }
+    let n = take_steps(x, 64, 65535)?;
+    Some(alike(ratio::reduce(n, 64)))
 }
 
 // The product of two f64 in whole steps is exact, and so is the number of 512ths in it.
-fn of_noise(r: Noise) -> Meaning
+fn of_noise(r: Noise) -> Option<Parts>
     ensures { result ≡ meaning (Tolerance.Noise r) }
 {
-    let a = take_steps(r.noise, 64, 1023);
-    let b = take_steps(r.multiple, 8, 63);
-    match a {
-        Steps::Whole(_) => match b {
-            Steps::Whole(_) => {
-                let product = r.noise * r.multiple;
-                let n = std::num::truncating_f64_to_u64(product * 512.0);
-                Meaning::Exact(alike(ratio::reduce(n, 512)))
-            }
-            Steps::Other => Meaning::NotAllowed,
-        },
-        Steps::Other => Meaning::NotAllowed,
-    }
+    take_steps(r.noise, 64, 1023)?;
+    take_steps(r.multiple, 8, 63)?;
+    let product = r.noise * r.multiple;
+    let n = std::num::truncating_f64_to_u64(product * 512.0);
+    Some(alike(ratio::reduce(n, 512)))
 }
 
 // Whether a fraction is allowed as a ratio.
 pub fn is_allowed(r: Ratio) -> bool
     ensures { result ≡ allowed_ratio r.p r.q }
 {
-    if r.q < 1 {
-        return false;
-    }
-    if 1_048_575 < r.q {
-        return false;
-    }
-    r.p <= 65_535 * r.q
+    1 <= r.q && r.q <= 1_048_575 && r.p <= 65_535 * r.q
 }
 
-fn of_ratio(p: u64, q: u64) -> Meaning
+// A fraction in lowest terms, where it is allowed as a ratio.
+#[tactic(auto, using(crate::proofs::Meanings::allowed_pos))]
+fn reduced(r: Ratio) -> Option<Ratio>
+    ensures { result ≡ cond (allowed_ratio r.p r.q) (Some (lowest r.p r.q)) None }
+{
+    if is_allowed(r) {
+        Some(ratio::reduce(r.p, r.q))
+    } else {
+        None
+    }
+}
+
+fn of_ratio(p: u64, q: u64) -> Option<Parts>
     ensures { result ≡ meaning (Tolerance.Ratio p q) }
 {
-    if is_allowed(Ratio { p, q }) {
-        return Meaning::Exact(alike(ratio::reduce(p, q)));
-    }
-    Meaning::NotAllowed
+    let r = reduced(Ratio { p, q })?;
+    Some(alike(r))
 }
 
-fn of_parts(x: Parts) -> Meaning
+fn of_parts(x: Parts) -> Option<Parts>
     ensures { result ≡ meaning (Tolerance.Parts x) }
 {
-    let up = x.up;
-    let down = x.down;
-    if is_allowed(up) {
-        if is_allowed(down) {
-            let above = ratio::reduce(up.p, up.q);
-            let below = ratio::reduce(down.p, down.q);
-            return Meaning::Exact(Parts {
-                up: above,
-                down: below,
-            });
-        }
-    }
-    Meaning::NotAllowed
+    let up = reduced(x.up)?;
+    let down = reduced(x.down)?;
+    Some(Parts { up, down })
 }
 
 // The tolerance as parts in lowest terms.
-pub fn meaning_of(t: Tolerance) -> Meaning
+pub fn meaning_of(t: Tolerance) -> Option<Parts>
     ensures { result ≡ meaning t }
 {
     match t {

@@ -5,31 +5,26 @@
 --   held_rows                  the first of the rows 4, 15, 10 that applies, where so many of the first tolerances are allowed
 --   several_rows               the first of the rows 19, 4, 15, 10 that applies, for lists of n entries, one after another
 --   scan_rows                  the first of the rows 1, 2, 3, 19, 4, 15, 10 that applies
---   parts_at, put_parts        the parts of tolerance a in a list of numbers, p and q of each; a list with them put in
+--   parts_at                   the parts of tolerance a in a list
 --   Each                       the parts under which the tolerances before k are held
---   Holds                      each tolerance up to the first that is not allowed is held
---   Several, SeveralPrepared   what the checks 19, 4, 15, 10 give: the parts of each tolerance and room, or the row
+--   each_row, Holds            row 4; what check 4 gives: the parts of each tolerance, or the row
+--   Several                    what the checks 19, 4, 15, 10 give: the parts of each tolerance and room
 --   ScanReady, ScanPrepared    what all checks give: a trace too, or the row
 -- Laws are in TolerancesLaws. Assumes nothing.
-use Rattle.std.specs.Prelude.{◌≡◌, Bool, true, false, ◌&&◌, List, ℕ, ◌+◌, ◌*◌, ◌≤◌, ◌<◌, leb, ℤ, length, get_or, set}
+use Rattle.std.specs.Prelude.{◌≡◌, Bool, true, false, ◌&&◌, List, ℕ, ◌*◌, ◌≤◌, ◌<◌, leb, ℤ, length, get_or, None, Ok, Err, Option, Result, Some}
 use Rattle.lists.specs.First.{first}
 use Rattle.ratio.specs.Order.{over}
+use Rattle.refusal.specs.declared.Refusal.{Refusal}
 use Rattle.refusal.specs.declared.Refusal.TheVariants.{Tolerance as NotAllowedAt, Count}
-use Rattle.refusal.specs.declared.Checked.{Checked}
-use Rattle.refusal.specs.declared.Checked.TheVariants.{Fine}
-use Rattle.refusal.specs.Table.{row, placed, room_row, ◌then_check◌}
+use Rattle.refusal.specs.Table.{row, placed, room_row, ◌then_check◌, Checked}
 use Rattle.tolerance.specs.declared.Parts.{Parts}
 use Rattle.tolerance.specs.declared.Tolerance.{Tolerance}
 use Rattle.tolerance.specs.declared.Tolerance.TheVariants.{Ratio}
-use Rattle.tolerance.specs.declared.Meaning.{Meaning}
-use Rattle.tolerance.specs.declared.Meaning.TheVariants.{Exact, NotAllowed}
 use Rattle.tolerance.specs.Meaning.{meaning}
 use Rattle.trace.specs.Trace.{Trace, trace_rows}
 use Rattle.limits.specs.declared.Limits.{Limits}
 use Rattle.limits.specs.Prepare.{gap_row}
 use Rattle.tolerances.specs.declared.Tolerances.{Tolerances}
-use Rattle.tolerances.specs.declared.Held.{Held}
-use Rattle.tolerances.specs.declared.Ready.{Ready}
 
 -- 0/0, which is not allowed, behind the list
 abbrev pub tolerance_at : Tolerances → ℕ → Tolerance
@@ -38,9 +33,9 @@ tolerance_at t a = (get_or t.list a (record { tolerance = Ratio 0 0 })).toleranc
 abbrev pub limits_at : Tolerances → ℕ → ℕ → Limits
 limits_at t g a = record { tolerance = tolerance_at t a; gap = g }
 
-abbrev not_allowed : Meaning → Bool
-not_allowed (Exact x) = false
-not_allowed NotAllowed = true
+abbrev not_allowed : Option Parts → Bool
+not_allowed (Some x) = false
+not_allowed None = true
 
 unfoldable pub bad_at : Tolerances → ℕ → Bool
 bad_at t a = not_allowed (meaning (tolerance_at t a))
@@ -59,37 +54,33 @@ several_rows t g n room = count_row t.count then_check held_rows t.count (first 
 unfoldable pub scan_rows : List ℕ → List ℤ → Tolerances → ℕ → ℕ → Checked
 scan_rows ts vs t g room = trace_rows 4096 ts vs then_check several_rows t g (length ts) room
 
--- the part above, then the part below
-abbrev pub parts_at : List ℕ → ℕ → Parts
-parts_at l a = record { up = over (get_or l a 0) (get_or l (a + 16) 0); down = over (get_or l (a + 32) 0) (get_or l (a + 48) 0) }
-
-abbrev pub put_parts : List ℕ → ℕ → Parts → List ℕ
-put_parts l a x = set (set (set (set l a x.up.p) (a + 16) x.up.q) (a + 32) x.down.p) (a + 48) x.down.q
+abbrev pub parts_at : List Parts → ℕ → Parts
+parts_at l a = get_or l a (record { up = over 0 0; down = over 0 0 })
 
 -- the parts of the tolerances before k
-pub record Each (t : Tolerances) (k : ℕ) (l : List ℕ) : Type 0 where
-  pub size : length l ≡ 64
-  pub held : (a : ℕ) → a < k → meaning (tolerance_at t a) ≡ Exact (parts_at l a)
+pub record Each (t : Tolerances) (k : ℕ) (l : List Parts) : Type 0 where
+  pub size : length l ≡ 16
+  pub held : (a : ℕ) → a < k → meaning (tolerance_at t a) ≡ Some (parts_at l a)
 
-pub record Holds (t : Tolerances) (r : Held) : Type 0 where
-  pub is : r.held ≡ first (bad_at t) 0 t.count
-  pub each : Each t r.held r.parts
+abbrev pub each_row : Tolerances → Checked
+each_row t = placed NotAllowedAt t.count (first (bad_at t) 0 t.count)
 
-pub record Several (t : Tolerances) (g n room : ℕ) (l : List ℕ) : Type 0 where
+abbrev pub Holds : Tolerances → Result (List Parts) Refusal → Type 0
+Holds t (Ok l) = (each_row t ≡ Ok tt) × Each t t.count l
+Holds t (Err x) = each_row t ≡ Err x
+
+pub record Several (t : Tolerances) (g n room : ℕ) (l : List Parts) : Type 0 where
   pub few : t.count ≤ 16
   pub each : Each t t.count l
-  pub gap : gap_row g ≡ Fine
+  pub gap : gap_row g ≡ Ok tt
   pub room_is : t.count * n ≤ room
 
-pub record SeveralPrepared (t : Tolerances) (g n room : ℕ) (r : Ready) : Type 0 where
-  pub is : r.checked ≡ several_rows t g n room
-  pub several : several_rows t g n room ≡ Fine → Several t g n room r.parts
-
-pub record ScanReady (ts : List ℕ) (vs : List ℤ) (t : Tolerances) (g room : ℕ) (l : List ℕ) : Type 0 where
-  pub row : trace_rows 4096 ts vs ≡ Fine
+pub record ScanReady (ts : List ℕ) (vs : List ℤ) (t : Tolerances) (g room : ℕ) (l : List Parts) : Type 0 where
+  pub rows : scan_rows ts vs t g room ≡ Ok tt
+  pub row : trace_rows 4096 ts vs ≡ Ok tt
   pub trace : Trace ts vs
   pub several : Several t g (length ts) room l
 
-pub record ScanPrepared (ts : List ℕ) (vs : List ℤ) (t : Tolerances) (g room : ℕ) (r : Ready) : Type 0 where
-  pub is : r.checked ≡ scan_rows ts vs t g room
-  pub ready : scan_rows ts vs t g room ≡ Fine → ScanReady ts vs t g room r.parts
+abbrev pub ScanPrepared : List ℕ → List ℤ → Tolerances → ℕ → ℕ → Result (List Parts) Refusal → Type 0
+ScanPrepared ts vs t g room (Ok l) = ScanReady ts vs t g room l
+ScanPrepared ts vs t g room (Err x) = scan_rows ts vs t g room ≡ Err x

@@ -6,20 +6,18 @@
 --   stepped    one of the two
 --   Goes       the numbers of that test fit
 --   Steps      the numbers of a step fit
---   Numbers    the lists of numbers in which all tolerances' states are held
---   Sized      each of them has 16 entries
 --   part       part a of an output whose parts are n long
 --   Inside     x is a place of part a
---   cone_in    the cone that the lists hold of tolerance a
---   held_in    what the lists hold of tolerance a
+--   held_in    what a walk that writes into part a holds
 -- Laws are in HeldLaws. Assumes nothing.
-use Rattle.std.specs.Prelude.{◌≡◌, Bool, false, cond, not, ◌&&◌, List, ℕ, ◌+◌, ◌-◌, ◌*◌, ◌≤◌, ◌<◌, ℤ, length, get_or, set, take, drop}
+use Rattle.std.specs.Prelude.{◌≡◌, Bool, false, cond, not, ◌&&◌, List, ℕ, ◌+◌, ◌-◌, ◌*◌, ◌≤◌, ◌<◌, set, take, drop}
 use Rattle.trace.specs.declared.Criterion.{Criterion}
 use Rattle.trace.specs.declared.Cone.{Cone}
 use Rattle.trace.specs.Link.{Bounded}
 use Rattle.trace.specs.Cone.{cone_from, admits_edge, extended_by, ConeFits}
 use Rattle.turns.specs.declared.Sample.{Sample}
-use Rattle.turns.specs.Sample.{aim_from, Ahead, edge_in}
+use Rattle.turns.specs.declared.Walk.{Walk}
+use Rattle.turns.specs.Sample.{aim_from, Ahead}
 
 pub record Held : Type 0 where
   pub tick : ℕ
@@ -63,29 +61,6 @@ pub record Steps (c : Criterion) (cut : Bool) (before here : Sample) (h : Held) 
   pub goes : Goes cut here h.tick h.level h.cone
   pub again : Ahead before.tick before.level here
 
--- `places` has the entry of the output that each tolerance writes next
-pub record Numbers : Type 0 where
-  pub starts : List ℕ
-  pub levels : List ℕ
-  pub low_climbs : List ℤ
-  pub low_runs : List ℕ
-  pub high_climbs : List ℤ
-  pub high_runs : List ℕ
-  pub places : List ℕ
-
-abbrev pub numbers : List ℕ → List ℕ → List ℤ → List ℕ → List ℤ → List ℕ → List ℕ → Numbers
-numbers st le lc lr hc hr pl = record { starts = st; levels = le; low_climbs = lc; low_runs = lr; high_climbs = hc; high_runs = hr; places = pl }
-
--- each list has 16 entries
-pub record Sized (s : Numbers) : Type 0 where
-  pub starts : length s.starts ≡ 16
-  pub levels : length s.levels ≡ 16
-  pub low_climbs_full : length s.low_climbs ≡ 16
-  pub low_runs_full : length s.low_runs ≡ 16
-  pub high_climbs_full : length s.high_climbs ≡ 16
-  pub high_runs_full : length s.high_runs ≡ 16
-  pub places : length s.places ≡ 16
-
 abbrev pub part : ℕ → ℕ → List ℕ → List ℕ
 part n a out = take n (drop (a * n) out)
 
@@ -93,14 +68,5 @@ pub record Inside (n a x : ℕ) : Type 0 where
   pub from : a * n ≤ x
   pub to : x < a * n + n
 
-abbrev pub cone_in : List ℤ → List ℕ → List ℤ → List ℕ → ℕ → Cone
-cone_in lc lr hc hr a = record { low = edge_in lc lr a; high = edge_in hc hr a }
-
-abbrev pub held_in : ℕ → Numbers → List ℕ → ℕ → Held
-held_in n s out a = record {
-  tick = get_or s.starts a 0;
-  level = get_or s.levels a 0;
-  cone = cone_in s.low_climbs s.low_runs s.high_climbs s.high_runs a;
-  count = get_or s.places a 0 - a * n;
-  list = part n a out;
-}
+abbrev pub held_in : ℕ → ℕ → Walk → List ℕ → Held
+held_in n a w out = record { tick = w.tick; level = w.level; cone = w.cone; count = w.place - a * n; list = part n a out }

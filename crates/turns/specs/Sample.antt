@@ -1,19 +1,16 @@
--- Samples by value, and edges made of them and of what is held in lists of numbers.
+-- Samples by value, and edges made of them.
 --   SampleAt     s is sample k of a trace
 --   edge_from    the edge from a start, given by its tick and level, to a sample
 --   aim_from     the edges to it, at both scales of a criterion
 --   Ahead        the sample lies at or after that start, within the span, and their levels fit
---   edge_in      the edge that entry b of two lists holds, by its climb and its run
---   Climbs       z is a climb
---   Put          an edge was put into entry b
 -- Laws are in SampleLaws. Assumes nothing.
-use Rattle.std.specs.Prelude.{◌≡◌, List, ℕ, ◌+◌, ◌-◌, ◌*◌, ◌≤◌, ℤ, pos, get_or, set}
+use Rattle.std.specs.Prelude.{◌≡◌, List, ℕ, ◌+◌, ◌-◌, ◌*◌, ◌≤◌, ℤ}
 use Rattle.trace.specs.declared.Criterion.{Criterion}
 use Rattle.trace.specs.declared.Edge.{Edge}
 use Rattle.trace.specs.declared.Aim.{Aim}
 use Rattle.trace.specs.Trace.{tick, value}
-use Rattle.trace.specs.Level.{offset, LevelOf}
-use Rattle.trace.specs.Edge.{middle, climb_of, edge_of}
+use Rattle.trace.specs.Level.{LevelOf}
+use Rattle.trace.specs.Edge.{middle, edge_of}
 use Rattle.turns.specs.declared.Sample.{Sample}
 
 pub record SampleAt (ts : List ℕ) (vs : List ℤ) (k : ℕ) (s : Sample) : Type 0 where
@@ -31,14 +28,3 @@ pub record Ahead (tick level : ℕ) (to : Sample) : Type 0 where
   pub order : tick ≤ to.tick
   pub span : to.tick ≤ tick + 1048575
   pub short : to.level ≤ 65535
-
-abbrev pub edge_in : List ℤ → List ℕ → ℕ → Edge
-edge_in climbs runs b = record { rise = offset middle (get_or climbs b (pos 0)); run = get_or runs b 0; climb = get_or climbs b (pos 0) }
-
-pub record Climbs (z : ℤ) : Type 0 where
-  pub is : z ≡ climb_of (offset middle z)
-  pub bound : offset middle z ≤ 274877906944
-
-pub record Put (climbs : List ℤ) (runs : List ℕ) (b : ℕ) (e : Edge) (climbs' : List ℤ) (runs' : List ℕ) : Type 0 where
-  pub climb : climbs' ≡ set climbs b e.climb
-  pub run : runs' ≡ set runs b e.run

@@ -4,7 +4,7 @@ ghost use Rattle.trace.specs.Link.{Bounded};
 ghost use Rattle.turns.specs.Sample.{SampleAt, edge_from, aim_from, Ahead};
 
 use crate::Sample;
-use trace::edges::{edge_of, level_at, scaled, wide};
+use trace::edges::{edge_of, level_at, scaled};
 use trace::{Aim, Criterion, Edge};
 
 const MIDDLE: u64 = 0x20_0000_0000;
@@ -15,7 +15,7 @@ pub fn sample_at(ticks: &[u32], values: &[i16], k: usize) -> Sample
     ensures { SampleAt ticks.now values.now k result }
 {
     Sample {
-        tick: wide(ticks[k]),
+        tick: u64::from(ticks[k]),
         level: level_at(values, k),
     }
 }
@@ -44,5 +44,5 @@ pub fn far_apart(before: Sample, here: Sample, gap: u32) -> bool
     requires { before.tick ≤ here.tick }
     ensures { result ≡ ltb gap (here.tick - before.tick) }
 {
-    wide(gap) < here.tick - before.tick
+    u64::from(gap) < here.tick - before.tick
 }

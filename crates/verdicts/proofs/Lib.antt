@@ -1,3 +1,2 @@
 -- The laws of the crate `verdicts`.
 pub mod SumLaws
-pub mod SignedLaws

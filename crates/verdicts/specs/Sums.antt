@@ -2,8 +2,8 @@
 --   total, squares    the sum S of values, and the sum Q of their squares
 --   spread            n Q - S²: the square of n times the width of n values
 --   moved, noisy      the two tests of today's values and those of the run before
---   Summed            S and Q as they are computed, with what bounds them
---   Sized, spread_in  sums that fit their numbers, and n Q - S² from them
+--   Summed            n, S and Q as they are computed
+--   spread_in         n Q - S² from them
 --   Comparable        values that the checks pass
 --   Judged            what is said of a channel is what the two tests say
 -- Laws are in SumLaws. Assumes nothing.
@@ -11,7 +11,7 @@ use Rattle.std.specs.Prelude.{◌≡◌, Bool, List, [], ◌∷◌, ℕ, ◌*◌
 use Rattle.std.specs.Int.Signed.{lt_z}
 use Rattle.ratio.specs.declared.Ratio.{Ratio}
 use Rattle.tolerance.specs.Meaning.{Held}
-use Rattle.verdicts.specs.declared.Sums.{Sums}
+use Rattle.verdicts.specs.declared.sums.Sums.{Sums}
 use Rattle.verdicts.specs.declared.Verdict.{Verdict}
 
 abbrev pub total : List ℤ → ℤ
@@ -33,23 +33,14 @@ moved r today earlier = ltb (r.p * length today) (nat_abs (total today -ℤ tota
 unfoldable pub noisy : ℕ → List ℤ → List ℤ → Bool
 noisy k today earlier = lt_z (pos (k * k) *ℤ spread earlier) (spread today)
 
--- of n values, each from -32,768 to 32,767
-pub record Summed (n : ℕ) (vs : List ℤ) (r : Sums) : Type 0 where
+pub record Summed (vs : List ℤ) (r : Sums) : Type 0 where
+  pub count : r.count ≡ length vs
   pub sum : r.sum ≡ total vs
   pub squares : pos r.squares ≡ squares vs
-  pub sum_bound : nat_abs r.sum ≤ 32768 * n
-  pub squares_bound : r.squares ≤ 1073741824 * n
-
--- the sums of n values fit the numbers that hold them, and n Q - S² is not negative
-pub record Sized (n : ℕ) (x : Sums) : Type 0 where
-  pub few : n ≤ 4096
-  pub sum : nat_abs x.sum ≤ 134217728
-  pub squares : x.squares ≤ 1073741824 * n
-  pub root : nat_abs x.sum * nat_abs x.sum ≤ n * x.squares
 
 -- n Q - S², from the sums as they are computed
-abbrev pub spread_in : ℕ → Sums → ℕ
-spread_in n x = n * x.squares - nat_abs x.sum * nat_abs x.sum
+abbrev pub spread_in : Sums → ℕ
+spread_in x = x.count * x.squares - nat_abs x.sum * nat_abs x.sum
 
 -- the values of a channel that passes the checks, in two runs
 pub record Comparable (today earlier : List ℤ) (r : Ratio) (k : ℕ) : Type 0 where

@@ -46,13 +46,6 @@ module _ {ts : List ℕ} {vs : List ℤ} {l : List ℕ} (kept : Kept ts vs l) wh
     value_range = b;
   }
 
-  -- the kept sample at position i, from the sample of the trace
-  pub sample_is : (i : ℕ) → i < length l → {s : Start} → StartAt ts vs (get_or l i 0) s → SampleAt ts vs l i (record { tick = s.tick; level = s.level })
-  sample_is i h {s} a = record {
-    tick_is = a.tick ∙ sym (select_at 0 ts l i h);
-    level_is = rw (select_at (pos 0) vs l i h) (record { is = a.level_is; range = a.range });
-  }
-
   module _ {i : ℕ} {a b : Sample} (h : i + 1 < length l) (p : SampleAt ts vs l i a) (q : SampleAt ts vs l (i + 1) b) where
     pub step_between : StepBetween a b
     step_between =

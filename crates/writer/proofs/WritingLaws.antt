@@ -11,7 +11,7 @@ use native.Mathlib.Numerals.{add-one}
 use native.Mathlib.Omega.{arith}
 use native.Mathlib.Decide.{dec_le}
 use borrow.Author.Count.{below_more}
-use borrow.Author.Tests.{le-leb, lt-leb}
+use borrow.Author.Tests.{le-leb}
 use borrow.Rule.Slice.PartMut.{put_mid}
 use lib.IntN.{ℤ, pos}
 use lib.ListN.{length, take, drop, length-append, drop_of_length-le, get_or-eq_default}
@@ -22,8 +22,6 @@ use Rattle.lists.specs.Part.{overwrite_from}
 use Rattle.lists.proofs.OverwriteLaws.{overwrite_length}
 use Rattle.lists.proofs.PartLaws.{written_part, written_from, written_within}
 use Rattle.lists.proofs.SelectLaws.{select_length}
-use Rattle.refusal.specs.declared.Refusal.TheVariants.{Room}
-use Rattle.refusal.specs.declared.Checked.TheVariants.{Refused as Declined}
 use Rattle.tolerance.specs.declared.Parts.{Parts}
 use Rattle.trace.specs.Trace.{tick, value}
 use Rattle.trace.specs.Level.{level}
@@ -36,12 +34,8 @@ use Rattle.format.proofs.CommandLaws.{command_append, command_length}
 use Rattle.format.proofs.HeaderLaws.{tolerance_size_lem}
 use Rattle.format.proofs.ParseEncode.{parse_encode}
 use Rattle.writer.specs.declared.Sample.{Sample}
-use Rattle.writer.specs.Writing.{Kept, kept_ticks, kept_values, selected, write_row, WrittenAt, SampleAt, step_from, step_at, kept_samples, rest_of, RestLength, SamplesLength, LengthOf, most_bytes}
+use Rattle.writer.specs.Writing.{Kept, kept_ticks, kept_values, selected, WrittenAt, SampleAt, step_from, step_at, kept_samples, rest_of, RestLength, SamplesLength, LengthOf, most_bytes}
 use Rattle.writer.proofs.SelectedLaws.{list_some, kept_trace, step_same}
-
--- the second operand of a command is written as x, which is y
-pub operand_is : {x y : ℕ} {p : List ℕ} (o : List ℕ) (kind i a j : ℕ) → x ≡ y → p ≡ overwrite (kind ∷ bytes_onto i a (bytes_onto j x [])) o → p ≡ overwrite (kind ∷ bytes_onto i a (bytes_onto j y [])) o
-operand_is o kind i a j e h = h ∙ ap (λ (z : ℕ). overwrite (kind ∷ bytes_onto i a (bytes_onto j z [])) o) e
 
 -- ---- a record's parts
 
@@ -148,15 +142,6 @@ pub record Counted (ts : List ℕ) (vs : List ℤ) (l : List ℕ) (s : Sample) (
   pub range : (k : ℕ) → k < i + 1 → mag (value (kept_values vs l) k) < 32768
 
 module _ {ts : List ℕ} {vs : List ℤ} {l : List ℕ} (kept : Kept ts vs l) where
-  pub count_begins : {s : Sample} → SampleAt ts vs l 0 s → Counted ts vs l s 0 0
-  count_begins p = record {
-    within = list_some kept;
-    sample = p;
-    small = omega arith;
-    is = omega arith;
-    range = below_more _ _ (λ k h. absurd (omega arith)) p.level_is.range;
-  }
-
   pub counts : {s : Sample} {total i : ℕ} → Counted ts vs l s total i → i + 1 < length l → {b : Sample} → SampleAt ts vs l (i + 1) b → {k : ℕ} → k ≡ size_of (step_from s b) → k ≤ 6
       → Counted ts vs l b (total + k) (i + 1)
   counts c h q e small = record {
@@ -187,9 +172,6 @@ pub record Putting (ts : List ℕ) (vs : List ℤ) (l : List ℕ) (o part : List
   pub room : length (rest_of (kept_ticks ts l) (kept_values vs l) 0) ≤ length o
 
 module _ {ts : List ℕ} {vs : List ℤ} {l : List ℕ} (kept : Kept ts vs l) where
-  pub put_begins : {o : List ℕ} {s : Sample} → SampleAt ts vs l 0 s → length (rest_of (kept_ticks ts l) (kept_values vs l) 0) ≤ length o → Putting ts vs l o o s 0 0 []
-  put_begins p h = record { within = list_some kept; sample = p; rest = refl; over = refl; long = refl; room = h }
-
   module _ {o part : List ℕ} {s : Sample} {at i : ℕ} {w : List ℕ} (g : Putting ts vs l o part s at i w) where
     total : length (rest_of (kept_ticks ts l) (kept_values vs l) 0) ≡ at + length (rest_of (kept_ticks ts l) (kept_values vs l) i)
     total = ap length g.rest ∙ length-append w (rest_of (kept_ticks ts l) (kept_values vs l) i) ∙ omega (arith, g.long)
@@ -226,9 +208,6 @@ module _ {ts : List ℕ} {vs : List ℤ} {l : List ℕ} (kept : Kept ts vs l) wh
 -- ---- the outcome
 
 module _ (x : Content) (o : List ℕ) (place : ℕ) {n : ℕ} (e : n ≡ length (encode x)) where
-  pub no_room : length o - place < n → write_row (encode x) (length o) place ≡ Declined (Room n)
-  no_room h = rw (← e, lt-leb n (length o - place) h)
-
   pub wrote : Legal x → place ≤ length o → n ≤ length o - place → {ys : List ℕ} → ys ≡ overwrite (encode x) (take (length o - place) (drop place o))
       → WrittenAt x o place n (put_mid place (length o - place) o ys)
   wrote legal p h {ys} y =

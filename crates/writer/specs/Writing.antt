@@ -12,14 +12,12 @@
 --   RestLength, SamplesLength, LengthOf the bytes after the first sample; those after the tolerance; the record's length
 --   most_bytes                          the most bytes of a record of so many samples
 -- Laws are in SelectedLaws and WritingLaws. Assumes nothing.
-use Rattle.std.specs.Prelude.{◌≡◌, List, [], ℕ, suc, ◌+◌, ◌-◌, ◌*◌, ◌≤◌, ◌<◌, ℤ, pos, length, take, drop}
+use Rattle.std.specs.Prelude.{◌≡◌, List, [], ℕ, suc, ◌+◌, ◌-◌, ◌*◌, ◌≤◌, ◌<◌, ℤ, pos, length, take, drop, Err, Ok, Result}
 use Rattle.std.specs.Int.Signed.{mag}
 use Rattle.lists.specs.Part.{overwrite_from}
 use Rattle.lists.specs.Select.{select}
 use Rattle.refusal.specs.declared.Refusal.{Refusal}
-use Rattle.refusal.specs.declared.Checked.{Checked}
-use Rattle.refusal.specs.declared.Checked.TheVariants.{Fine, Refused as Declined}
-use Rattle.refusal.specs.Table.{room_row}
+use Rattle.refusal.specs.Table.{room_row, Checked}
 use Rattle.kept.specs.Kept.{KeptList}
 use Rattle.tolerance.specs.declared.Parts.{Parts}
 use Rattle.trace.specs.Trace.{tick, value, Trace}
@@ -28,8 +26,6 @@ use Rattle.format.specs.declared.Command.{Command}
 use Rattle.format.specs.declared.Command.TheVariants.{End}
 use Rattle.format.specs.Command.{size_of, command_onto}
 use Rattle.format.specs.Format.{Content, Accepted, tolerance_command, step_to, steps_onto, samples_onto, encode}
-use Rattle.writer.specs.declared.Answer.{Answer}
-use Rattle.writer.specs.declared.Answer.TheVariants.{Written, Refused}
 use Rattle.writer.specs.declared.Sample.{Sample}
 
 pub record Kept (ts : List ℕ) (vs : List ℤ) (l : List ℕ) : Type 0 where
@@ -53,19 +49,19 @@ write_row b m place = room_row (length b) (m - place)
 
 -- n bytes were written: the record of x, from the place on, and read back they say x; other bytes keep their values
 pub record WrittenAt (x : Content) (o : List ℕ) (place n : ℕ) (o' : List ℕ) : Type 0 where
-  pub rows : write_row (encode x) (length o) place ≡ Fine
+  pub rows : write_row (encode x) (length o) place ≡ Ok tt
   pub count : n ≡ length (encode x)
   pub content : o' ≡ overwrite_from place (encode x) o
   pub accepted : Accepted (take n (drop place o')) x
 
 -- the row applied, and the buffer is as it was
 pub record WriteDeclined (x : Content) (o : List ℕ) (place : ℕ) (e : Refusal) (o' : List ℕ) : Type 0 where
-  pub rows : write_row (encode x) (length o) place ≡ Declined e
+  pub rows : write_row (encode x) (length o) place ≡ Err e
   pub content : o' ≡ o
 
-abbrev pub ContentWritten : Content → List ℕ → ℕ → Answer → List ℕ → Type 0
-ContentWritten x o place (Written n) o' = WrittenAt x o place n o'
-ContentWritten x o place (Refused e) o' = WriteDeclined x o place e o'
+abbrev pub ContentWritten : Content → List ℕ → ℕ → Result ℕ Refusal → List ℕ → Type 0
+ContentWritten x o place (Ok n) o' = WrittenAt x o place n o'
+ContentWritten x o place (Err e) o' = WriteDeclined x o place e o'
 
 -- ---- kept samples
 

@@ -10,16 +10,9 @@ ghost use Rattle.format.specs.Format.{tolerance_command, encode};
 ghost use Rattle.writer.specs.Writing.{Kept, kept_ticks, kept_values, kept_samples, selected, SampleAt, rest_of, RestLength, SamplesLength, LengthOf, most_bytes, ContentWritten};
 
 use commands::{put_end, put_first, put_step, put_tolerance, step_size};
-use refusal::Refusal;
+use refusal::{Refusal, check_room};
 use samples::sample_at;
 use tolerance::Parts;
-
-// What writing answers: the record's length, or why it declined.
-#[derive(Clone, Copy)]
-pub enum Answer {
-    Written(usize),
-    Refused(Refusal),
-}
 
 // A sample: its tick and its level, the value + 32,768.
 #[derive(Clone, Copy)]
@@ -36,15 +29,12 @@ fn samples_length(ticks: &[u32], values: &[i16], list: &[u16]) -> usize
     requires { Kept ticks.now values.now list.now }
     ensures { SamplesLength ticks.now values.now list.now result × (result ≤ 24586) }
 {
-    let n = list.len();
     let mut s = sample_at(ticks, values, list, 0);
-    let mut total: usize = 0;
-    let mut i: usize = 0;
-    while i + 1 < n {
+    let mut total = 0;
+    for i in 0..list.len() - 1 {
         let to = sample_at(ticks, values, list, i + 1);
         total += step_size(s, to);
         s = to;
-        i += 1;
     }
     7 + total + 3
 }
@@ -53,10 +43,7 @@ fn samples_length(ticks: &[u32], values: &[i16], list: &[u16]) -> usize
 fn tolerance_size(held: Parts) -> usize
     ensures { (result ≡ size_of (tolerance_command held)) × (result ≤ 17) }
 {
-    if tolerance::agree(held) {
-        return 9;
-    }
-    17
+    if tolerance::agree(held) { 9 } else { 17 }
 }
 
 // The length of the record.
@@ -72,17 +59,14 @@ fn put_steps(part: &mut [u8], ticks: &[u32], values: &[i16], list: &[u16], first
     requires { Kept ticks.now values.now list.now × SampleAt ticks.now values.now list.now 0 first × (length (rest_of (kept_ticks ticks.now list.now) (kept_values values.now list.now) 0) ≤ length part.old) }
     ensures { (part.new ≡ overwrite (rest_of (kept_ticks ticks.now list.now) (kept_values values.now list.now) 0) part.old) × RestLength ticks.now values.now list.now result }
 {
-    let n = list.len();
     let mut s = first;
-    let mut at: usize = 0;
-    let mut i: usize = 0;
-    while i + 1 < n {
+    let mut at = 0;
+    for i in 0..list.len() - 1 {
         let to = sample_at(ticks, values, list, i + 1);
         at += put_step(&mut part[at..], s, to);
         s = to;
-        i += 1;
     }
-    put_end(&mut part[at..], n as u64);
+    put_end(&mut part[at..], list.len() as u64);
     at + 3
 }
 
@@ -115,19 +99,14 @@ fn write_counted(
     held: Parts,
     buffer: &mut [u8],
     place: usize,
-) -> Answer
+) -> Result<usize, Refusal>
     requires { Kept ticks.now values.now list.now × HeldParts held }
     ensures { ContentWritten (selected held ticks.now values.now list.now) buffer.old place result buffer.new }
 {
     let n = record_length(ticks, values, list, held);
-    if buffer.len() < place {
-        return Answer::Refused(Refusal::Room(n));
-    }
-    if buffer.len() - place < n {
-        return Answer::Refused(Refusal::Room(n));
-    }
+    check_room(n, buffer.len().saturating_sub(place))?;
     put_record(&mut buffer[place..], ticks, values, list, held);
-    Answer::Written(n)
+    Ok(n)
 }
 
 // The most bytes of a record of so many samples at a tolerance.
@@ -142,10 +121,7 @@ fn most_bytes(held: Parts, samples: usize) -> usize
 fn has_room(size: usize, place: usize, n: usize) -> bool
     ensures { result ≡ (leb place size && leb n (size - place)) }
 {
-    if size < place {
-        return false;
-    }
-    n <= size - place
+    place <= size && n <= size - place
 }
 
 // Writes the record of the kept samples and the held tolerance into the event buffer from a place on. Its length is counted only where a
@@ -157,13 +133,14 @@ pub fn write(
     held: Parts,
     buffer: &mut [u8],
     place: usize,
-) -> Answer
+) -> Result<usize, Refusal>
     requires { Kept ticks.now values.now list.now × HeldParts held }
     ensures { ContentWritten (selected held ticks.now values.now list.now) buffer.old place result buffer.new }
 {
     if has_room(buffer.len(), place, most_bytes(held, list.len())) {
         let n = put_record(&mut buffer[place..], ticks, values, list, held);
-        return Answer::Written(n);
+        Ok(n)
+    } else {
+        write_counted(ticks, values, list, held, buffer, place)
     }
-    write_counted(ticks, values, list, held, buffer, place)
 }

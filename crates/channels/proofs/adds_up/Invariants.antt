@@ -1,11 +1,8 @@
--- `channels::adds_up` meets its contract. Assumes nothing.
-use Prim.Native.Nat.{◌-◌}
-use lib.ListN.{length}
-use Rattle.channels.proofs.ChannelLaws.{Adding}
+-- `channels::adds_up` meets its contract: what is left of n, and the lengths so far, add up to n. Assumes nothing.
+use mathlib.Core.Path.{◌≡◌}
+use Prim.Native.Nat.{◌+◌}
+use Rattle.channels.specs.Channels.{place_of}
 use Rattle.channels.proofs.adds_up.Given as goal
 
-abbrev pub invariant-loop-i : goal.invariant-loop-i
-invariant-loop-i l = Adding l.lengths l.n l.left l.i
-
-abbrev pub decreases-loop-i : goal.decreases-loop-i
-decreases-loop-i l = length l.lengths - l.i
+abbrev pub invariant-loop-next : goal.invariant-loop-next
+invariant-loop-next l = l.left + place_of l.lengths l.next-index ≡ l.n

@@ -66,11 +66,8 @@ module _ (codes : List ℕ) where
     behind = g.behind;
   }
 
-  pub met : {i : ℕ} → length codes - i ≤ i → (k : ℕ) → Passed i k
+  pub met : {i : ℕ} → length codes ≤ i + i → (k : ℕ) → Passed i k
   met {i} h k = by_test (leb (suc k) i) (λ t. inl (leb-true (suc k) i t)) (λ f. inr (omega (arith, leb-false (suc k) i f)))
 
 abbrev pub invariant-loop-i : goal.invariant-loop-i
-invariant-loop-i l = (l.i ≤ l.n) × Going l.codes l.initial.out l.out (Passed l.codes l.i)
-
-abbrev pub decreases-loop-i : goal.decreases-loop-i
-decreases-loop-i l = l.n - l.i
+invariant-loop-i l = Going l.codes l.initial.out l.out (Passed l.codes l.i)

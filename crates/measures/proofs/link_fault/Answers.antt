@@ -1,11 +1,12 @@
 -- `measures::link_fault` meets its contract. Assumes nothing.
-use Rattle.measures.proofs.MeasureLaws.{fault_far, fault_gap}
+use Rattle.std.proofs.Common.{rules}
+use Rattle.measures.specs.Measure.{fault_of}
 use Rattle.measures.proofs.link_fault.Goals as goal
 
-pub returns-then-not-all_within : goal.returns-then-not-all_within
-returns-then-not-all_within c =
-    fault_far c.requires.0 _ c.link_measure-m.ensures.is c.all_within.ensures (c.if-not-all_within.true)
+pub returns-then-all_within : goal.returns-then-all_within
+unfolding fault_of
+returns-then-all_within c = search rules
 
-pub returns : goal.returns
-returns c =
-    fault_gap c.requires.0 _ c.link_measure-m.ensures.is c.all_within.ensures (c.if-not-all_within.false) c.first_hole.ensures
+pub returns-else-all_within : goal.returns-else-all_within
+unfolding fault_of
+returns-else-all_within c = search rules

@@ -1,18 +1,7 @@
 -- `measures::side_at` meets its contract. Assumes nothing.
 use mathlib.Core.Path.{◌∙◌}
-use native.Mathlib.Omega.{arith}
-use Rattle.trace.proofs.EdgeLaws.{reach, distance_requires, side_is}
+use Rattle.trace.proofs.EdgeLaws.{distance_requires, side_is}
 use Rattle.measures.proofs.side_at.Goals as goal
-
-pub edge_to-to-requires : goal.edge_to-to-requires
-edge_to-to-requires c =
-    let pre = c.requires in
-    reach c.start_at-from.ensures pre.0.trace (omega (arith, pre.0.forward)) pre.0.inside (omega arith)
-
-pub edge_to-requires : goal.edge_to-requires
-edge_to-requires c =
-    let pre = c.requires in
-    reach c.start_at-from.ensures pre.0.trace pre.1 (omega (arith, pre.2, pre.0.inside)) (omega arith)
 
 pub edge_side-requires : goal.edge_side-requires
 edge_side-requires c =

@@ -1,13 +1,6 @@
 -- `outgoing::links_past` meets its contract. Assumes nothing.
-use native.Mathlib.Omega.{arith}
-use Rattle.trace.proofs.EdgeLaws.{reach_both}
 use Rattle.outgoing.proofs.OutgoingLaws.{first_tilt, taken_first}
 use Rattle.outgoing.proofs.links_past.Goals as goal
-
-pub aim_at-to-requires : goal.aim_at-to-requires
-aim_at-to-requires c =
-    let pre = c.requires in
-    reach_both c.start_at-from.ensures pre.0 (omega arith) pre.2 pre.1
 
 pub cone_of-requires : goal.cone_of-requires
 cone_of-requires c =

@@ -1,10 +1,6 @@
 -- `outgoing::taken_to` meets its contract. The loop's invariant: every sample before k has been taken in. Assumes nothing.
-use Prim.Native.Nat.{◌-◌, ◌≤◌}
 use Rattle.outgoing.specs.Outgoing.{TakenIn}
 use Rattle.outgoing.proofs.taken_to.Given as goal
 
 abbrev pub invariant-loop-k : goal.invariant-loop-k
-invariant-loop-k l = TakenIn l.ticks l.values l.c l.initial.l.from.sample l.k l.l × (l.a ≤ l.k) × (l.k ≤ l.b)
-
-abbrev pub decreases-loop-k : goal.decreases-loop-k
-decreases-loop-k l = l.b - l.k
+invariant-loop-k l = TakenIn l.ticks l.values l.c l.initial.links.from.sample l.k l.links

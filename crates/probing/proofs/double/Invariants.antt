@@ -4,8 +4,8 @@ use lib.ListN.{length}
 use Rattle.probing.proofs.ProbingLaws.{Raising}
 use Rattle.probing.proofs.double.Given as goal
 
-abbrev pub invariant-loop-s : goal.invariant-loop-s
-invariant-loop-s l = Raising l.ticks l.values l.c l.i l.s
+abbrev pub invariant-loop-c : goal.invariant-loop-c
+invariant-loop-c l = Raising l.ticks l.values l.c l.i l.s l.high
 
-abbrev pub decreases-loop-s : goal.decreases-loop-s
-decreases-loop-s l = length l.ticks - l.s.low
+abbrev pub decreases-loop-c : goal.decreases-loop-c
+decreases-loop-c l = length l.ticks - l.s.low

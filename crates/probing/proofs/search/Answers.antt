@@ -5,10 +5,10 @@ use Rattle.probing.proofs.search.Goals as goal
 pub bisect-requires : goal.bisect-requires
 bisect-requires c =
     let pre = c.requires in
-    (pre.0, pre.1, yes_own c.double-up.ensures.yes.0, c.double-up.ensures.yes.1)
+    (pre.0, pre.1, yes_own c.double.ensures.yes.0, c.double.ensures.yes.1)
 
 pub returns : goal.returns
 returns c =
-    let y = c.double-up.ensures.yes.0 in
-    let d = c.double-up.ensures.finds in
+    let y = c.double.ensures.yes.0 in
+    let d = c.double.ensures.finds in
     record { finds = searched y d c.bisect.ensures; bounds = searched_bounds y d c.bisect.ensures c.requires.2 c.requires.3 }

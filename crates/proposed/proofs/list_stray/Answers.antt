@@ -7,12 +7,12 @@ pub loop-k-init : goal.loop-k-init
 loop-k-init c = worst_none_yet
 
 pub worse-worst-requires : goal.worse-worst-requires
-worse-worst-requires c = (allowed_small c.loop-k.invariant.allowed, allowed_small c.stray_at-e.ensures.allowed)
+worse-worst-requires c = (allowed_small c.loop-k.invariant.allowed, allowed_small c.stray_at.ensures.allowed)
 
 pub loop-k-preserved : goal.loop-k-preserved
 loop-k-preserved c =
     let pre = c.requires in
-    worst_more pre.0 pre.1 _ c.loop-k-test.true c.loop-k.invariant c.stray_at-e.ensures.is c.stray_at-e.ensures.allowed c.worse-worst.ensures
+    worst_more pre.0 pre.1 _ c.loop-k-test.true c.loop-k.invariant c.stray_at.ensures.is c.stray_at.ensures.allowed c.worse-worst.ensures
 
 pub reduce-error-requires : goal.reduce-error-requires
 reduce-error-requires c = c.loop-k.invariant.allowed.up.positive

@@ -1,11 +1,6 @@
 -- `proposed::list_stray` meets its contract: the loop has the error of the links before k, and its sample. Assumes nothing.
-use Prim.Native.Nat.{◌-◌}
-use lib.ListN.{length}
 use Rattle.proposed.proofs.WorstLink.{Worst}
 use Rattle.proposed.proofs.list_stray.Given as goal
 
 abbrev pub invariant-loop-k : goal.invariant-loop-k
 invariant-loop-k l = Worst l.ticks l.values l.list l.k l.worst
-
-abbrev pub decreases-loop-k : goal.decreases-loop-k
-decreases-loop-k l = length l.list - l.k

@@ -1,10 +1,10 @@
--- `ratio::gcd` meets its contract: at each turn the greatest common divisor of x and y is that of a and b, and y falls. Assumes nothing.
+-- `ratio::gcd` meets its contract: at each turn the greatest common divisor of a and b is that of those passed, and b falls. Assumes nothing.
 use mathlib.Core.Path.{◌≡◌}
 use Rattle.ratio.specs.Gcd.{gcd}
 use Rattle.ratio.proofs.gcd.Given as goal
 
-abbrev pub invariant-loop-y : goal.invariant-loop-y
-invariant-loop-y l = gcd l.x l.y ≡ gcd l.a l.b
+abbrev pub invariant-loop-b : goal.invariant-loop-b
+invariant-loop-b l = gcd l.a l.b ≡ gcd l.fn.a l.fn.b
 
-abbrev pub decreases-loop-y : goal.decreases-loop-y
-decreases-loop-y l = l.y
+abbrev pub decreases-loop-b : goal.decreases-loop-b
+decreases-loop-b l = l.b

@@ -14,8 +14,8 @@ part_row-row-requires c =
     let lt = c.loop-i-test.true in
     (c.requires.0, omega (arith, surveying_ticks h c.requires.1 lt), omega (arith, surveying_values h c.requires.1 lt))
 
-pub add-total-requires : goal.add-total-requires
-add-total-requires c =
+pub with-totals-requires : goal.with-totals-requires
+with-totals-requires c =
     let h = c.loop-i.invariant in
     let f = surveying_few h c.requires.1.few in
     (f.0, f.1, h.bounds.allowed, c.part_row-row.ensures.bounds)
@@ -26,7 +26,7 @@ overflow_add-at c =
 
 pub loop-i-preserved : goal.loop-i-preserved
 loop-i-preserved c =
-    surveying_more c.loop-i.invariant c.loop-i-test.true c.requires.1.few c.part_row-row.ensures.is c.part_row-row.ensures.bounds c.add-total.ensures
+    surveying_more c.loop-i.invariant c.loop-i-test.true c.requires.1.few c.part_row-row.ensures.is c.part_row-row.ensures.bounds c.with-totals.ensures
 
 pub returns : goal.returns
-returns c = surveying_all c.loop-i.invariant c.loop-i-test.false
+returns c = surveying_all c.loop-i.invariant (omega (arith, c.loop-i-test.false))

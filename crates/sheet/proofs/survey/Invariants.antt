@@ -1,11 +1,6 @@
 -- `sheet::survey` meets its contract: the loop has the rows and the totals of the channels before i. Assumes nothing.
-use Prim.Native.Nat.{◌-◌}
-use lib.ListN.{length}
 use Rattle.sheet.proofs.ReportLaws.{Surveying}
 use Rattle.sheet.proofs.survey.Given as goal
 
 abbrev pub invariant-loop-i : goal.invariant-loop-i
-invariant-loop-i l = Surveying l.c l.ticks l.values l.lengths l.rows l.total l.at l.i
-
-abbrev pub decreases-loop-i : goal.decreases-loop-i
-decreases-loop-i l = length l.lengths - l.i
+invariant-loop-i l = Surveying l.c l.ticks l.values l.lengths l.rows l.totals l.at l.i

@@ -8,14 +8,11 @@ use Rattle.shortest.proofs.follow.Goals as goal
 pub loop-i-init : goal.loop-i-init
 loop-i-init c = filling_none _ _ c.args.out.now refl c.requires.1
 
-pub overflow_cast-i : goal.overflow_cast-i
-overflow_cast-i c = omega (arith, c.type_inv.next c.loop-i.i)
-
 pub loop-i-smaller : goal.loop-i-smaller
-loop-i-smaller c = omega (arith, c.requires.0.onward _ c.loop-i-test.true)
+loop-i-smaller c = omega (arith, c.requires.0.onward _ c.loop-i-test.true, c.from-i.ensures)
 
 pub loop-i-preserved : goal.loop-i-preserved
-loop-i-preserved c = filling_more c.loop-i.invariant c.requires.0.onward c.loop-i-test.true refl
+loop-i-preserved c = rw c.from-i.ensures (filling_more c.loop-i.invariant c.requires.0.onward c.loop-i-test.true refl)
 
 pub shape_of-out : goal.shape_of-out
 shape_of-out c = omega (arith, length-set c.args.out.now 0 0)

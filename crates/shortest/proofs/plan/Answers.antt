@@ -1,8 +1,6 @@
 -- `shortest::plan` meets its contract: each turn fills one entry more of both tables. Assumes nothing.
-use mathlib.Core.Path.{◌≡◌, sym, ◌∙◌}
-use Prim.Native.Nat.{◌+◌, ◌-◌}
+use mathlib.Core.Path.{sym}
 use native.Mathlib.Omega.{arith}
-use lib.ListN.{length-set}
 use borrow.Author.Rules.{rules}
 use Rattle.lists.proofs.FirstLaws.{clear_none, first_none}
 use Rattle.trace.proofs.Holes.{run_bounds, links_end_is}
@@ -15,11 +13,6 @@ loop-i-init c = (
   tabling_none _ _ c.args.links.now c.args.next.now (search rules) (search rules),
   sym (first_none (omega arith) clear_none),
 )
-
-pub run_from-run-requires : goal.run_from-run-requires
-run_from-run-requires c =
-    let back : c.loop-i.i - 1 + 1 ≡ c.loop-i.i = omega (arith, c.loop-i-test.true) in
-    (c.requires.0.rising, omega (arith, c.loop-i-test.true, c.loop-i.invariant.0), rw back c.loop-i.invariant.1)
 
 pub end_of-requires : goal.end_of-requires
 end_of-requires c =
@@ -55,11 +48,3 @@ overflow_cast-next c = omega (arith, stop_inside _ _ (steps_valid _ _ _) c.loop-
 pub loop-i-preserved : goal.loop-i-preserved
 loop-i-preserved c =
     (tabling_more _ _ (steps_valid _ _ _) c.loop-i.invariant.0 c.loop-i-test.true c.next_stop-b.ensures, c.run_from-run.ensures)
-
-pub shape_of-links : goal.shape_of-links
-shape_of-links c = c.loop-i.invariant.0.links_length ∙ simp length-set
-
-pub returns : goal.returns
-returns c =
-    let z : c.loop-i.i ≡ 0 = omega arith in
-    rw z at c.loop-i.invariant.0.planned

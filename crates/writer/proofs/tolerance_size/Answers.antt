@@ -7,5 +7,5 @@ use Rattle.writer.proofs.tolerance_size.Goals as goal
 pub returns-then-agree : goal.returns-then-agree
 returns-then-agree c = (rw (agree_command _ (sym c.agree.ensures ∙ c.if-agree.true)), omega arith)
 
-pub returns : goal.returns
-returns c = (rw (sides_command _ (sym c.agree.ensures ∙ c.if-agree.false)), omega arith)
+pub returns-else-agree : goal.returns-else-agree
+returns-else-agree c = (rw (sides_command _ (sym c.agree.ensures ∙ c.if-agree.false)), omega arith)

@@ -26,12 +26,6 @@ fits x n place buffer {most} e is taken =
 pub most_bytes-requires : goal.most_bytes-requires
 most_bytes-requires c = list_few c.requires.0
 
-pub slice_bounds-put_record-count : goal.slice_bounds-put_record-count
-slice_bounds-put_record-count c = omega (arith, (fits c.args.held (length c.args.list.now) c.args.place c.args.buffer.now c.most_bytes.ensures c.has_room.ensures c.if-has_room.true).0)
-
-pub slice_bounds-put_record-start : goal.slice_bounds-put_record-start
-slice_bounds-put_record-start c = omega (arith, (fits c.args.held (length c.args.list.now) c.args.place c.args.buffer.now c.most_bytes.ensures c.has_room.ensures c.if-has_room.true).0)
-
 pub put_record-n-requires : goal.put_record-n-requires
 put_record-n-requires c = (c.requires.0, simp part_length (omega (arith, record_most c.requires.0 c.args.held, (fits c.args.held (length c.args.list.now) c.args.place c.args.buffer.now c.most_bytes.ensures c.has_room.ensures c.if-has_room.true).1)))
 

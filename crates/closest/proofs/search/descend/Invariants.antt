@@ -4,8 +4,8 @@ use Rattle.closest.specs.Closest.{Reached}
 use Rattle.closest.proofs.ClosestLaws.{parts}
 use Rattle.closest.proofs.search.descend.Given as goal
 
-abbrev pub invariant-loop-high : goal.invariant-loop-high
-invariant-loop-high l = Bounded (criterion l.low) × Reached l.ticks l.values l.gap l.m l.high
+abbrev pub invariant-loop-near : goal.invariant-loop-near
+invariant-loop-near l = Bounded (criterion l.near.low) × Reached l.ticks l.values l.gap l.m l.near.high
 
-abbrev pub decreases-loop-high : goal.decreases-loop-high
-decreases-loop-high l = parts l.high
+abbrev pub decreases-loop-near : goal.decreases-loop-near
+decreases-loop-near l = parts l.near.high

@@ -4,16 +4,16 @@ use borrow.Author.Tests.{leb-false}
 use Rattle.closest.proofs.ClosestLaws.{below_allowed, narrowed_none, narrowed_fit}
 use Rattle.closest.proofs.search.halve.Goals as goal
 
-pub trial-t-requires : goal.trial-t-requires
-trial-t-requires c =
+pub trial-requires : goal.trial-requires
+trial-requires c =
     let pre = c.requires in
     (pre.0, below_allowed c.middle-x.ensures pre.2.allowed (leb-false _ _ (sym c.at_most.ensures ∙ c.if-at_most.false)))
 
-pub returns-then-t : goal.returns-then-t
-returns-then-t c =
-    narrowed_fit _ c.requires.1 (leb-false _ _ (sym c.at_most.ensures ∙ c.if-at_most.false)) (c.trial-t.ensures.fit c.if-t.true)
+pub returns-in-Some : goal.returns-in-Some
+returns-in-Some c =
+    narrowed_fit _ c.requires.1 (leb-false _ _ (sym c.at_most.ensures ∙ c.if-at_most.false)) c.in-Some.ensures
 
-pub returns : goal.returns
-returns c =
+pub returns-in-None : goal.returns-in-None
+returns-in-None c =
     let pre = c.requires in
     narrowed_none (below_allowed c.middle-x.ensures pre.2.allowed (leb-false _ _ (sym c.at_most.ensures ∙ c.if-at_most.false))) pre.2

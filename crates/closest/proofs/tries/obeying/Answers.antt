@@ -3,7 +3,7 @@ use mathlib.Core.Path.{◌≡◌, refl}
 use mathlib.Core.List.{List}
 use Prim.Native.Nat.{ℕ, ◌-◌, ◌<◌}
 use native.Mathlib.Omega.{arith}
-use lib.ListN.{length, length-set}
+use lib.ListN.{length}
 use Rattle.kept.proofs.Filling.{filling_none, filling_more, filling_ends}
 use Rattle.trace.specs.Link.{links_end}
 use Rattle.closest.proofs.ClosestLaws.{obeying_stops, obeying_wrote}
@@ -26,9 +26,6 @@ loop-i-smaller c = omega (arith, stop c.args.ticks.now c.args.gap c.loop-i-test.
 
 pub loop-i-preserved : goal.loop-i-preserved
 loop-i-preserved c = filling_more c.loop-i.invariant (obeying_stops c.args.ticks.now _) c.loop-i-test.true c.links_end-i.ensures
-
-pub shape_of-out : goal.shape_of-out
-shape_of-out c = omega (arith, c.loop-i.invariant.same, length-set c.args.out.now 0 0)
 
 pub returns : goal.returns
 returns c = obeying_wrote _ _ (filling_ends c.loop-i.invariant c.args.out.now refl c.loop-i-test.false)

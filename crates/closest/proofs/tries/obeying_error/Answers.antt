@@ -1,12 +1,6 @@
 -- `closest::tries::obeying_error` meets its contract: the part of the array that is lent is the list. Assumes nothing.
-use Rattle.closest.proofs.ClosestLaws.{wrote_room, wrote_length, wrote_kept, obeying_kept, obeying_reached}
+use Rattle.closest.proofs.ClosestLaws.{wrote_kept, obeying_kept, obeying_reached}
 use Rattle.closest.proofs.tries.obeying_error.Goals as goal
-
-pub slice_bounds-list-end : goal.slice_bounds-list-end
-slice_bounds-list-end c = wrote_room c.obeying-kept.ensures
-
-pub slice_bounds-list_error-end : goal.slice_bounds-list_error-end
-slice_bounds-list_error-end c = wrote_length c.obeying-kept.ensures
 
 pub list_error-requires : goal.list_error-requires
 list_error-requires c =

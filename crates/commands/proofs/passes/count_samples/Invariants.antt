@@ -6,8 +6,8 @@ use lib.IntN.{ℤ}
 use Rattle.commands.proofs.PassLaws.{Passed}
 use Rattle.commands.proofs.passes.count_samples.Given as goal
 
-abbrev pub invariant-loop-x : goal.invariant-loop-x
-invariant-loop-x l = (w : List ℕ) × (v : List ℤ) × Passed l.bytes l.initial.c l.c w v
+abbrev pub invariant-loop-next : goal.invariant-loop-next
+invariant-loop-next l = (w : List ℕ) × (v : List ℤ) × Passed l.bytes l.initial.c l.c w v
 
-abbrev pub decreases-loop-x : goal.decreases-loop-x
-decreases-loop-x l = 4097 - l.c.count
+abbrev pub decreases-loop-next : goal.decreases-loop-next
+decreases-loop-next l = 4097 - l.c.count

@@ -1,5 +1,5 @@
 -- `engine::least::least` meets its contract. Assumes nothing.
-use mathlib.Core.Path.{refl, sym, ◌∙◌}
+use mathlib.Core.Path.{sym}
 use lib.ListN.{length}
 use Rattle.allowance.proofs.RowLaws.{least_task}
 use Rattle.engine.proofs.LeastLaws.{least_kept}
@@ -8,11 +8,7 @@ use Rattle.engine.proofs.least.least.Goals as goal
 pub least-requires : goal.least-requires
 least-requires c =
     let a = c.args in
-    least_task a.ticks.now a.values.now a.gap a.m (length a.out.now) (sym c.check-checked.ensures ∙ c.in-Fine.is)
+    least_task a.ticks.now a.values.now a.gap a.m (length a.out.now) (sym c.in_ok-check.ensures)
 
-pub returns-in-Fine : goal.returns-in-Fine
-returns-in-Fine c =
-    least_kept (sym c.check-checked.ensures ∙ c.in-Fine.is) c.least.ensures.error c.least.ensures.allowed c.least.ensures.list
-
-pub returns-in-Refused : goal.returns-in-Refused
-returns-in-Refused c = (sym c.check-checked.ensures ∙ c.in-Refused.is, refl)
+pub returns : goal.returns
+returns c = least_kept (sym c.in_ok-check.ensures) c.least.ensures.error c.least.ensures.allowed c.least.ensures.list

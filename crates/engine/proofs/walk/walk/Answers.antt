@@ -1,15 +1,11 @@
 -- `engine::walk::walk` meets its contract. Assumes nothing.
-use mathlib.Core.Path.{refl}
 use Rattle.engine.proofs.ReduceLaws.{walk_kept}
 use Rattle.engine.proofs.walk.walk.Goals as goal
 
 pub walk-requires : goal.walk-requires
 walk-requires c =
-    let r = c.in-At.ensures in
+    let r = c.in_ok-c.ensures in
     (r.ready.trace, r.ready.bounded, r.room_is)
 
-pub returns-in-At : goal.returns-in-At
-returns-in-At c = walk_kept c.in-At.ensures c.walk.ensures
-
-pub returns-in-Refused : goal.returns-in-Refused
-returns-in-Refused c = (c.in-Refused.ensures, refl)
+pub returns : goal.returns
+returns c = walk_kept c.in_ok-c.ensures c.walk.ensures

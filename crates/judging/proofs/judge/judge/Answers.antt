@@ -1,25 +1,17 @@
 -- `judging::judge::judge` meets its contract. Assumes nothing.
-use mathlib.Core.Path.{ap, ◌∙◌}
-use Rattle.trace.specs.declared.Criterion.{Criterion}
-use Rattle.judging.specs.Judge.{judged_at}
-use Rattle.judging.proofs.JudgeLaws.{common_fine, judge_refused, judge_outcome}
+use Rattle.std.proofs.Common.{sym}
+use Rattle.proposed.proofs.ProposedLaws.{row_kept}
+use Rattle.judging.specs.Judge.{judge_rows, judge_of}
+use Rattle.judging.proofs.JudgeLaws.{judge_outcome}
 use Rattle.judging.proofs.judge.judge.Goals as goal
 
-pub judge_at-requires : goal.judge_at-requires
-judge_at-requires c =
-    let r = c.in-At.ensures in
-    (r.trace, r.bounded)
+pub verdict-requires : goal.verdict-requires
+verdict-requires c =
+    let r = c.in_ok-c.ensures in
+    (r.trace, r.bounded, (row_kept r.trace.some _).0 (sym c.in_ok-check.ensures))
 
-pub returns-in-At : goal.returns-in-At
-returns-in-At c =
-    let r = c.in-At.ensures in
-    let a = c.args in
-    judge_outcome a.ticks.now a.values.now a.list.now a.t
-    (c.judge_at.ensures ∙ ap (λ (x : Criterion). judged_at a.ticks.now a.values.now a.list.now x) r.is ∙ common_fine a.ticks.now a.values.now a.list.now a.t r.rows)
-
-pub returns-in-Refused : goal.returns-in-Refused
-returns-in-Refused c =
-    let a = c.args in
-    judge_outcome a.ticks.now a.values.now a.list.now a.t
-    (judge_refused a.ticks.now a.values.now a.list.now a.t
-    c.in-Refused.ensures)
+pub returns : goal.returns
+unfolding judge_of judge_rows
+returns c =
+    let r = c.in_ok-c.ensures in
+    judge_outcome _ _ _ _ (rw (c.verdict.ensures, r.is, r.rows, sym c.in_ok-check.ensures))

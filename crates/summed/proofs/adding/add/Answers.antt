@@ -3,33 +3,21 @@ use mathlib.Core.Path.{sym, ◌∙◌}
 use native.Mathlib.Omega.{arith}
 use borrow.Author.Rules.{rules}
 use lib.IntN.{pos}
-use Rattle.lists.proofs.PartLaws.{writing_none, writing_more, writing_all}
+use Rattle.lists.proofs.PartLaws.{writing_more, writing_all}
 use Rattle.trace.specs.Trace.{value}
 use Rattle.summed.proofs.AddLaws.{short_fits, short_is}
 use Rattle.summed.proofs.SumLaws.{sums_length, sums_value}
 use Rattle.summed.proofs.adding.add.Goals as goal
 
-pub loop-k-init : goal.loop-k-init
-loop-k-init c = writing_none _ _
-
-pub bounds-values2-k : goal.bounds-values2-k
-bounds-values2-k c = omega (arith, c.loop-k-test.true, c.requires.same)
-
 pub overflow_add-sums : goal.overflow_add-sums
 overflow_add-sums c =
     short_fits {v = value c.args.values1.now c.loop-k.k} {w = value c.args.values2.now c.loop-k.k} (record { sfits = search rules }) (record { sfits = search rules }) (c.requires.fits.none c.loop-k.k (omega arith) c.loop-k-test.true)
-
-pub bounds-sums-k : goal.bounds-sums-k
-bounds-sums-k c = omega (arith, c.loop-k-test.true, c.loop-k.invariant.same, c.requires.entries)
 
 pub loop-k-preserved : goal.loop-k-preserved
 loop-k-preserved c =
     let n = sums_length c.args.values1.now c.args.values2.now c.requires.same in
     writing_more c.loop-k.invariant (pos 0) (omega (arith, n, c.loop-k-test.true)) (omega (arith, n, c.requires.entries))
     (short_is {v = value c.args.values1.now c.loop-k.k} {w = value c.args.values2.now c.loop-k.k} (record { sfits = search rules }) (record { sfits = search rules }) (c.requires.fits.none c.loop-k.k (omega arith) c.loop-k-test.true) ∙ sym (sums_value c.args.values1.now c.args.values2.now c.requires.same c.loop-k.k))
-
-pub shape_of-sums : goal.shape_of-sums
-shape_of-sums c = c.loop-k.invariant.same
 
 pub returns : goal.returns
 returns c = writing_all c.loop-k.invariant (omega (arith, c.loop-k-test.false, sums_length c.args.values1.now c.args.values2.now c.requires.same))

@@ -1,12 +1,7 @@
 -- `summed::adding::add` meets its contract: the first k sums are written. Assumes nothing.
-use Prim.Native.Nat.{◌-◌}
-use lib.ListN.{length}
 use Rattle.lists.proofs.PartLaws.{Writing}
 use Rattle.summed.specs.Sum.{sums_of}
 use Rattle.summed.proofs.adding.add.Given as goal
 
 abbrev pub invariant-loop-k : goal.invariant-loop-k
 invariant-loop-k l = Writing (sums_of l.values1 l.values2) l.initial.sums l.sums l.k
-
-abbrev pub decreases-loop-k : goal.decreases-loop-k
-decreases-loop-k l = length l.values1 - l.k

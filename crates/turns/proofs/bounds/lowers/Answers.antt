@@ -3,23 +3,12 @@ use Prim.Native.Nat.{◌*◌}
 use native.Mathlib.Omega.{arith}
 use mir.Syntax.{w64}
 use mir.ValLaws.{to_z_pos, to_z-of_z}
-use Rattle.trace.proofs.EdgeLaws.{tilt_slope}
 use Rattle.turns.proofs.SampleLaws.{product_bound, lowers_is}
 use Rattle.turns.proofs.bounds.lowers.Goals as goal
-
-pub overflow_mul-result : goal.overflow_mul-result
-overflow_mul-result c = omega (arith, product_bound c.requires.0 c.requires.1)
-
-pub overflow_cast-result : goal.overflow_cast-result
-overflow_cast-result c = record { sfits = omega (arith, product_bound c.requires.0 c.requires.1) }
-
-pub margin-requires : goal.margin-requires
-margin-requires c = (c.requires.0, tilt_slope c.requires.1)
 
 pub returns : goal.returns
 returns c =
     let a = c.args in
-    let pre = c.requires in
     let x = c.margin in
-    rw (to_z_pos w64 (a.p * a.high.run) (omega (arith, product_bound pre.0 pre.1)), to_z-of_z w64 x.result (record { sfits = x.type_inv }), x.ensures)
+    rw (to_z_pos w64 (a.p * a.high.run) (omega (arith, product_bound c.requires.0 c.requires.1)), to_z-of_z w64 x.result (record { sfits = x.type_inv }), x.ensures)
     (lowers_is a.high a.to a.p)

@@ -1,62 +1,42 @@
--- `writer::commands::put_number` meets its contract. The loop's invariant: the low bytes are written, as w, and the j bytes above them are those of m.
--- Assumes nothing.
-use Prim.Native.Nat.{ℕ, suc, ◌-◌, ◌/◌, ◌%◌, ◌≤◌, ◌<◌}
-use mathlib.Core.Path.{◌≡◌, refl, sym, ap, ◌∙◌, subst}
-use mathlib.Core.List.{List, [], ◌∷◌, ◌++◌, append_assoc}
-use native.Mathlib.Omega.{arith}
-use lib.ListN.{length, take, drop, set, get_or, length-append, length-drop, take-append-drop}
-use lib.Seq.{length-take-le, take-suc, set_at}
-use Rattle.lists.specs.Overwrite.{overwrite}
+-- `writer::commands::put_number` meets its contract: the last k of the eight bytes of n are its k bytes. Assumes nothing.
+use Rattle.std.proofs.Common.{◌≡◌, refl, sym, ap, ◌∙◌, subst, ℕ, zero, suc, ◌+◌, ◌-◌, ◌/◌, ◌%◌, ◌^◌, ◌≤◌, List, [], ◌∷◌, ◌++◌, append-nil, length, take, drop, take_all, arith}
+use Rattle.std.proofs.Math.Nat.{div-div-eq-div-mul, zero-add, suc-add, pow-succ'}
+use Rattle.std.specs.Int.{byte_at, bytes_high_first}
 use Rattle.format.specs.Number.{bytes_onto}
-use Rattle.writer.proofs.commands.put_number.Invariants.{Going}
+use Rattle.format.proofs.NumberLaws.{bytes_length}
 use Rattle.writer.proofs.commands.put_number.Goals as goal
 
-begins : (o : List ℕ) (k n : ℕ) → k ≤ length o → Going o k n o n k []
-begins o k n h = record { within = omega arith; bytes = refl; part_is = sym (take-append-drop k o); w_long = omega arith }
+-- byte k + 1 of n is byte k of n / 256
+byte_above : (k n : ℕ) → byte_at k (n / 256) ≡ byte_at (suc k) n
+byte_above zero n = refl
+byte_above (suc k) n = rw (div-div-eq-div-mul n 256 (256 ^ suc k)) (ap (λ (m : ℕ). n / m % 256) (sym (pow-succ' 256 (suc k))))
 
-module _ (o : List ℕ) (k n : ℕ) (part : List ℕ) (m j : ℕ) (w : List ℕ) (g : Going o k n part m j w) where
-  long : k ≤ length o → length part ≡ length o
-  long h =
-      ap length g.part_is
-      ∙ simp (length-append, length-drop) (omega (arith, length-take-le j o (omega (arith, g.within)), g.w_long, g.within))
+one_more : (k n : ℕ) (xs : List ℕ) → bytes_high_first k (n / 256) ++ (n % 256 ∷ xs) ≡ bytes_high_first (suc k) n ++ xs
+one_more zero n xs = refl
+one_more (suc k) n xs = rw (byte_above k n, one_more k n xs)
 
-  ends : j ≤ 0 → part ≡ overwrite (bytes_onto k n []) o
-  unfolding bytes_onto
-  ends h =
-      let z : j ≡ 0 = omega arith in
-      let e : bytes_onto k n [] ≡ w = g.bytes ∙ ap (λ (i : ℕ). bytes_onto i m w) z in
-      let l : length w ≡ k = omega (arith, g.w_long) in
-      rw (e, l) (g.part_is ∙ ap (λ (i : ℕ). take i o ++ (w ++ drop k o)) z)
-
--- one byte more, at a number of bytes left that is not 0
-stores : (o : List ℕ) (k n : ℕ) (part : List ℕ) (m i : ℕ) (w : List ℕ) → Going o k n part m (suc i) w → k ≤ length o → Going o k n (set part i (m % 256)) (m / 256) i (m % 256 ∷ w)
+high_first : (k n : ℕ) (xs : List ℕ) → bytes_onto k n xs ≡ bytes_high_first k n ++ xs
 unfolding bytes_onto
-stores o k n part m i w g h =
-    let lt : i < length o = omega (arith, g.within) in
-    let e : part ≡ take i o ++ (get_or o i 0 ∷ (w ++ drop k o)) = g.part_is ∙ rw (take-suc o i 0 lt, append_assoc) in
-    record {
-      within = omega (arith, g.within);
-      bytes = g.bytes;
-      part_is = rw e (set_at (take i o) (get_or o i 0) (w ++ drop k o) (m % 256) i (length-take-le i o (omega arith)));
-      w_long = omega (arith, g.w_long);
-    }
+high_first zero n xs = refl
+high_first (suc k) n xs = high_first k (n / 256) (n % 256 ∷ xs) ∙ one_more k n xs
 
-goes_on : (o : List ℕ) (k n : ℕ) (part : List ℕ) (m j : ℕ) (w : List ℕ) → Going o k n part m j w → k ≤ length o → 0 < j → Going o k n (set part (j - 1) (m % 256)) (m / 256) (j - 1) (m % 256 ∷ w)
-goes_on o k n part m j w g h pos =
-    let e : j ≡ suc (j - 1) = omega arith in
-    stores o k n part m (j - 1) w (subst (λ (i : ℕ). Going o k n part m i w) e g) h
+last : (j k n : ℕ) → drop j (bytes_high_first (j + k) n) ≡ bytes_high_first k n
+last zero k n = rw zero-add
+last (suc j) k n = rw suc-add (last j k n)
 
-pub loop-j-init : goal.loop-j-init
-loop-j-init c = ([], begins _ _ _ c.requires)
-
-pub bounds-part-j : goal.bounds-part-j
-bounds-part-j c = omega (arith, long _ _ _ _ _ _ _ c.loop-j.invariant.1 c.requires, c.loop-j.invariant.1.within)
-
-pub loop-j-preserved : goal.loop-j-preserved
-loop-j-preserved c = (_, goes_on _ _ _ _ _ _ _ c.loop-j.invariant.1 c.requires c.loop-j-test.true)
-
-pub shape_of-part : goal.shape_of-part
-shape_of-part c = long _ _ _ _ _ _ _ c.loop-j.invariant.1 c.requires
+-- the last k of eight
+last_of : (k n : ℕ) → k ≤ 8 → take (8 - (8 - k)) (drop (8 - k) (bytes_high_first 8 n)) ≡ bytes_onto k n []
+last_of k n h =
+    let e : 8 - k + k ≡ 8 = omega arith in
+    let f : 8 - (8 - k) ≡ k = omega arith in
+    let l = subst (λ (m : ℕ). drop (8 - k) (bytes_high_first m n) ≡ bytes_high_first k n) e (last (8 - k) k n) in
+    let w = rw append-nil at (high_first k n []) in
+    rw (f, l, w) (take_all k (bytes_high_first k n) (omega (arith, ap length w, bytes_length k n [])))
 
 pub returns : goal.returns
-returns c = ends _ _ _ _ _ _ _ c.loop-j.invariant.1 c.loop-j-test.false
+returns c =
+    let k = c.args.k in
+    let n = c.args.n in
+    let b = rw (c.to_be_bytes.ensures, last_of k n c.requires.1) at c.copy_from_slice.ensures.after in
+    let l : length (bytes_onto k n []) ≡ k = bytes_length k n [] ∙ omega arith in
+    rw (b, l)

@@ -4,7 +4,7 @@ use mathlib.Core.Path.{◌≡◌, refl, sym, ap, ◌∙◌}
 use mathlib.Core.List.{List, [], ◌∷◌}
 use Prim.Native.Nat.{ℕ, ◌+◌, ◌-◌, ◌≤◌}
 use native.Mathlib.Omega.{arith}
-use lib.ListN.{length, take, drop, set, length-set}
+use lib.ListN.{length, take, drop, set}
 use borrow.Rule.Slice.PartMut.{put_mid}
 use Rattle.lists.specs.Overwrite.{overwrite}
 use Rattle.lists.proofs.OverwriteLaws.{overwrite_length}
@@ -42,31 +42,6 @@ module _ (o : List ℕ) (kind i a j b : ℕ) (room : 1 + i + j ≤ length o) whe
       two_length : length (put_mid (1 + i) (length one - (1 + i)) one zs) ≡ length o
       two_length = ap length two_is ∙ overwrite_length (kind ∷ bytes_onto i a (bytes_onto j b [])) o (omega (arith, bytes_length i a (bytes_onto j b []), bytes_length j b []))
 
-pub slice_bounds-put_number-count : goal.slice_bounds-put_number-count
-slice_bounds-put_number-count c = simp length-set (omega arith)
-
-pub slice_bounds-put_number-start : goal.slice_bounds-put_number-start
-slice_bounds-put_number-start c = simp length-set (omega arith)
-
-pub put_number-requires : goal.put_number-requires
-put_number-requires c = let a = c.args in rw (part_length (set a.part.now 0 a.kind) 1, length-set) (omega arith)
-
-pub slice_bounds-put_number-count-2 : goal.slice_bounds-put_number-count-2
-slice_bounds-put_number-count-2 c =
-    rw (one_length c.args.part.now c.args.kind c.args.i c.args.a c.args.j c.args.b c.requires.0 c.put_number.new.part c.put_number.ensures) (omega arith)
-
-pub slice_bounds-put_number-start-2 : goal.slice_bounds-put_number-start-2
-slice_bounds-put_number-start-2 c =
-    rw (one_length c.args.part.now c.args.kind c.args.i c.args.a c.args.j c.args.b c.requires.0 c.put_number.new.part c.put_number.ensures) (omega arith)
-
-pub put_number-requires-2 : goal.put_number-requires-2
-put_number-requires-2 c =
-    second_room c.args.part.now c.args.kind c.args.i c.args.a c.args.j c.args.b c.requires.0 c.put_number.new.part c.put_number.ensures
-
-pub shape_of-part : goal.shape_of-part
-shape_of-part c =
-    two_length c.args.part.now c.args.kind c.args.i c.args.a c.args.j c.args.b c.requires.0 c.put_number.new.part c.put_number.ensures c.put_number-2.new.part c.put_number-2.ensures
-
 pub returns : goal.returns
 returns c =
-    two_is c.args.part.now c.args.kind c.args.i c.args.a c.args.j c.args.b c.requires.0 c.put_number.new.part c.put_number.ensures c.put_number-2.new.part c.put_number-2.ensures
+    rw (← c.from.ensures) (two_is c.args.part.now c.from.result c.args.i c.args.a c.args.j c.args.b c.requires.0 c.put_number.new.part c.put_number.ensures c.put_number-2.new.part c.put_number-2.ensures)

@@ -18,6 +18,6 @@ returns-then-agree c =
 pub put_sides-requires : goal.put_sides-requires
 put_sides-requires c = rw (sides_command _ (sym c.agree.ensures ∙ c.if-agree.false)) at c.requires
 
-pub returns : goal.returns
-returns c =
+pub returns-else-agree : goal.returns-else-agree
+returns-else-agree c =
     (rw (sides_command _ (sym c.agree.ensures ∙ c.if-agree.false)) c.put_sides.ensures, rw (sides_command _ (sym c.agree.ensures ∙ c.if-agree.false)))

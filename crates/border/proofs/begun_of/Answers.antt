@@ -1,5 +1,0 @@
--- `border::begun_of` meets its contract. Assumes nothing.
-use Rattle.border.proofs.begun_of.Goals as goal
-
-pub returns : goal.returns
-returns c = rw c.checked_of-answer.ensures
