@@ -1,8 +1,5 @@
 // The calls `hold`, `check_trace` and `check_crate`, which the engine makes public: what is asked of a tolerance, a trace and a crate.
 #![tactic(auto)]
 
-use refusal::Refusal;
-use tolerance::Parts;
-
 pub mod checks;
 pub mod hold;

@@ -1,10 +1,10 @@
 // The public call `measure`: where a link strays (document 02, "Where the line strays").
 ghost use Rattle.judging.specs.Measure.{MeasureOutcome};
 
-// The error of the link i to j, the first sample where it occurs, and its side.
 use measures::Measure;
 use refusal::Refusal;
 
+// The error of the link i to j, the first sample where it occurs, and its side.
 pub fn measure(ticks: &[u32], values: &[i16], i: usize, j: usize) -> Result<Measure, Refusal>
     ensures { MeasureOutcome ticks.now values.now i j result }
 {

@@ -10,7 +10,7 @@ use border::{
 };
 use live::View;
 use pedestals::Run;
-use sheet::{Sheet, Summary};
+use sheet::Summary;
 
 // Writes a row for each channel into the first entries of `out`.
 #[unsafe(no_mangle)]

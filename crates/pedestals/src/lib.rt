@@ -8,7 +8,6 @@ ghost use Rattle.pedestals.specs.declared.Cause.TheVariants.{Call};
 mod checks;
 
 use listing::Counts;
-use ratio::Ratio;
 use refusal::Refusal;
 use tolerance::Tolerance;
 

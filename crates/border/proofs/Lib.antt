@@ -1,0 +1,2 @@
+-- Examples of what C gets.
+pub mod Examples
