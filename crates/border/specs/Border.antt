@@ -1,4 +1,4 @@
--- What the structs of the C interface stand for: the enums of the public calls.
+-- What the structs of the C interface stand for: the types of the public calls.
 --   tolerance_of, limits_of the tolerance that a form gives; with the gap limit
 --   entry_of, tolerances_of one of several tolerances; all of them
 --   side_number   the number of a side

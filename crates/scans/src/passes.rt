@@ -9,19 +9,18 @@ use trace::Criterion;
 use turns::samples::{far_apart, sample_at};
 use turns::{Step, Walk};
 
-const NONE: Ratio = Ratio { p: 0, q: 0 };
+const NONE: Criterion = Criterion {
+    up: Ratio { p: 0, q: 0 },
+    down: Ratio { p: 0, q: 0 },
+    gap: 0,
+};
 
-// Walk at each tolerance before the second sample, which writes into a part of the output that is as long as the trace.
-fn begin(parts: &[Parts], gap: u32, n: usize) -> [Walk; 16]
+// Starts walk at each tolerance, before the second sample: it writes into a part of the output that is as long as the trace. The walks are lent,
+// since walks that are returned take their room on the stack twice.
+fn begin(walks: &mut [Walk; 16], parts: &[Parts], gap: u32, n: usize)
     requires { (length parts.now ≤ 16) × (n ≤ 4096) }
-    ensures { Begun parts.now gap n result }
+    ensures { Begun parts.now gap n walks.new }
 {
-    let none = Criterion {
-        up: NONE,
-        down: NONE,
-        gap,
-    };
-    let mut walks = [Walk::start(none, 0); 16];
     for (a, x) in parts.iter().enumerate() {
         let c = Criterion {
             up: x.up,
@@ -30,7 +29,6 @@ fn begin(parts: &[Parts], gap: u32, n: usize) -> [Walk; 16]
         };
         walks[a] = Walk::start(c, a * n);
     }
-    walks
 }
 
 // Takes the next sample in at every tolerance.
@@ -64,7 +62,8 @@ pub fn scan(ticks: &[u32], values: &[i16], parts: &[Parts], gap: u32, out: &mut 
     ensures { Scanned ticks.now values.now parts.now gap out.old result.counts out.new }
 {
     let n = ticks.len();
-    let mut all = begin(parts, gap, n);
+    let mut all = [Walk::start(NONE, 0); 16];
+    begin(&mut all, parts, gap, n);
     let walks = &mut all[..parts.len()];
     let mut before = sample_at(ticks, values, 0);
     let mut hole = true;

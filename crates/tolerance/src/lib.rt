@@ -106,12 +106,18 @@ fn of_ratio(p: u64, q: u64) -> Option<Parts>
     Some(alike(r))
 }
 
+// Both parts are tested before one is reduced, so that a part that is not allowed is refused without a division.
+#[tactic(auto, using(crate::proofs::Meanings::allowed_pos))]
 fn of_parts(x: Parts) -> Option<Parts>
     ensures { result ≡ meaning (Tolerance.Parts x) }
 {
-    let up = reduced(x.up)?;
-    let down = reduced(x.down)?;
-    Some(Parts { up, down })
+    if is_allowed(x.up) && is_allowed(x.down) {
+        let up = ratio::reduce(x.up.p, x.up.q);
+        let down = ratio::reduce(x.down.p, x.down.q);
+        Some(Parts { up, down })
+    } else {
+        None
+    }
 }
 
 // The tolerance as parts in lowest terms.

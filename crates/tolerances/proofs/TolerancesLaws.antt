@@ -13,7 +13,7 @@ use lib.Seq.{get_or-set_same, get_or-set_other}
 use borrow.Author.Count.{below_more}
 use borrow.Author.Tests.{le-leb, lt-leb, leb-true}
 use Rattle.lists.proofs.Tests.{and_second}
-use Rattle.lists.proofs.FirstLaws.{Searching, searching_none, searching_more, searched_at, searched_none}
+use Rattle.lists.proofs.FirstLaws.{Searching, searching_more, searched_at, searched_none}
 use Rattle.refusal.specs.declared.Refusal.TheVariants.{Tolerance as NotAllowedAt, Count}
 use Rattle.refusal.specs.Table.{room_row}
 use Rattle.refusal.proofs.TableLaws.{row_fine}
@@ -61,10 +61,10 @@ module _ {t : Tolerances} {k : ℕ} {l : List Parts} (g : HoldingTo t k l) where
     };
   }
 
-  pub holding_all : t.count ≤ k → k ≤ t.count → Holds t (Ok l)
+  pub holding_all : t.count ≤ k → k ≤ t.count → Holds t (Ok tt) l
   holding_all le ge = (rw (← searched_none g.searching le, le-leb t.count k le), record { size = g.each.size; held = λ a lt. g.each.held a (omega arith) })
 
-  pub holding_bad : k < t.count → meaning (tolerance_at t k) ≡ None → Holds t (Err (NotAllowedAt k))
+  pub holding_bad : k < t.count → meaning (tolerance_at t k) ≡ None → Holds t (Err (NotAllowedAt k)) l
   holding_bad lt e = rw (← searched_at g.searching lt (not_allowed_bad t k e), lt-leb t.count k lt)
 
 -- ---- all rows
@@ -73,7 +73,7 @@ module _ (ts : List ℕ) (vs : List ℤ) (t : Tolerances) (g room : ℕ) (trace 
   pub short : length ts ≤ 4096
   short = (rows_trace 4096 ts vs (omega arith) trace).0.few
 
-  pub scan_ready : {l : List Parts} → count_row t.count ≡ Ok tt → Holds t (Ok l) → gap_row g ≡ Ok tt → room_row (t.count * length ts) room ≡ Ok tt → ScanReady ts vs t g room l
+  pub scan_ready : {l : List Parts} → count_row t.count ≡ Ok tt → Holds t (Ok tt) l → gap_row g ≡ Ok tt → room_row (t.count * length ts) room ≡ Ok tt → ScanReady ts vs t g room l
   unfolding scan_rows several_rows
   scan_ready c h e r = record {
     rows = rw (trace, c, h.0, e, r);

@@ -65,9 +65,9 @@ pub record Each (t : Tolerances) (k : ℕ) (l : List Parts) : Type 0 where
 abbrev pub each_row : Tolerances → Checked
 each_row t = placed NotAllowedAt t.count (first (bad_at t) 0 t.count)
 
-abbrev pub Holds : Tolerances → Result (List Parts) Refusal → Type 0
-Holds t (Ok l) = (each_row t ≡ Ok tt) × Each t t.count l
-Holds t (Err x) = each_row t ≡ Err x
+abbrev pub Holds : Tolerances → Checked → List Parts → Type 0
+Holds t (Ok _) l = (each_row t ≡ Ok tt) × Each t t.count l
+Holds t (Err x) l = each_row t ≡ Err x
 
 pub record Several (t : Tolerances) (g n room : ℕ) (l : List Parts) : Type 0 where
   pub few : t.count ≤ 16

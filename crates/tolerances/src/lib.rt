@@ -37,17 +37,17 @@ fn check_count(m: usize) -> Result<(), Refusal>
     Ok(())
 }
 
-// Check 4 of each tolerance: the parts in lowest terms under which they are held, in the same entries.
-fn hold_each(t: Tolerances) -> Result<[Parts; 16], Refusal>
+// Check 4 of each tolerance: the parts in lowest terms under which they are held go into the same entries. The entries are lent, since a list
+// that is returned takes its room on the stack twice.
+fn hold_each(t: Tolerances, parts: &mut [Parts; 16]) -> Result<(), Refusal>
     requires { t.count ≤ 16 }
-    ensures { Holds t result }
+    ensures { Holds t result parts.new }
 {
-    let mut parts = [NONE; 16];
     for k in 0..t.count {
         let x = meaning_of(t.list[k].tolerance).ok_or(Refusal::Tolerance(k))?;
         parts[k] = x;
     }
-    Ok(parts)
+    Ok(())
 }
 
 // Checks 1, 2, 3, 19, 4, 15 and 10, where each tolerance needs as many entries of an output of `room` as the trace has samples: the parts of
@@ -64,7 +64,8 @@ pub fn prepare(
 {
     trace::limits::check(ticks, values, 4096)?;
     check_count(t.count)?;
-    let parts = hold_each(t)?;
+    let mut parts = [NONE; 16];
+    hold_each(t, &mut parts)?;
     check_gap(gap)?;
     check_room(t.count * ticks.len(), room)?;
     Ok(parts)

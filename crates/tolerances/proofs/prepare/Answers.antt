@@ -12,4 +12,4 @@ overflow_mul-t c =
 pub returns : goal.returns
 returns c =
     let a = c.args in
-    scan_ready a.ticks.now a.values.now a.t a.gap a.room (sym c.in_ok-check.ensures) (sym c.in_ok-check_count.ensures) c.in_ok-parts.ensures (sym c.in_ok-check_gap.ensures) (sym c.in_ok-check_room.ensures)
+    scan_ready a.ticks.now a.values.now a.t a.gap a.room (sym c.in_ok-check.ensures) (sym c.in_ok-check_count.ensures) c.in_ok-hold_each.ensures (sym c.in_ok-check_gap.ensures) (sym c.in_ok-check_room.ensures)

@@ -4,7 +4,7 @@ use Rattle.scans.proofs.PassLaws.{scan_first, scan_order, scan_insides, sampling
 use Rattle.scans.proofs.passes.scan.Goals as goal
 
 pub loop-at-init : goal.loop-at-init
-loop-at-init c = scan_first c.requires c.begin-all.ensures c.sample_at-before.ensures
+loop-at-init c = scan_first c.requires c.begin.ensures c.sample_at-before.ensures
 
 pub far_apart-far-requires : goal.far_apart-far-requires
 far_apart-far-requires c = scan_order c.loop-at.invariant c.loop-at-test.true c.sample_at-here.ensures
