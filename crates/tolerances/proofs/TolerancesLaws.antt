@@ -65,7 +65,9 @@ module _ {t : Tolerances} {k : ℕ} {l : List Parts} (g : HoldingTo t k l) where
   holding_all le ge = (rw (← searched_none g.searching le, le-leb t.count k le), record { size = g.each.size; held = λ a lt. g.each.held a (omega arith) })
 
   pub holding_bad : k < t.count → meaning (tolerance_at t k) ≡ None → Holds t (Err (NotAllowedAt k)) l
-  holding_bad lt e = rw (← searched_at g.searching lt (not_allowed_bad t k e), lt-leb t.count k lt)
+  holding_bad lt e =
+      let f = searched_at g.searching lt (not_allowed_bad t k e) in
+      (rw (← f, lt-leb t.count k lt), rw (← f) g.each)
 
 -- ---- all rows
 

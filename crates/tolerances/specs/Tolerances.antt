@@ -7,7 +7,7 @@
 --   scan_rows                  the first of the rows 1, 2, 3, 19, 4, 15, 10 that applies
 --   parts_at                   the parts of tolerance a in a list
 --   Each                       the parts under which the tolerances before k are held
---   each_row, Holds            row 4; what check 4 gives: the parts of each tolerance, or the row
+--   each_row, Holds            row 4; what check 4 gives: the parts of each tolerance, or the row and the parts of those before the first bad one
 --   Several                    what the checks 19, 4, 15, 10 give: the parts of each tolerance and room
 --   ScanReady, ScanPrepared    what all checks give: a trace too, or the row
 -- Laws are in TolerancesLaws. Assumes nothing.
@@ -67,7 +67,7 @@ each_row t = placed NotAllowedAt t.count (first (bad_at t) 0 t.count)
 
 abbrev pub Holds : Tolerances → Checked → List Parts → Type 0
 Holds t (Ok _) l = (each_row t ≡ Ok tt) × Each t t.count l
-Holds t (Err x) l = each_row t ≡ Err x
+Holds t (Err x) l = (each_row t ≡ Err x) × Each t (first (bad_at t) 0 t.count) l
 
 pub record Several (t : Tolerances) (g n room : ℕ) (l : List Parts) : Type 0 where
   pub few : t.count ≤ 16
